@@ -1,0 +1,73 @@
+// Block address to M:S:F and back, exact both ways; refusal 8 outside the ranges of rule 6.
+ghost use mathlib.Core.Path.{_≡_};
+ghost use Rattle.ground.specs.Number.{Byte};
+ghost use Rattle.address.specs.Address.{toMsf, toBlock, frames, msfMeaning, blockMeaning};
+
+// The refusal of an address that no M:S:F has, or of an M:S:F that no block has.
+pub const REFUSED: u8 = 8;
+
+// The greatest block address.
+pub const LAST: u32 = 449849;
+
+// Frames before block 0, which stands at 00:02:00.
+const LEAD: u32 = 150;
+
+// A block's M:S:F, or refusal 8.
+pub enum Msf {
+    At { minute: u8, second: u8, frame: u8 },
+    Refused,
+}
+
+// An M:S:F's block, or refusal 8.
+pub enum Block {
+    At(u32),
+    Refused,
+}
+
+// The M:S:F of a block address.
+pub fn to_msf(address: u32) -> Msf
+    ensures { λ r. ⌜ msfMeaning r ≡ toMsf address ⌝ }
+{
+    if LAST < address {
+        return Msf::Refused;
+    }
+    let frames = address + LEAD;
+    Msf::At {
+        minute: (frames / 75 / 60 % 256) as u8,
+        second: (frames / 75 % 60) as u8,
+        frame: (frames % 75) as u8,
+    }
+}
+
+// The block address of an M:S:F.
+pub fn to_block(minute: u8, second: u8, frame: u8) -> Block
+    ensures { λ r. ⌜ blockMeaning r ≡ toBlock minute second frame ⌝ }
+{
+    if 99 < minute {
+        return Block::Refused;
+    }
+    if 59 < second {
+        return Block::Refused;
+    }
+    if 74 < frame {
+        return Block::Refused;
+    }
+    let frames = frames_of(minute, second, frame);
+    if frames < LEAD {
+        return Block::Refused;
+    }
+    Block::At(frames - LEAD)
+}
+
+// Frames from 00:00:00 on.
+fn frames_of(minute: u8, second: u8, frame: u8) -> u32
+    ensures { λ r. ⌜ r ≡ frames minute second frame ⌝ }
+{
+    (wide(minute) * 60 + wide(second)) * 75 + wide(frame)
+}
+
+fn wide(b: u8) -> u32
+    ensures { λ r. ⌜ Byte b r ⌝ }
+{
+    b as u32
+}

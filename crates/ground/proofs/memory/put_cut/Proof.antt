@@ -1,0 +1,52 @@
+-- `ground::memory::put_cut` meets its contract: bytes that fit the room are laid whole, and longer ones by their first part.
+use mathlib.Core.Path.{sym}
+use denote.Ref.{now}
+use lib.Seq.{length-take-le, take-all}
+use borrow.Author.Needs.{needs}
+use Rattle.ground.proofs.memory.put_cut.Statement.{statement}
+use Rattle.ground.proofs.memory.put_cut.Tie as tie
+use Rattle.ground.proofs.memory.put_cut.Reads as reads
+use Rattle.ground.proofs.memory.put_cut.Lts as lts
+use Rattle.ground.proofs.memory.copy_front.Reads as copy-front-reads
+
+-- src/memory.rt:26:27
+slice-aggregate-copy-front : tie.Need-slice-aggregate-copy-front
+slice-aggregate-copy-front c = sym (length-take-le _ _ (search needs))
+
+-- src/memory.rt:26:9
+copy-front-requires : tie.Need-copy-front-requires
+copy-front-requires c κs = search needs
+
+-- src/memory.rt:26:9
+same-length : tie.Need-same-length
+same-length c = search needs
+
+-- src/memory.rt:26:9
+returns : tie.Need-returns
+returns c = search needs
+
+-- src/memory.rt:28:5
+copy-front-requires-2 : tie.Need-copy-front-requires-2
+copy-front-requires-2 c κs = search needs
+
+-- src/memory.rt:22:1
+same-length-2 : tie.Need-same-length-2
+same-length-2 c = search needs
+
+-- src/memory.rt:22:1
+returns-2 : tie.Need-returns-2
+returns-2 c =
+    let a = c .before .before .before .before .before .before .before .args in
+    rw (take-all (a .room) (now (a .src)) (search needs)) (c .before .before .copy-front2 .ensures)
+
+pub put-cut-spec : {M : Type 1} → statement M
+put-cut-spec =
+    tie.close
+    (tie.spec
+    slice-aggregate-copy-front
+    copy-front-requires
+    same-length
+    returns
+    copy-front-requires-2
+    same-length-2
+    returns-2)

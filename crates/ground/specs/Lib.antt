@@ -1,0 +1,3 @@
+pub mod Tests
+pub mod Number
+pub mod Memory

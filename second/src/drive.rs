@@ -1,0 +1,110 @@
+//! "Drive state and what moves it": power-on, button, laying and lifting.
+
+use crate::refusal::Refusal;
+use crate::sense::{self, Sense};
+
+#[derive(Clone, Copy, Debug, PartialEq, Eq)]
+pub struct State {
+    pub tray_open: bool,
+    pub disc_in: bool,
+    pub lock: bool,
+    pub power: bool,
+    pub change: bool,
+    pub sense: Sense,
+}
+
+impl State {
+    pub const ZERO: State = State {
+        tray_open: false,
+        disc_in: false,
+        lock: false,
+        power: false,
+        change: false,
+        sense: sense::NONE,
+    };
+
+    /// Tray closed, disc in, nothing pending.
+    pub const READY: State = State {
+        disc_in: true,
+        ..State::ZERO
+    };
+
+    /// "Loaded means tray closed with a disc in."
+    pub fn loaded(self) -> bool {
+        self.disc_in && !self.tray_open
+    }
+
+    /// "keeps the handed state's tray and disc and is never refused: lock off,
+    /// sense 00/00/00, power attention pending, change attention not."
+    pub fn power_on(self) -> State {
+        State {
+            tray_open: self.tray_open,
+            disc_in: self.disc_in,
+            power: true,
+            ..State::ZERO
+        }
+    }
+
+    /// "an open tray closes; a closed one opens, unless locked (5). The lock
+    /// never stops closing."
+    pub fn button(self) -> Result<State, Refusal> {
+        self.held_sense_known()?;
+        if self.tray_open {
+            return Ok(self.closed());
+        }
+        if self.lock {
+            return Err(Refusal::Locked);
+        }
+        Ok(self.opened())
+    }
+
+    /// "Laying a disc needs an open tray without one (6)".
+    pub fn lay(self) -> Result<State, Refusal> {
+        self.held_sense_known()?;
+        if !self.tray_open || self.disc_in {
+            return Err(Refusal::CannotLay);
+        }
+        Ok(State {
+            disc_in: true,
+            ..self
+        })
+    }
+
+    /// "lifting needs an open tray with one (7)".
+    pub fn lift(self) -> Result<State, Refusal> {
+        self.held_sense_known()?;
+        if !self.tray_open || !self.disc_in {
+            return Err(Refusal::CannotLift);
+        }
+        Ok(State {
+            disc_in: false,
+            ..self
+        })
+    }
+
+    pub fn opened(self) -> State {
+        State {
+            tray_open: true,
+            ..self
+        }
+    }
+
+    /// Closes an open tray. "Loading is any closing of the tray, by button or
+    /// packet, with a disc in: the change attention becomes pending."
+    pub fn closed(self) -> State {
+        State {
+            tray_open: false,
+            change: self.change || self.disc_in,
+            ..self
+        }
+    }
+
+    /// "Button, laying and lifting test 2 before 5 to 7."
+    fn held_sense_known(self) -> Result<(), Refusal> {
+        if self.sense.is_known() {
+            Ok(())
+        } else {
+            Err(Refusal::UnknownSense)
+        }
+    }
+}

@@ -1,0 +1,20 @@
+//! An independent second program for the packet target of the build
+//! definition (called "01" in the comments). It shares no code with the
+//! target: the two meet through files only.
+
+pub mod address;
+pub mod adler;
+pub mod answers;
+pub mod cases;
+pub mod drive;
+pub mod examples;
+pub mod limits;
+pub mod listing;
+pub mod packet;
+pub mod refusal;
+pub mod replay;
+pub mod rng;
+pub mod sense;
+pub mod stored;
+pub mod table;
+pub mod toc;

@@ -1,0 +1,26 @@
+//! The numbers of 01 that more than one place leans on, each named once.
+
+/// Rule 1 "it is 4 to 4,360 bytes long", refusal 3 "response memory is under
+/// 4,360 bytes", refusal 9 "a full answer would pass 4,360 bytes".
+pub const BOUND: usize = 4_360;
+
+/// Table header: "2 bytes data length, first session, last session S".
+pub const HEADER: usize = 4;
+
+/// "then 11-byte descriptors".
+pub const ROW: usize = 11;
+
+/// Descriptors that fit under the bound.
+pub const ROWS_MAX: usize = (BOUND - HEADER) / ROW;
+
+/// Refusal 1: "packet is not 12 bytes".
+pub const PACKET: usize = 12;
+
+/// "0 to 449,849".
+pub const TOP_ADDRESS: u32 = 449_849;
+
+/// "a file of 12-byte packets (at most 49,152 bytes)".
+pub const LISTING_PACKETS: usize = 49_152;
+
+/// Replay: "Bodies are at most 8,191 bytes", and so is a response memory.
+pub const REPLAY_BODY: usize = 8_191;

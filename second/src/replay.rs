@@ -1,0 +1,188 @@
+//! The `replay` stream: records of kind (1 byte), length (2 bytes) and body
+//! in, one line for each call out.
+
+use std::fmt::Write;
+
+use crate::address::{self, Msf};
+use crate::adler::adler32;
+use crate::drive::State;
+use crate::limits::REPLAY_BODY;
+use crate::packet;
+use crate::refusal::{number_of, Refusal};
+use crate::sense::Sense;
+use crate::table;
+
+pub const STATE: u8 = 0;
+pub const TABLE: u8 = 1;
+pub const MEMORY: u8 = 2;
+pub const POWER_ON: u8 = 3;
+pub const BUTTON: u8 = 4;
+pub const LAY: u8 = 5;
+pub const LIFT: u8 = 6;
+pub const PACKET: u8 = 7;
+pub const TO_MSF: u8 = 8;
+pub const TO_ADDRESS: u8 = 9;
+pub const PART: u8 = 10;
+
+/// Anything that ends the run with the line `bad record`.
+struct BadRecord;
+
+/// "At the start: state all zero, no table, no memory."
+struct Bench {
+    state: State,
+    table: Vec<u8>,
+    memory: Vec<u8>,
+    lines: String,
+}
+
+/// Everything that must be printed for this stream.
+pub fn run(input: &[u8]) -> String {
+    let mut bench = Bench {
+        state: State::ZERO,
+        table: Vec::new(),
+        memory: Vec::new(),
+        lines: String::new(),
+    };
+    let mut rest = input;
+    while !rest.is_empty() {
+        match take_record(rest).and_then(|(kind, body, after)| {
+            bench.record(kind, body)?;
+            Ok(after)
+        }) {
+            Ok(after) => rest = after,
+            Err(BadRecord) => {
+                bench.lines.push_str("bad record\n");
+                break;
+            }
+        }
+    }
+    bench.lines
+}
+
+/// "A longer or cut record" is bad.
+fn take_record(bytes: &[u8]) -> Result<(u8, &[u8], &[u8]), BadRecord> {
+    let [kind, high, low, rest @ ..] = bytes else {
+        return Err(BadRecord);
+    };
+    let length = usize::from(u16::from_be_bytes([*high, *low]));
+    if length > REPLAY_BODY || length > rest.len() {
+        return Err(BadRecord);
+    }
+    let (body, after) = rest.split_at(length);
+    Ok((*kind, body, after))
+}
+
+fn flag(byte: u8) -> Result<bool, BadRecord> {
+    match byte {
+        0 => Ok(false),
+        1 => Ok(true),
+        _ => Err(BadRecord),
+    }
+}
+
+/// Five digits and three hex bytes: `01010 06 29 00`.
+pub fn state_text(state: State) -> String {
+    let digits = [
+        state.tray_open,
+        state.disc_in,
+        state.lock,
+        state.power,
+        state.change,
+    ]
+    .map(|on| if on { '1' } else { '0' });
+    let digits: String = digits.iter().collect();
+    format!("{digits} {}", state.sense.text())
+}
+
+/// Capital hex, two digits a byte, "-" where no bytes.
+pub fn hex(bytes: &[u8]) -> String {
+    if bytes.is_empty() {
+        return "-".to_string();
+    }
+    let mut text = String::with_capacity(bytes.len() * 2);
+    for byte in bytes {
+        write!(text, "{byte:02X}").expect("a String takes it");
+    }
+    text
+}
+
+impl Bench {
+    fn record(&mut self, kind: u8, body: &[u8]) -> Result<(), BadRecord> {
+        match (kind, body) {
+            (STATE, &[tray, disc, lock, power, change, key, asc, ascq]) => {
+                self.state = State {
+                    tray_open: flag(tray)?,
+                    disc_in: flag(disc)?,
+                    lock: flag(lock)?,
+                    power: flag(power)?,
+                    change: flag(change)?,
+                    sense: Sense::new(key, asc, ascq),
+                };
+            }
+            (TABLE, table) => self.table = table.to_vec(),
+            (MEMORY, &[high, low, fill]) => {
+                let length = usize::from(u16::from_be_bytes([high, low]));
+                if length > REPLAY_BODY {
+                    return Err(BadRecord);
+                }
+                self.memory = vec![fill; length];
+            }
+            (POWER_ON, []) => {
+                self.moved('o', Ok(self.state.power_on()));
+            }
+            (BUTTON, []) => self.moved('b', self.state.button()),
+            (LAY, []) => self.moved('d', self.state.lay()),
+            (LIFT, []) => self.moved('u', self.state.lift()),
+            (PACKET, packet) => self.packet(packet),
+            (TO_MSF, &[a, b, c, d]) => {
+                let result = address::to_msf(u32::from_be_bytes([a, b, c, d]));
+                // "zeros" where refused
+                let Msf { m, s, f } = result.unwrap_or(Msf::new(0, 0, 0));
+                let number = number_of(&result);
+                self.line(format!("a {number} {m} {s} {f}"));
+            }
+            (TO_ADDRESS, &[m, s, f]) => {
+                let result = Msf::new(m, s, f).address();
+                let number = number_of(&result);
+                self.line(format!("c {number} {}", result.unwrap_or(0)));
+            }
+            (PART, &[session]) => {
+                let result = table::session_part(&self.table, session);
+                let number = number_of(&result);
+                let part = result.unwrap_or(&[]);
+                let line = format!("s {number} {} {:08X}", part.len(), adler32(part));
+                self.line(line);
+            }
+            _ => return Err(BadRecord),
+        }
+        Ok(())
+    }
+
+    fn line(&mut self, text: String) {
+        self.lines.push_str(&text);
+        self.lines.push('\n');
+    }
+
+    /// A tray call or power-on: "state as handed in" where refused.
+    fn moved(&mut self, letter: char, result: Result<State, Refusal>) {
+        let number = number_of(&result);
+        self.state = result.unwrap_or(self.state);
+        self.line(format!("{letter} {number} {}", state_text(self.state)));
+    }
+
+    fn packet(&mut self, packet: &[u8]) {
+        let reply = packet::perform(self.state, &self.table, packet, &mut self.memory);
+        self.state = reply.next;
+        self.line(format!(
+            "p {} {:02X} {} {} {} {} {} {:08X}",
+            reply.refusal.map_or(0, Refusal::number),
+            reply.status,
+            reply.length,
+            reply.start,
+            reply.count,
+            state_text(reply.next),
+            hex(&self.memory[..reply.length]),
+            adler32(&self.memory),
+        ));
+    }
+}

@@ -1,0 +1,48 @@
+//! "The ten sense triples (key/ASC/ASCQ)".
+
+#[derive(Clone, Copy, Debug, PartialEq, Eq)]
+pub struct Sense {
+    pub key: u8,
+    pub asc: u8,
+    pub ascq: u8,
+}
+
+impl Sense {
+    pub const fn new(key: u8, asc: u8, ascq: u8) -> Sense {
+        Sense { key, asc, ascq }
+    }
+
+    /// Refusal 2 asks whether the held sense is one of the ten.
+    pub fn is_known(self) -> bool {
+        TEN.contains(&self)
+    }
+
+    /// Three hex bytes, as both printed forms want them.
+    pub fn text(self) -> String {
+        format!("{:02X} {:02X} {:02X}", self.key, self.asc, self.ascq)
+    }
+}
+
+pub const NONE: Sense = Sense::new(0x00, 0x00, 0x00);
+pub const NO_MEDIUM: Sense = Sense::new(0x02, 0x3A, 0x01);
+pub const TRAY_OPEN: Sense = Sense::new(0x02, 0x3A, 0x02);
+pub const UNKNOWN_CODE: Sense = Sense::new(0x05, 0x20, 0x00);
+pub const OUT_OF_RANGE: Sense = Sense::new(0x05, 0x21, 0x00);
+pub const BAD_FIELD: Sense = Sense::new(0x05, 0x24, 0x00);
+pub const PREVENTED: Sense = Sense::new(0x05, 0x53, 0x02);
+pub const WRONG_MODE: Sense = Sense::new(0x05, 0x64, 0x00);
+pub const CHANGED: Sense = Sense::new(0x06, 0x28, 0x00);
+pub const POWERED_ON: Sense = Sense::new(0x06, 0x29, 0x00);
+
+pub const TEN: [Sense; 10] = [
+    NONE,
+    NO_MEDIUM,
+    TRAY_OPEN,
+    UNKNOWN_CODE,
+    OUT_OF_RANGE,
+    BAD_FIELD,
+    PREVENTED,
+    WRONG_MODE,
+    CHANGED,
+    POWERED_ON,
+];
