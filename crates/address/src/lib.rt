@@ -33,7 +33,7 @@ pub fn to_msf(address: u32) -> Msf
     }
     let frames = address + LEAD;
     Msf::At {
-        minute: (frames / 75 / 60 % 256) as u8,
+        minute: (frames / 75 / 60) as u8,
         second: (frames / 75 % 60) as u8,
         frame: (frames % 75) as u8,
     }

@@ -1,3 +1,9 @@
+-- `address::to_block` meets its contract: each test that fails puts the M:S:F outside rule 6, and with none it is in the range.
+use mathlib.Core.Path.{sym, ap, _∙_}
+use Prim.Native.Nat.{ℕ, _-_}
+use native.Mathlib.Omega.{arith}
+use Rattle.address.specs.Address.{blockAt}
+use Rattle.address.specs.Laws.{InRange, toBlock-at, toBlock-refused}
 use borrow.Author.Needs.{needs}
 use Rattle.address.proofs.to_block.Statement.{statement}
 use Rattle.address.proofs.to_block.Tie as tie
@@ -7,15 +13,15 @@ use Rattle.address.proofs.frames_of.Reads as frames-of-reads
 
 -- src/lib.rt:47:9
 returns : tie.Need-returns
-returns c = ?
+returns c = sym (toBlock-refused _ _ _ (λ r. omega arith))
 
 -- src/lib.rt:50:9
 returns-2 : tie.Need-returns-2
-returns-2 c = ?
+returns-2 c = sym (toBlock-refused _ _ _ (λ r. omega arith))
 
 -- src/lib.rt:53:9
 returns-3 : tie.Need-returns-3
-returns-3 c = ?
+returns-3 c = sym (toBlock-refused _ _ _ (λ r. omega arith))
 
 -- src/lib.rt:55:9
 frames-of-requires : tie.Need-frames-of-requires
@@ -23,11 +29,15 @@ frames-of-requires c κs = search needs
 
 -- src/lib.rt:57:9
 returns-4 : tie.Need-returns-4
-returns-4 c = ?
+returns-4 c = sym (toBlock-refused _ _ _ (λ r. let e = c .before .frames-of .ensures in omega arith))
 
 -- src/lib.rt:43:1
 returns-5 : tie.Need-returns-5
-returns-5 c = ?
+returns-5 c =
+    let e = c .before .frames-of .ensures in
+    let a = c .before .before .before .before .before .args in
+    let r : InRange (a .minute) (a .second) (a .frame) = record { minute = search needs; second = search needs; frame = search needs; lead = omega arith } in
+    ap (λ (n : ℕ). blockAt (n - 150)) e ∙ sym (toBlock-at r)
 
 pub to-block-spec : {M : Type 1} → statement M
 to-block-spec =

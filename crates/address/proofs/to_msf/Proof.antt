@@ -1,3 +1,6 @@
+-- `address::to_msf` meets its contract: the one test picks the law, in the range or over it.
+use mathlib.Core.Path.{sym}
+use Rattle.address.specs.Laws.{toMsf-at, toMsf-refused}
 use borrow.Author.Needs.{needs}
 use Rattle.address.proofs.to_msf.Statement.{statement}
 use Rattle.address.proofs.to_msf.Tie as tie
@@ -6,27 +9,27 @@ use Rattle.address.proofs.to_msf.Lts as lts
 
 -- src/lib.rt:32:9
 returns : tie.Need-returns
-returns c = ?
+returns c = sym (toMsf-refused _ (c .if1 .taken))
 
 -- src/lib.rt:34:18
 add-frames : tie.Need-add-frames
 add-frames c = search needs
 
 -- src/lib.rt:36:17
-cast-t7 : tie.Need-cast-t7
-cast-t7 c = search needs
+cast-t6 : tie.Need-cast-t6
+cast-t6 c = search needs
 
 -- src/lib.rt:37:17
-cast-t10 : tie.Need-cast-t10
-cast-t10 c = search needs
+cast-t9 : tie.Need-cast-t9
+cast-t9 c = search needs
 
 -- src/lib.rt:38:16
-cast-t12 : tie.Need-cast-t12
-cast-t12 c = search needs
+cast-t11 : tie.Need-cast-t11
+cast-t11 c = search needs
 
 -- src/lib.rt:28:1
 returns-2 : tie.Need-returns-2
-returns-2 c = ?
+returns-2 c = sym (toMsf-at _ (c .if1 .left))
 
 pub to-msf-spec : {M : Type 1} → statement M
-to-msf-spec = tie.close (tie.spec returns add-frames cast-t7 cast-t10 cast-t12 returns-2)
+to-msf-spec = tie.close (tie.spec returns add-frames cast-t6 cast-t9 cast-t11 returns-2)

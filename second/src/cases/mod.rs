@@ -1,0 +1,15 @@
+//! Cases made from a seed, and lists picked by hand.
+
+pub mod bad;
+pub mod breaks;
+pub mod fits;
+pub mod listing;
+pub mod packets;
+pub mod picked;
+pub mod picked_fields;
+pub mod picked_state;
+pub mod picked_tables;
+pub mod random;
+pub mod sheet;
+pub mod spoil;
+pub mod stream;

@@ -1,0 +1,186 @@
+//! Random tables that break a rule, or nearly do.
+
+use crate::cases::breaks::OUTSIDE;
+use crate::cases::sheet::{fullest, Sheet};
+use crate::limits::{BOUND, ROWS_MAX};
+use crate::rng::Rng;
+
+/// Breaks the rule in one of many ways; a few ways leave the table fit.
+pub fn spoil(rng: &mut Rng, sheet: &Sheet, rule: usize) -> Vec<u8> {
+    let mut sheet = sheet.clone();
+    match rule {
+        1 => return rule_1(rng, &sheet),
+        2 => match rng.below(3) {
+            0 => sheet.first = rng.pick(&[0, 2, 3, 99, 128, 255]),
+            1 => sheet.last = rng.pick(&[0, 100, 127, 128, 255]),
+            _ => sheet.last = sheet.last.wrapping_add(rng.pick(&[1, 255, 128])),
+        },
+        3 => {
+            let row = rng.below(sheet.rows.len());
+            match rng.below(3) {
+                0 => sheet.rows[row][1] ^= rng.range(1, 15) as u8 * 16,
+                1 => sheet.rows[row][2] = rng.pick(&[1, 2, 0x80, 0xFF]),
+                _ => sheet.rows[row][7] = rng.pick(&[1, 2, 0x80, 0xFF]),
+            }
+        }
+        4 => rule_4(rng, &mut sheet),
+        5 => {
+            let point = rng.pick(&[0xA0, 0xA1]);
+            let rows = sheet.points(point);
+            let row = rng.pick(&rows);
+            if rng.one_in(3) {
+                sheet.rows[row][10] = rng.pick(&[1, 75, 0x80, 0xFF]);
+            } else {
+                let seconds = [0, 1, 2, 0x0F, 0x10, 0x11, 0x20, 0x21, 0x30, 0x40, 0x90, 0xFF];
+                sheet.rows[row][9] = rng.pick(&seconds);
+            }
+        }
+        6 => {
+            let rows = sheet.placed();
+            let row = rng.pick(&rows);
+            let (m, s, f) = rng.pick(&OUTSIDE);
+            match rng.below(5) {
+                0 => sheet.rows[row][9] = rng.pick(&[60, 61, 99, 128, 255]),
+                1 => sheet.rows[row][10] = rng.pick(&[75, 76, 99, 128, 255]),
+                2 => sheet.rows[row][8] = rng.pick(&[99, 100, 128, 255]),
+                _ => sheet.set_address(row, m, s, f),
+            }
+        }
+        7 => rule_7(rng, &mut sheet),
+        _ => anything(rng, &mut sheet),
+    }
+    // Now and then the data length is left behind too.
+    if rng.one_in(40) {
+        return sheet.bytes_with(rng.word() as u16);
+    }
+    sheet.bytes()
+}
+
+fn rule_1(rng: &mut Rng, sheet: &Sheet) -> Vec<u8> {
+    let whole = sheet.bytes();
+    let right = (whole.len() - 2) as u16;
+    match rng.below(10) {
+        0 => whole[..rng.below(5).min(whole.len())].to_vec(),
+        1 => whole[..whole.len() - rng.range(1, 12)].to_vec(),
+        2 => {
+            let mut longer = whole;
+            let n = rng.range(1, 12);
+            longer.extend(rng.bytes(n));
+            longer
+        }
+        3 => sheet.bytes_with(right.wrapping_add(1)),
+        4 => sheet.bytes_with(right.wrapping_sub(1)),
+        5 => sheet.bytes_with(right.wrapping_add(2)),
+        6 => sheet.bytes_with(right ^ rng.pick(&[1, 0x8000, 0x0100, 0x00FF])),
+        7 => sheet.bytes_with(right.swap_bytes()),
+        8 => {
+            // A longer or shorter table whose data length agrees.
+            let mut odd = whole;
+            let n = rng.range(1, 10);
+            odd.extend(rng.bytes(n));
+            let length = (odd.len() - 2) as u16;
+            odd[..2].copy_from_slice(&length.to_be_bytes());
+            odd
+        }
+        _ => over_the_bound(rng),
+    }
+}
+
+/// 4,361 bytes, 397 descriptors, and so on: costly, so it comes seldom.
+fn over_the_bound(rng: &mut Rng) -> Vec<u8> {
+    let mut full = fullest();
+    if rng.one_in(2) {
+        full.rows.resize(ROWS_MAX + 1, [0x11; 11]);
+        return full.bytes();
+    }
+    let mut bytes = full.bytes();
+    bytes.push(rng.byte());
+    if rng.one_in(2) {
+        let length = (BOUND - 1) as u16;
+        bytes[..2].copy_from_slice(&length.to_be_bytes());
+    }
+    bytes
+}
+
+fn rule_4(rng: &mut Rng, sheet: &mut Sheet) {
+    let count = sheet.rows.len();
+    let row = rng.below(count);
+    match rng.below(12) {
+        0 => sheet.rows[row][0] = sheet.rows[row][0].wrapping_add(1),
+        1 => sheet.rows[row][0] = sheet.rows[row][0].wrapping_sub(1),
+        2 => {
+            sheet.rows.remove(row);
+        }
+        3 => sheet.rows.insert(row, sheet.rows[row]),
+        4 => {
+            let other = rng.below(count);
+            sheet.rows.swap(row, other);
+        }
+        5 => {
+            let points = [0, 1, 2, 99, 100, 0xA0, 0xA1, 0xA2, 0xA3, 0xAA, 0xB0, 0xC0, 0xFF];
+            sheet.rows[row][3] = rng.pick(&points);
+        }
+        6 => sheet.last = sheet.last.wrapping_add(rng.pick(&[1, 255])),
+        7 => {
+            let mut more = sheet.rows[count - 1];
+            more[3] = rng.pick(&[more[3] + 1, 0xB0, 0xC0, 0xA0]);
+            sheet.rows.push(more);
+        }
+        8 => {
+            // The numbers of all tracks moved without f and l.
+            let by = rng.pick(&[1u8, 2, 255]);
+            for one in sheet.rows.iter_mut().filter(|one| one[3] < 100) {
+                one[3] = one[3].wrapping_add(by);
+            }
+        }
+        9 => {
+            // All numbers moved together: fit unless an end is passed.
+            let by = rng.pick(&[1u8, 3, 255, 50]);
+            for one in sheet.rows.iter_mut() {
+                let at = match one[3] {
+                    0xA0 | 0xA1 => 8,
+                    0xA2 => continue,
+                    _ => 3,
+                };
+                one[at] = one[at].wrapping_add(by);
+            }
+        }
+        _ => {
+            let rows = sheet.points(rng.pick(&[0xA0, 0xA1]));
+            let row = rng.pick(&rows);
+            let now = sheet.rows[row][8];
+            sheet.rows[row][8] =
+                rng.pick(&[0, 1, 99, 100, 255, now.wrapping_add(1), now.wrapping_sub(1)]);
+        }
+    }
+}
+
+fn rule_7(rng: &mut Rng, sheet: &mut Sheet) {
+    let rows = sheet.placed();
+    let one = rng.pick(&rows);
+    let other = rng.pick(&rows);
+    let address = |row: &[u8; 11]| {
+        (i64::from(row[8]) * 60 + i64::from(row[9])) * 75 + i64::from(row[10]) - 150
+    };
+    let there = address(&sheet.rows[other]);
+    let by = rng.pick(&[0, 0, 1, -1]);
+    let block = (there + by).clamp(0, 449_849) as u32;
+    if rng.one_in(4) {
+        let (a, b) = (sheet.rows[one], sheet.rows[other]);
+        sheet.rows[one][8..].copy_from_slice(&b[8..]);
+        sheet.rows[other][8..].copy_from_slice(&a[8..]);
+    } else {
+        sheet.set_block(one, block);
+    }
+}
+
+/// Any byte or bit of the table, named by a rule or not.
+fn anything(rng: &mut Rng, sheet: &mut Sheet) {
+    let row = rng.below(sheet.rows.len());
+    let at = rng.below(11);
+    match rng.below(3) {
+        0 => sheet.rows[row][at] ^= 1 << rng.below(8),
+        1 => sheet.rows[row][at] = rng.byte(),
+        _ => sheet.rows[row] = rng.bytes(11).try_into().expect("11 bytes"),
+    }
+}

@@ -1,0 +1,87 @@
+//! Writes replay records and counts the calls among them.
+
+use crate::drive::State;
+use crate::replay;
+
+#[derive(Default)]
+pub struct Stream {
+    pub bytes: Vec<u8>,
+    pub calls: usize,
+}
+
+impl Stream {
+    pub fn new() -> Stream {
+        Stream::default()
+    }
+
+    pub fn record(&mut self, kind: u8, body: &[u8]) {
+        let length = u16::try_from(body.len()).expect("bodies are short");
+        self.bytes.push(kind);
+        self.bytes.extend(length.to_be_bytes());
+        self.bytes.extend(body);
+        if kind >= replay::POWER_ON {
+            self.calls += 1;
+        }
+    }
+
+    pub fn state(&mut self, state: State) {
+        let body = [
+            u8::from(state.tray_open),
+            u8::from(state.disc_in),
+            u8::from(state.lock),
+            u8::from(state.power),
+            u8::from(state.change),
+            state.sense.key,
+            state.sense.asc,
+            state.sense.ascq,
+        ];
+        self.record(replay::STATE, &body);
+    }
+
+    pub fn table(&mut self, table: &[u8]) {
+        self.record(replay::TABLE, table);
+    }
+
+    pub fn memory(&mut self, length: u16, fill: u8) {
+        let [high, low] = length.to_be_bytes();
+        self.record(replay::MEMORY, &[high, low, fill]);
+    }
+
+    pub fn power_on(&mut self) {
+        self.record(replay::POWER_ON, &[]);
+    }
+
+    pub fn button(&mut self) {
+        self.record(replay::BUTTON, &[]);
+    }
+
+    pub fn lay(&mut self) {
+        self.record(replay::LAY, &[]);
+    }
+
+    pub fn lift(&mut self) {
+        self.record(replay::LIFT, &[]);
+    }
+
+    pub fn packet(&mut self, packet: &[u8]) {
+        self.record(replay::PACKET, packet);
+    }
+
+    /// A packet met by a state set just before it.
+    pub fn packet_from(&mut self, state: State, packet: &[u8]) {
+        self.state(state);
+        self.packet(packet);
+    }
+
+    pub fn to_msf(&mut self, address: u32) {
+        self.record(replay::TO_MSF, &address.to_be_bytes());
+    }
+
+    pub fn to_address(&mut self, m: u8, s: u8, f: u8) {
+        self.record(replay::TO_ADDRESS, &[m, s, f]);
+    }
+
+    pub fn part(&mut self, session: u8) {
+        self.record(replay::PART, &[session]);
+    }
+}
