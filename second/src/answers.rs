@@ -31,7 +31,9 @@ pub enum Command {
 }
 
 fn long(bytes: &[u8]) -> u32 {
-    bytes.iter().fold(0, |sum, &byte| sum << 8 | u32::from(byte))
+    bytes
+        .iter()
+        .fold(0, |sum, &byte| sum << 8 | u32::from(byte))
 }
 
 impl Command {

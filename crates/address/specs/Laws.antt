@@ -35,7 +35,7 @@ isMsf-range m s f h =
       minute = leb-true m 99 (and-head _ _ h);
       second = leb-true s 59 (and-head _ _ t);
       frame = leb-true f 74 (and-head _ _ u);
-      lead = leb-true 150 (frames m s f) (and-tail _ _ u)
+      lead = leb-true 150 (frames m s f) (and-tail _ _ u);
     }
 
 -- outside the range in any one part
@@ -107,7 +107,12 @@ toBlock-rises {m} {s} {f} {n} {t} {g} p q e =
 -- a lower address has the earlier M:S:F
 pub toMsf-rises : (a b : ℕ) → a < b → b ≤ last → Earlier (minuteOf a) (secondOf a) (frameOf a) (minuteOf b) (secondOf b) (frameOf b)
 toMsf-rises a b h k = elim (decLe (minuteOf b) (minuteOf a)) [
-    yes p ↦ (let u : minuteOf a ≡ minuteOf b = omega arith in inr (u, elim (decLe (secondOf b) (secondOf a)) [
-        yes q ↦ (let v : secondOf a ≡ secondOf b = omega arith in inr (v, omega arith))
-      | no q ↦ inl (lt-of-not-le q) ]))
-  | no p ↦ inl (lt-of-not-le p) ]
+  | yes p ↦ (let u : minuteOf a ≡ minuteOf b = omega arith in inr (
+    u,
+    elim (decLe (secondOf b) (secondOf a)) [
+      | yes q ↦ (let v : secondOf a ≡ secondOf b = omega arith in inr (v, omega arith))
+      | no q ↦ inl (lt-of-not-le q)
+    ],
+  ))
+  | no p ↦ inl (lt-of-not-le p)
+]

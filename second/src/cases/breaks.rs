@@ -73,7 +73,12 @@ fn rule_1(list: &mut Vec<Break>) {
     add(list, 1, "4,359 bytes", full.bytes()[..BOUND - 1].to_vec());
     let mut row_over = full.clone();
     row_over.rows.push(full.rows[395]);
-    add(list, 1, "397 descriptors, data length agrees", row_over.bytes());
+    add(
+        list,
+        1,
+        "397 descriptors, data length agrees",
+        row_over.bytes(),
+    );
     add(list, 1, "8,191 bytes", vec![1; 8_191]);
 }
 
@@ -151,7 +156,9 @@ fn rule_4(list: &mut Vec<Break>) {
         sheet.rows[9][3] = 5;
         sheet.rows[10][3] = 6;
     });
-    edit(list, 4, "sessions exchanged", |sheet| sheet.rows.rotate_left(6));
+    edit(list, 4, "sessions exchanged", |sheet| {
+        sheet.rows.rotate_left(6)
+    });
     edit(list, 4, "B0h after the tracks", |sheet| {
         let mut more = sheet.rows[10];
         more[3] = 0xB0;

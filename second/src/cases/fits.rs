@@ -47,10 +47,7 @@ pub fn fits() -> Vec<(&'static str, Sheet)> {
         "tracks 98 and 99",
         Sheet::lay_out(
             98,
-            &[
-                plan(1, &[(0, 0x10)]),
-                plan(TOP_ADDRESS, &[(2, 0x14)]),
-            ],
+            &[plan(1, &[(0, 0x10)]), plan(TOP_ADDRESS, &[(2, 0x14)])],
         ),
     ));
     list.push((

@@ -200,10 +200,16 @@ impl Marks {
                 let to = mark.wrapping_add(near).wrapping_sub(1);
                 to.wrapping_sub(address)
             }
-            8 | 9 => self.end.wrapping_sub(address).wrapping_add(near).wrapping_sub(1),
+            8 | 9 => self
+                .end
+                .wrapping_sub(address)
+                .wrapping_add(near)
+                .wrapping_sub(1),
             10 => rng.pick(&[65_535, 65_536, 0x7FFF_FFFF, 0x8000_0000, u32::MAX]),
             // A sum that would come round past 32 bits.
-            11 | 12 => 0u32.wrapping_sub(address).wrapping_add(rng.below(400) as u32),
+            11 | 12 => 0u32
+                .wrapping_sub(address)
+                .wrapping_add(rng.below(400) as u32),
             _ => rng.long() >> rng.below(32),
         }
     }

@@ -149,7 +149,13 @@ pub fn one_long_track() -> Sheet {
 /// 99 sessions of one track: 396 descriptors, 4,360 bytes.
 pub fn fullest() -> Sheet {
     let plans: Vec<Plan> = (0..99u32)
-        .map(|i| Plan::new(i * 4_000 + 2_500, 0x14, &[(i * 4_000, 0x14 - (i % 3 == 1) as u8 * 4)]))
+        .map(|i| {
+            Plan::new(
+                i * 4_000 + 2_500,
+                0x14,
+                &[(i * 4_000, 0x14 - (i % 3 == 1) as u8 * 4)],
+            )
+        })
         .collect();
     Sheet::lay_out(1, &plans)
 }
@@ -242,7 +248,11 @@ fn places(rng: &mut Rng, n: usize) -> Vec<u32> {
             (from..=top).collect()
         }
         2 | 3 => {
-            let mut at = if rng.one_in(2) { 0 } else { rng.below(200) as u32 };
+            let mut at = if rng.one_in(2) {
+                0
+            } else {
+                rng.below(200) as u32
+            };
             let step = rng.pick(&[3, 40, 2_000]);
             (0..n)
                 .map(|_| {

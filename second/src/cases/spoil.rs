@@ -31,7 +31,9 @@ pub fn spoil(rng: &mut Rng, sheet: &Sheet, rule: usize) -> Vec<u8> {
             if rng.one_in(3) {
                 sheet.rows[row][10] = rng.pick(&[1, 75, 0x80, 0xFF]);
             } else {
-                let seconds = [0, 1, 2, 0x0F, 0x10, 0x11, 0x20, 0x21, 0x30, 0x40, 0x90, 0xFF];
+                let seconds = [
+                    0, 1, 2, 0x0F, 0x10, 0x11, 0x20, 0x21, 0x30, 0x40, 0x90, 0xFF,
+                ];
                 sheet.rows[row][9] = rng.pick(&seconds);
             }
         }
@@ -117,7 +119,9 @@ fn rule_4(rng: &mut Rng, sheet: &mut Sheet) {
             sheet.rows.swap(row, other);
         }
         5 => {
-            let points = [0, 1, 2, 99, 100, 0xA0, 0xA1, 0xA2, 0xA3, 0xAA, 0xB0, 0xC0, 0xFF];
+            let points = [
+                0, 1, 2, 99, 100, 0xA0, 0xA1, 0xA2, 0xA3, 0xAA, 0xB0, 0xC0, 0xFF,
+            ];
             sheet.rows[row][3] = rng.pick(&points);
         }
         6 => sheet.last = sheet.last.wrapping_add(rng.pick(&[1, 255])),

@@ -1,0 +1,25 @@
+-- `drive::state::Drive::power_on` meets its contract: unit and mechanics are what the two calls give.
+use Rattle.drive.specs.State.{powerOn}
+use borrow.Author.Needs.{needs}
+use Rattle.drive.proofs.state.Drive.power_on.Statement.{statement}
+use Rattle.drive.proofs.state.Drive.power_on.Tie as tie
+use Rattle.drive.proofs.state.Drive.power_on.Reads as reads
+use Rattle.drive.proofs.state.Drive.power_on.Lts as lts
+use Rattle.drive.proofs.state.Mechanics.with_lock.Reads as with-lock-reads
+use Rattle.drive.proofs.state.Unit.powered_on.Reads as powered-on-reads
+
+-- src/state.rt:153:19
+powered-on-requires : tie.Need-powered-on-requires
+powered-on-requires c κs = search needs
+
+-- src/state.rt:154:24
+with-lock-requires : tie.Need-with-lock-requires
+with-lock-requires c κs = search needs
+
+-- src/state.rt:149:5
+returns : tie.Need-returns
+unfolding powerOn
+returns c = cc
+
+pub power-on-spec : {M : Type 1} → statement M
+power-on-spec = tie.close (tie.spec powered-on-requires with-lock-requires returns)

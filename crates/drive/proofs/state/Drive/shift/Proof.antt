@@ -1,0 +1,18 @@
+-- `drive::state::Drive::shift` meets its contract: the unit is what `attend` gives, the mechanics those of the tray's move.
+use borrow.Author.Needs.{needs}
+use Rattle.drive.proofs.state.Drive.shift.Statement.{statement}
+use Rattle.drive.proofs.state.Drive.shift.Tie as tie
+use Rattle.drive.proofs.state.Drive.shift.Reads as reads
+use Rattle.drive.proofs.state.Drive.shift.Lts as lts
+use Rattle.drive.proofs.state.Unit.attend.Reads as attend-reads
+
+-- src/state.rt:145:19
+attend-requires : tie.Need-attend-requires
+attend-requires c κs = search needs
+
+-- src/state.rt:140:5
+returns : tie.Need-returns
+returns c = cc
+
+pub shift-spec : {M : Type 1} → statement M
+shift-spec = tie.close (tie.spec attend-requires returns)

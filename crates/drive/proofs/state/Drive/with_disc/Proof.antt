@@ -1,0 +1,18 @@
+-- `drive::state::Drive::with_disc` meets its contract: the mechanics are what their own `with_disc` gives.
+use borrow.Author.Needs.{needs}
+use Rattle.drive.proofs.state.Drive.with_disc.Statement.{statement}
+use Rattle.drive.proofs.state.Drive.with_disc.Tie as tie
+use Rattle.drive.proofs.state.Drive.with_disc.Reads as reads
+use Rattle.drive.proofs.state.Drive.with_disc.Lts as lts
+use Rattle.drive.proofs.state.Mechanics.with_disc.Reads as with-disc-reads
+
+-- src/state.rt:210:24
+with-disc-requires : tie.Need-with-disc-requires
+with-disc-requires c κs = search needs
+
+-- src/state.rt:204:5
+returns : tie.Need-returns
+returns c = cc
+
+pub with-disc-spec : {M : Type 1} → statement M
+with-disc-spec = tie.close (tie.spec with-disc-requires returns)

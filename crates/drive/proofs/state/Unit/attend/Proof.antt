@@ -1,0 +1,21 @@
+-- `drive::state::Unit::attend` meets its contract: the one test is the definition's.
+use mathlib.Core.Path.{sym}
+use Rattle.ground.specs.Tests.{when, unless}
+use Rattle.drive.specs.Unit.{attend}
+use Rattle.drive.proofs.state.Unit.attend.Statement.{statement}
+use Rattle.drive.proofs.state.Unit.attend.Tie as tie
+use Rattle.drive.proofs.state.Unit.attend.Reads as reads
+use Rattle.drive.proofs.state.Unit.attend.Lts as lts
+
+-- src/state.rt:68:13
+returns : tie.Need-returns
+unfolding attend
+returns c = sym (when _ _ _ (c .if1 .taken))
+
+-- src/state.rt:63:5
+returns-2 : tie.Need-returns-2
+unfolding attend
+returns-2 c = sym (unless _ _ _ (c .if1 .left))
+
+pub attend-spec : {M : Type 1} → statement M
+attend-spec = tie.close (tie.spec returns returns-2)

@@ -1,0 +1,18 @@
+-- `drive::state::Unit::powered_on` meets its contract: the sense is the table's first row.
+use borrow.Author.Needs.{needs}
+use Rattle.drive.proofs.state.Unit.powered_on.Statement.{statement}
+use Rattle.drive.proofs.state.Unit.powered_on.Tie as tie
+use Rattle.drive.proofs.state.Unit.powered_on.Reads as reads
+use Rattle.drive.proofs.state.Unit.powered_on.Lts as lts
+use Rattle.drive.proofs.sense.sense_at.Reads as sense-at-reads
+
+-- src/state.rt:58:20
+sense-at-requires : tie.Need-sense-at-requires
+sense-at-requires c κs = search needs
+
+-- src/state.rt:52:5
+returns : tie.Need-returns
+returns c = cc
+
+pub powered-on-spec : {M : Type 1} → statement M
+powered-on-spec = tie.close (tie.spec sense-at-requires returns)

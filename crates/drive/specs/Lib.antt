@@ -1,0 +1,5 @@
+pub mod Sense
+pub mod SenseLaws
+pub mod Unit
+pub mod State
+pub mod StateLaws

@@ -1,0 +1,226 @@
+// The state: an attention unit beside the mechanics. Each call takes it by value and hands back the next one.
+use crate::sense::NO_SENSE;
+use crate::sense::Sense;
+use crate::sense::is_known;
+use crate::sense::sense_at;
+ghost use mathlib.Core.Path.{_≡_};
+ghost use Rattle.drive.specs.Unit.{poweredOn, attend};
+ghost use Rattle.drive.specs.State.{opening, closing, withDisc, withLock, isLoaded, shift, holding, moves, refuse, powerOn, button, lay, lift};
+
+// What is pending and what is held: this is the same for every device that stands behind the gate.
+pub struct Unit {
+    pub power: bool,
+    pub change: bool,
+    pub sense: Sense,
+}
+
+// Tray open or closed; disc in or not; lock.
+pub struct Mechanics {
+    pub tray_open: bool,
+    pub disc_in: bool,
+    pub lock: bool,
+}
+
+pub struct Drive {
+    pub unit: Unit,
+    pub mechanics: Mechanics,
+}
+
+// The mechanics after the tray moved, and whether that was a loading.
+pub struct Shifted {
+    pub mechanics: Mechanics,
+    pub loading: bool,
+}
+
+// A call's answer: the refusal's number or 0, and the next state.
+pub struct Moved {
+    pub number: u8,
+    pub state: Drive,
+}
+
+// The refusals that button, laying and lifting give.
+pub const UNKNOWN_SENSE: u8 = 2;
+
+pub const LOCKED: u8 = 5;
+
+pub const CANNOT_LAY: u8 = 6;
+
+pub const CANNOT_LIFT: u8 = 7;
+
+impl Unit {
+    // Power-on: sense 00/00/00, power attention pending, change attention not.
+    pub fn powered_on(self) -> Unit
+        ensures { λ r. ⌜ r ≡ poweredOn ⌝ }
+    {
+        Unit {
+            power: true,
+            change: false,
+            sense: sense_at(NO_SENSE),
+        }
+    }
+
+    // A loading: the change attention becomes pending.
+    pub fn attend(self, loading: bool) -> Unit
+        ensures { λ r. ⌜ r ≡ attend loading self ⌝ }
+    {
+        let sense = self.sense;
+        if loading {
+            return Unit {
+                power: self.power,
+                change: true,
+                sense,
+            };
+        }
+        self
+    }
+}
+
+impl Mechanics {
+    // The tray opens, by button or packet.
+    pub fn opening(self) -> Shifted
+        ensures { λ r. ⌜ r ≡ opening self ⌝ }
+    {
+        Shifted {
+            mechanics: Mechanics {
+                tray_open: true,
+                disc_in: self.disc_in,
+                lock: self.lock,
+            },
+            loading: false,
+        }
+    }
+
+    // The tray closes, by button or packet: with a disc in that is a loading.
+    pub fn closing(self) -> Shifted
+        ensures { λ r. ⌜ r ≡ closing self ⌝ }
+    {
+        Shifted {
+            mechanics: Mechanics {
+                tray_open: false,
+                disc_in: self.disc_in,
+                lock: self.lock,
+            },
+            loading: self.disc_in,
+        }
+    }
+
+    pub fn with_disc(self, disc_in: bool) -> Mechanics
+        ensures { λ r. ⌜ r ≡ withDisc self disc_in ⌝ }
+    {
+        Mechanics {
+            tray_open: self.tray_open,
+            disc_in,
+            lock: self.lock,
+        }
+    }
+
+    pub fn with_lock(self, lock: bool) -> Mechanics
+        ensures { λ r. ⌜ r ≡ withLock self lock ⌝ }
+    {
+        Mechanics {
+            tray_open: self.tray_open,
+            disc_in: self.disc_in,
+            lock,
+        }
+    }
+}
+
+impl Drive {
+    // Tray closed with a disc in.
+    pub fn is_loaded(self) -> bool
+        ensures { λ r. ⌜ r ≡ isLoaded (self .mechanics) ⌝ }
+    {
+        if self.mechanics.tray_open {
+            return false;
+        }
+        self.mechanics.disc_in
+    }
+
+    // The state after the tray moved.
+    pub fn shift(self, s: Shifted) -> Drive
+        ensures { λ r. ⌜ r ≡ shift self s ⌝ }
+    {
+        let mechanics = s.mechanics;
+        Drive {
+            unit: self.unit.attend(s.loading),
+            mechanics,
+        }
+    }
+
+    pub fn power_on(self) -> Drive
+        ensures { λ r. ⌜ r ≡ powerOn self ⌝ }
+    {
+        Drive {
+            unit: self.unit.powered_on(),
+            mechanics: self.mechanics.with_lock(false),
+        }
+    }
+
+    // An open tray closes; a closed one opens, unless locked.
+    pub fn button(self) -> Moved
+        ensures { λ r. ⌜ r ≡ button self ⌝ }
+    {
+        if is_known(self.unit.sense) {
+            if self.mechanics.tray_open {
+                return moves(self.shift(self.mechanics.closing()));
+            }
+            if self.mechanics.lock {
+                return refuse(LOCKED, self);
+            }
+            return moves(self.shift(self.mechanics.opening()));
+        }
+        refuse(UNKNOWN_SENSE, self)
+    }
+
+    pub fn lay(self) -> Moved
+        ensures { λ r. ⌜ r ≡ lay self ⌝ }
+    {
+        if is_known(self.unit.sense) {
+            if self.mechanics.tray_open {
+                if self.mechanics.disc_in {
+                    return refuse(CANNOT_LAY, self);
+                }
+                return moves(self.with_disc(true));
+            }
+            return refuse(CANNOT_LAY, self);
+        }
+        refuse(UNKNOWN_SENSE, self)
+    }
+
+    pub fn lift(self) -> Moved
+        ensures { λ r. ⌜ r ≡ lift self ⌝ }
+    {
+        if is_known(self.unit.sense) {
+            if self.mechanics.tray_open {
+                if self.mechanics.disc_in {
+                    return moves(self.with_disc(false));
+                }
+                return refuse(CANNOT_LIFT, self);
+            }
+            return refuse(CANNOT_LIFT, self);
+        }
+        refuse(UNKNOWN_SENSE, self)
+    }
+
+    fn with_disc(self, disc_in: bool) -> Drive
+        ensures { λ r. ⌜ r ≡ holding self disc_in ⌝ }
+    {
+        let unit = self.unit;
+        Drive {
+            unit,
+            mechanics: self.mechanics.with_disc(disc_in),
+        }
+    }
+}
+
+fn moves(state: Drive) -> Moved
+    ensures { λ r. ⌜ r ≡ moves state ⌝ }
+{
+    Moved { number: 0, state }
+}
+
+fn refuse(number: u8, state: Drive) -> Moved
+    ensures { λ r. ⌜ r ≡ refuse number state ⌝ }
+{
+    Moved { number, state }
+}

@@ -1,0 +1,103 @@
+//! The ways a stream can end, and whole random streams.
+
+use crate::cases::random;
+use crate::cases::stream::Stream;
+use crate::replay;
+use crate::rng::Rng;
+
+/// Records that end the run, each a bit of raw stream.
+pub fn bad_records() -> Vec<(&'static str, Vec<u8>)> {
+    let mut list: Vec<(&'static str, Vec<u8>)> = Vec::new();
+    for kind in [11, 12, 100, 128, 255] {
+        list.push(("unknown kind", vec![kind, 0, 0]));
+        list.push(("unknown kind with a body", vec![kind, 0, 1, 0]));
+    }
+    for kind in [0, 1, 7, 10, 11] {
+        list.push(("kind alone", vec![kind]));
+        list.push(("half a length", vec![kind, 0]));
+        list.push(("no body", vec![kind, 0, 1]));
+    }
+    list.push(("body one byte short", vec![0, 0, 8, 0, 0, 0, 0, 0, 0, 0]));
+    list.push(("table cut off", vec![1, 0, 59, 0, 57, 1, 1]));
+    list.push(("packet cut off", vec![7, 0, 12, 0]));
+    for kind in [1, 2, 7, 11] {
+        for length in [8_192u16, 8_193, 65_535] {
+            let mut long = vec![kind];
+            long.extend(length.to_be_bytes());
+            list.push(("too long, cut", long.clone()));
+            long.resize(3 + usize::from(length), 0);
+            list.push(("too long, whole", long));
+        }
+    }
+    for place in 0..5 {
+        for value in [2, 3, 128, 255] {
+            let mut state = vec![0, 0, 8, 0, 0, 0, 0, 0, 0, 0, 0];
+            state[3 + place] = value;
+            list.push(("flag", state));
+        }
+    }
+    let unsuited: [(u8, &[usize]); 9] = [
+        (replay::STATE, &[0, 1, 7, 9]),
+        (replay::MEMORY, &[0, 1, 2, 4]),
+        (replay::POWER_ON, &[1, 8]),
+        (replay::BUTTON, &[1, 8]),
+        (replay::LAY, &[1, 8]),
+        (replay::LIFT, &[1, 8]),
+        (replay::TO_MSF, &[0, 3, 5]),
+        (replay::TO_ADDRESS, &[0, 2, 4]),
+        (replay::PART, &[0, 2]),
+    ];
+    for (kind, lengths) in unsuited {
+        for &length in lengths {
+            let mut record = vec![kind, 0, length as u8];
+            record.resize(3 + length, 0);
+            list.push(("body that does not suit", record));
+        }
+    }
+    list.push(("memory of 8,192", vec![2, 0, 3, 0x20, 0x00, 0]));
+    list.push(("memory of 65,535", vec![2, 0, 3, 0xFF, 0xFF, 7]));
+    list
+}
+
+/// Ends the stream: cleanly for seed % 8 = 0, else with one bad record, and
+/// sound records behind it that must not be performed.
+pub fn end(stream: &mut Stream, rng: &mut Rng, seed: u64) {
+    let wanted: &[&str] = match seed % 8 {
+        0 => return,
+        1 => &["unknown kind", "unknown kind with a body"],
+        2 => &["too long, whole", "too long, cut"],
+        3 => &["kind alone", "half a length"],
+        4 => &[
+            "no body",
+            "body one byte short",
+            "table cut off",
+            "packet cut off",
+        ],
+        5 => &["flag"],
+        6 => &["body that does not suit"],
+        _ => &["memory of 8,192", "memory of 65,535"],
+    };
+    let list: Vec<Vec<u8>> = bad_records()
+        .into_iter()
+        .filter(|(name, _)| wanted.contains(name))
+        .map(|(_, bytes)| bytes)
+        .collect();
+    stream.bytes.extend(&list[rng.below(list.len())]);
+    // Behind a cut record anything more would be its body.
+    if !matches!(seed % 8, 3 | 4) {
+        let calls = stream.calls;
+        stream.power_on();
+        stream.packet(&[0; 12]);
+        stream.calls = calls;
+    }
+}
+
+/// A whole random stream with at least this many calls.
+pub fn random_stream(seed: u64, calls: usize) -> Stream {
+    let mut rng = Rng::new(seed);
+    let mut stream = Stream::new();
+    stream.memory(crate::cases::picked_state::MEMORY, rng.byte());
+    random::fill(&mut stream, &mut rng, calls);
+    end(&mut stream, &mut rng, seed);
+    stream
+}

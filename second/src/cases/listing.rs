@@ -1,0 +1,131 @@
+//! Pairs of a table file and a packet file for the listing program.
+
+use crate::cases::packets::{
+    any_packet, one_of_each, prevent, request_sense, start_stop, test_ready, with_junk, Marks,
+    EJECT, LOAD,
+};
+use crate::cases::sheet::{any_fit, fullest, three_sessions};
+use crate::cases::spoil::spoil;
+use crate::limits::LISTING_PACKETS;
+use crate::rng::Rng;
+use crate::table;
+
+pub struct Pair {
+    pub table: Vec<u8>,
+    pub packets: Vec<u8>,
+}
+
+/// The pair with this number; each tenth takes its turn at a special shape.
+pub fn pair(seed: u64, number: u64) -> Pair {
+    let mut rng = Rng::new(seed.wrapping_mul(0x1_0001).wrapping_add(number));
+    let rng = &mut rng;
+    let fit = any_fit(rng).bytes();
+    let table = match number % 10 {
+        4 => empty_or_short(rng),
+        5 => over_the_bound(rng),
+        6 | 7 => {
+            let sheet = any_fit(rng);
+            let rule = rng.range(1, 8);
+            spoil(rng, &sheet, rule)
+        }
+        _ => fit,
+    };
+    let marks = Marks::of(table::read(&table).ok().as_ref());
+    let n = rng.range(1, 60);
+    let packets = match number % 10 {
+        0 => Vec::new(),
+        1 => {
+            let mut packets = run_of_packets(rng, &marks, n);
+            let cut = rng.range(1, 11);
+            packets.truncate(packets.len() - cut);
+            packets
+        }
+        2 => {
+            let mut packets = run_of_packets(rng, &marks, LISTING_PACKETS / 12);
+            if rng.one_in(3) {
+                packets.truncate(LISTING_PACKETS - rng.range(1, 12));
+            }
+            packets
+        }
+        3 => {
+            let mut packets = run_of_packets(rng, &marks, LISTING_PACKETS / 12);
+            let more = rng.pick(&[1, 1, 11, 12, 13, 5_000]);
+            packets.resize(LISTING_PACKETS + more, 0);
+            packets
+        }
+        _ => {
+            let mut packets = run_of_packets(rng, &marks, n);
+            if rng.one_in(3) {
+                let more = rng.range(1, 11);
+                packets.extend(rng.bytes(more));
+            }
+            packets
+        }
+    };
+    Pair { table, packets }
+}
+
+fn empty_or_short(rng: &mut Rng) -> Vec<u8> {
+    let length = rng.pick(&[0, 0, 1, 3, 4]);
+    [0, 2, 1, 1][..length].to_vec()
+}
+
+/// Its first 4,360 bytes are a fit table: cutting at the bound would show.
+fn over_the_bound(rng: &mut Rng) -> Vec<u8> {
+    let mut table = fullest().bytes();
+    let more = rng.pick(&[1, 1, 11, 100, 6_000]);
+    table.extend(rng.bytes(more));
+    table
+}
+
+/// Packets that keep the drive loaded most of the time.
+pub fn run_of_packets(rng: &mut Rng, marks: &Marks, n: usize) -> Vec<u8> {
+    let mut packets = Vec::new();
+    for i in 0..n {
+        let packet = match rng.below(10) {
+            _ if i == 0 && rng.one_in(2) => test_ready(),
+            0 => start_stop(LOAD),
+            1 => {
+                let packet = rng.pick(&one_of_each());
+                with_junk(rng, packet)
+            }
+            2 => request_sense(18),
+            _ => any_packet(rng, marks),
+        };
+        packets.extend(packet);
+    }
+    packets
+}
+
+/// The stored pair: three sessions, data and audio, a short packet last.
+pub fn stored_pair(seed: u64) -> Pair {
+    let mut rng = Rng::new(seed);
+    let table = three_sessions().bytes();
+    let marks = Marks::of(table::read(&table).ok().as_ref());
+    let mut packets = Vec::new();
+    // Each command once before the telling has come, then again after it.
+    for packet in one_of_each().into_iter().chain(one_of_each()) {
+        packets.extend(packet);
+    }
+    for packet in [
+        start_stop(LOAD),
+        test_ready(),
+        request_sense(18),
+        test_ready(),
+        prevent(1),
+        start_stop(EJECT),
+        request_sense(18),
+        prevent(0),
+        start_stop(EJECT),
+        test_ready(),
+        request_sense(18),
+        start_stop(LOAD),
+        request_sense(18),
+        test_ready(),
+    ] {
+        packets.extend(packet);
+    }
+    packets.extend(run_of_packets(&mut rng, &marks, 700));
+    packets.extend([0x12, 0, 0, 0, 36]);
+    Pair { table, packets }
+}

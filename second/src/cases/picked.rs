@@ -1,0 +1,56 @@
+//! The lists picked by hand, one after the other.
+
+use crate::cases::stream::Stream;
+use crate::cases::{picked_fields, picked_state, picked_tables};
+
+/// Every hand-picked case, from the very start of a run.
+pub fn all(stream: &mut Stream) {
+    picked_state::from_nothing(stream);
+    conversions(stream);
+    picked_state::attentions(stream);
+    picked_state::senses(stream);
+    picked_state::refusal_order(stream);
+    picked_state::packet_lengths(stream);
+    picked_state::memories(stream);
+    picked_state::tray_traces(stream);
+    picked_fields::codes(stream);
+    picked_fields::bits(stream);
+    picked_fields::lengths(stream);
+    picked_fields::toc_numbers(stream);
+    picked_fields::toc_formats(stream);
+    picked_fields::reads(stream);
+    picked_fields::long_reads(stream);
+    picked_tables::broken(stream);
+    picked_tables::fit(stream);
+    picked_tables::parts(stream);
+}
+
+/// Kinds 8 and 9 at all boundaries.
+fn conversions(stream: &mut Stream) {
+    for m in [0, 1, 2, 59, 60, 98, 99, 100, 128, 255] {
+        for s in [0, 1, 2, 3, 58, 59, 60, 61, 255] {
+            for f in [0, 1, 73, 74, 75, 76, 255] {
+                stream.to_address(m, s, f);
+            }
+        }
+    }
+    for top in [0u32, 75, 4_350, 4_500, 65_536, 449_850, 1 << 24, 1 << 31] {
+        for by in 0..5u32 {
+            stream.to_msf(top.wrapping_add(by).wrapping_sub(2));
+        }
+    }
+    // Both sides of each full second and minute near the ends.
+    for second in (0..6u32).chain(5_993..6_000) {
+        stream.to_msf(second * 75 + 74);
+        stream.to_msf(second * 75 + 75);
+    }
+    for minute in 1..=99u32 {
+        stream.to_msf(minute * 4_500 - 151);
+        stream.to_msf(minute * 4_500 - 150);
+        stream.to_address(minute as u8, 0, 0);
+    }
+    for shift in 0..32 {
+        stream.to_msf(1 << shift);
+        stream.to_msf(u32::MAX >> shift);
+    }
+}

@@ -1,0 +1,66 @@
+//! Tables picked by hand, broken and fit, and the parts of sessions.
+
+use crate::cases::breaks::breaks;
+use crate::cases::fits::fits;
+use crate::cases::packets::{capacity, read10, request_sense, seek, start_stop, test_ready, toc};
+use crate::cases::picked_state::MEMORY;
+use crate::cases::sheet::{fullest, three_sessions};
+use crate::cases::stream::Stream;
+use crate::drive::State;
+
+/// Each break: the part is refused, a loaded packet too, an unloaded one not.
+pub fn broken(stream: &mut Stream) {
+    stream.memory(MEMORY, 0x99);
+    for (i, broken) in breaks().iter().enumerate() {
+        stream.table(&broken.table);
+        stream.part(1);
+        stream.packet_from(State::READY, &test_ready());
+        match i % 5 {
+            0 => stream.part(0),
+            1 => stream.part(255),
+            2 => stream.packet_from(State::READY.power_on(), &request_sense(18)),
+            3 => stream.packet_from(State::READY, &start_stop(2)),
+            _ => stream.packet_from(State::READY.opened(), &test_ready()),
+        }
+    }
+}
+
+/// Each fit table: parts, capacity, its ends, and the three formats.
+pub fn fit(stream: &mut Stream) {
+    for (_, sheet) in fits() {
+        stream.table(&sheet.bytes());
+        for session in [0, 1, 2, sheet.last, sheet.last + 1, 255] {
+            stream.part(session);
+        }
+        stream.state(State::READY);
+        stream.packet(&test_ready());
+        stream.packet(&capacity());
+        for format in 0..3 {
+            stream.packet(&toc(false, format, sheet.last, 200));
+            stream.packet(&toc(true, format, 0, 60));
+        }
+        stream.packet(&toc(true, 0, 0xAA, 804));
+        stream.packet(&read10(0, 1));
+        stream.packet(&seek(449_848));
+        stream.packet(&seek(449_849));
+    }
+}
+
+/// All session numbers on a small and on the fullest table.
+pub fn parts(stream: &mut Stream) {
+    for sheet in [three_sessions(), fullest()] {
+        stream.table(&sheet.bytes());
+        for session in 0..=255 {
+            if session < 102 || session % 50 == 5 {
+                stream.part(session);
+            }
+        }
+        let mut spoilt = sheet.clone();
+        let last = spoilt.rows.len() - 1;
+        spoilt.rows[last][2] = 1;
+        stream.table(&spoilt.bytes());
+        for session in [0, 1, sheet.last, sheet.last + 1, 255] {
+            stream.part(session);
+        }
+    }
+}

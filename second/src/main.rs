@@ -1,0 +1,101 @@
+//! The command line of the second program.
+
+use std::env;
+use std::fs;
+use std::io::{self, Read, Write};
+use std::path::Path;
+use std::process::ExitCode;
+
+use second::cases::{bad, listing as pairs};
+use second::{examples, listing, replay, stored};
+
+const USAGE: &str = "usage: second replay
+       second listing TABLE PACKETS
+       second make-replay SEED CALLS
+       second make-listing SEED COUNT DIR
+       second stored ROOT
+       second check ROOT
+       second examples DIR";
+
+fn main() -> ExitCode {
+    let words: Vec<String> = env::args().skip(1).collect();
+    let words: Vec<&str> = words.iter().map(String::as_str).collect();
+    match run(&words) {
+        Ok(code) => code,
+        Err(problem) => {
+            eprintln!("second: {problem}");
+            ExitCode::from(2)
+        }
+    }
+}
+
+fn run(words: &[&str]) -> io::Result<ExitCode> {
+    match *words {
+        ["replay"] => {
+            let mut input = Vec::new();
+            io::stdin().lock().read_to_end(&mut input)?;
+            print(replay::run(&input).as_bytes())?;
+        }
+        ["listing", table, packets] => {
+            let (table, packets) = (fs::read(table)?, fs::read(packets)?);
+            print(listing::print(&table, &packets).as_bytes())?;
+        }
+        ["make-replay", seed, calls] => {
+            let stream = bad::random_stream(number(seed)?, number(calls)? as usize);
+            print(&stream.bytes)?;
+        }
+        ["make-listing", seed, count, dir] => {
+            make_listing(number(seed)?, number(count)?, Path::new(dir))?;
+        }
+        ["stored", root] => {
+            let files = stored::files();
+            stored::write(Path::new(root), &files)?;
+            let size: usize = files.iter().map(|(_, bytes)| bytes.len()).sum();
+            let calls = stored::stored_stream().calls;
+            println!(
+                "stored cases: {} files, {size} bytes, {calls} calls",
+                files.len()
+            );
+        }
+        ["check", root] => {
+            let (count, lines) = stored::check(Path::new(root));
+            if !lines.is_empty() {
+                print((lines.join("\n") + "\n").as_bytes())?;
+                return Ok(ExitCode::from(1));
+            }
+            println!("stored cases: {count} files agree");
+        }
+        ["examples", dir] => stored::write(Path::new(dir), &examples::files())?,
+        _ => {
+            eprintln!("{USAGE}");
+            return Ok(ExitCode::from(2));
+        }
+    }
+    Ok(ExitCode::SUCCESS)
+}
+
+fn print(bytes: &[u8]) -> io::Result<()> {
+    let mut out = io::stdout().lock();
+    out.write_all(bytes)?;
+    out.flush()
+}
+
+fn number(word: &str) -> io::Result<u64> {
+    word.parse()
+        .map_err(|_| io::Error::new(io::ErrorKind::InvalidInput, format!("not a number: {word}")))
+}
+
+/// Writes DIR/NNNN.table, DIR/NNNN.packets and DIR/NNNN.expected.
+fn make_listing(seed: u64, count: u64, dir: &Path) -> io::Result<()> {
+    for i in 0..count {
+        let pair = pairs::pair(seed, i);
+        let expected = listing::print(&pair.table, &pair.packets);
+        let files = [
+            (format!("{i:04}.table"), pair.table),
+            (format!("{i:04}.packets"), pair.packets),
+            (format!("{i:04}.expected"), expected.into_bytes()),
+        ];
+        stored::write(dir, &files)?;
+    }
+    Ok(())
+}

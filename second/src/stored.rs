@@ -1,0 +1,77 @@
+//! The stored cases and their check.
+
+use std::fs;
+use std::io;
+use std::path::Path;
+
+use crate::cases::bad;
+use crate::cases::listing::stored_pair;
+use crate::cases::picked;
+use crate::cases::random;
+use crate::cases::stream::Stream;
+use crate::examples;
+use crate::listing;
+use crate::replay;
+use crate::rng::Rng;
+
+/// The seed of everything stored; 5 modulo 8 ends the stream with a bad flag.
+pub const SEED: u64 = 0x01C_D0D;
+
+/// Calls in the stored stream, the picked ones among them.
+pub const CALLS: usize = 20_000;
+
+/// A file to be stored: its path below the root, and what it holds.
+pub type File = (String, Vec<u8>);
+
+pub fn stored_stream() -> Stream {
+    let mut stream = Stream::new();
+    picked::all(&mut stream);
+    let mut rng = Rng::new(SEED);
+    random::fill(&mut stream, &mut rng, CALLS);
+    bad::end(&mut stream, &mut rng, SEED);
+    stream
+}
+
+/// Every stored file, made again.
+pub fn files() -> Vec<File> {
+    let stream = stored_stream().bytes;
+    let pair = stored_pair(SEED);
+    let printed = listing::print(&pair.table, &pair.packets);
+    let expected = replay::run(&stream);
+    vec![
+        ("crates/replay/stdin".into(), stream),
+        ("crates/replay/stdout".into(), expected.into()),
+        ("crates/listing/args".into(), "table\npackets\n".into()),
+        ("crates/listing/data/table".into(), pair.table),
+        ("crates/listing/data/packets".into(), pair.packets),
+        ("crates/listing/stdout".into(), printed.into()),
+    ]
+}
+
+pub fn write(root: &Path, files: &[File]) -> io::Result<()> {
+    for (name, bytes) in files {
+        let path = root.join(name);
+        if let Some(parent) = path.parent() {
+            fs::create_dir_all(parent)?;
+        }
+        fs::write(path, bytes)?;
+    }
+    Ok(())
+}
+
+/// One line for each file that is missing or differs; the number looked at.
+pub fn check(root: &Path) -> (usize, Vec<String>) {
+    let mut all = files();
+    for (name, bytes) in examples::files() {
+        all.push((format!("examples/{name}"), bytes));
+    }
+    let mut lines = Vec::new();
+    for (name, bytes) in &all {
+        match fs::read(root.join(name)) {
+            Ok(found) if found == *bytes => {}
+            Ok(_) => lines.push(format!("differs: {name}")),
+            Err(_) => lines.push(format!("missing: {name}")),
+        }
+    }
+    (all.len(), lines)
+}
