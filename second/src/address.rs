@@ -21,7 +21,7 @@ impl Msf {
     pub fn in_rule_6(self) -> bool {
         let clock = self.s <= 59 && self.f <= 74;
         let place = (self.m, self.s, self.f);
-        clock && (0, 2, 0) <= place && place <= (99, 59, 74)
+        clock && ((0, 2, 0)..=(99, 59, 74)).contains(&place)
     }
 
     /// Refusal 8 for "M:S:F outside rule 6".

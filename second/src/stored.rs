@@ -18,7 +18,7 @@ use crate::rng::Rng;
 pub const SEED: u64 = 0x01C_D0D;
 
 /// Calls in the stored stream, the picked ones among them.
-pub const CALLS: usize = 20_000;
+pub const CALLS: usize = 27_000;
 
 /// A file to be stored: its path below the root, and what it holds.
 pub type File = (String, Vec<u8>);

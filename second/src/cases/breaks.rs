@@ -159,6 +159,21 @@ fn rule_4(list: &mut Vec<Break>) {
     edit(list, 4, "sessions exchanged", |sheet| {
         sheet.rows.rotate_left(6)
     });
+    // Whole sessions under another number, their tracks in good order.
+    for (one, two) in [(2, 1), (1, 3), (0, 1), (2, 3), (1, 255), (0, 2)] {
+        edit(list, 4, "sessions renumbered", |sheet| {
+            for (i, row) in sheet.rows.iter_mut().enumerate() {
+                row[0] = if i < 6 { one } else { two };
+            }
+        });
+    }
+    for one in [0, 1, 2] {
+        edit(list, 4, "all in one session", |sheet| {
+            for row in &mut sheet.rows {
+                row[0] = one;
+            }
+        });
+    }
     edit(list, 4, "B0h after the tracks", |sheet| {
         let mut more = sheet.rows[10];
         more[3] = 0xB0;

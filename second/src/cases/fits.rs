@@ -30,7 +30,7 @@ pub fn fits() -> Vec<(&'static str, Sheet)> {
     });
     edit("every control", &|sheet| {
         for (i, row) in sheet.rows.iter_mut().enumerate() {
-            row[1] = 0x10 | (i as u8 * 3 & 0x0F);
+            row[1] = 0x10 | ((i as u8 * 3) & 0x0F);
         }
     });
     // Rule 7 with one block between.

@@ -100,7 +100,7 @@ pub fn lengths(stream: &mut Stream) {
     }
     put_in(stream, &fullest());
     for length in [0, 4, 4_359, 4_360, 4_361, 65_535] {
-        stream.memory(MEMORY + 1, 0xD7);
+        stream.memory(MEMORY + length % 2, 0xD7);
         stream.packet(&toc(false, 2, 0, length));
     }
     for format in 0..3 {

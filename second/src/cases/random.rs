@@ -161,6 +161,7 @@ fn spoilt_scene(stream: &mut Stream, rng: &mut Rng) {
 fn address_scene(stream: &mut Stream, rng: &mut Rng) {
     for _ in 0..rng.range(5, 30) {
         let address = match rng.below(4) {
+            0 if rng.one_in(2) => rng.range(449_847, 449_852) as u32,
             0 => rng.long(),
             1 => (rng.below(100) * 4_500 + rng.below(3)) as u32,
             _ => rng.below(449_900) as u32,

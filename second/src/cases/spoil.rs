@@ -62,6 +62,7 @@ fn rule_1(rng: &mut Rng, sheet: &Sheet) -> Vec<u8> {
     let whole = sheet.bytes();
     let right = (whole.len() - 2) as u16;
     match rng.below(10) {
+        0 if rng.one_in(2) => vec![0, 2, 1, rng.pick(&[0, 1, 2, 99, 100])],
         0 => whole[..rng.below(5).min(whole.len())].to_vec(),
         1 => whole[..whole.len() - rng.range(1, 12)].to_vec(),
         2 => {
@@ -107,7 +108,7 @@ fn over_the_bound(rng: &mut Rng) -> Vec<u8> {
 fn rule_4(rng: &mut Rng, sheet: &mut Sheet) {
     let count = sheet.rows.len();
     let row = rng.below(count);
-    match rng.below(12) {
+    match rng.below(14) {
         0 => sheet.rows[row][0] = sheet.rows[row][0].wrapping_add(1),
         1 => sheet.rows[row][0] = sheet.rows[row][0].wrapping_sub(1),
         2 => {
@@ -137,10 +138,12 @@ fn rule_4(rng: &mut Rng, sheet: &mut Sheet) {
                 one[3] = one[3].wrapping_add(by);
             }
         }
-        9 => {
-            // All numbers moved together: fit unless an end is passed.
+        9 | 10 => {
+            // Track numbers moved from some session on, f and l with them: fit
+            // from session 1 unless an end is passed.
+            let from = if rng.one_in(2) { 1 } else { sheet.rows[row][0] };
             let by = rng.pick(&[1u8, 3, 255, 50]);
-            for one in sheet.rows.iter_mut() {
+            for one in sheet.rows.iter_mut().filter(|one| one[0] >= from) {
                 let at = match one[3] {
                     0xA0 | 0xA1 => 8,
                     0xA2 => continue,
@@ -149,12 +152,23 @@ fn rule_4(rng: &mut Rng, sheet: &mut Sheet) {
                 one[at] = one[at].wrapping_add(by);
             }
         }
+        11 => {
+            // Session numbers moved from some session on, or in one alone.
+            let from = sheet.rows[row][0];
+            let alone = rng.one_in(2);
+            let by = rng.pick(&[1u8, 2, 255]);
+            for one in sheet.rows.iter_mut() {
+                if one[0] == from || one[0] > from && !alone {
+                    one[0] = one[0].wrapping_add(by);
+                }
+            }
+        }
         _ => {
             let rows = sheet.points(rng.pick(&[0xA0, 0xA1]));
             let row = rng.pick(&rows);
             let now = sheet.rows[row][8];
-            sheet.rows[row][8] =
-                rng.pick(&[0, 1, 99, 100, 255, now.wrapping_add(1), now.wrapping_sub(1)]);
+            let (up, down) = (now.wrapping_add(1), now.wrapping_sub(1));
+            sheet.rows[row][8] = rng.pick(&[0, 1, 99, 100, 255, up, down]);
         }
     }
 }

@@ -1,0 +1,103 @@
+//! What the stored cases and the listing pairs cover.
+
+use std::collections::BTreeSet;
+
+use second::cases::bad::random_stream;
+use second::cases::listing::pair;
+use second::cases::sheet::{disc_e, fullest};
+use second::{examples, listing, replay, sense, stored};
+
+/// The kinds of line: letter and number, and the triples told.
+fn seen(lines: &str) -> (BTreeSet<String>, BTreeSet<String>) {
+    let (mut kinds, mut told) = (BTreeSet::new(), BTreeSet::new());
+    for line in lines.lines() {
+        let words: Vec<&str> = line.split(' ').collect();
+        kinds.insert(words[..2].join(" "));
+        if words[0] == "p" && words[2] == "02" {
+            told.insert(words[7..10].join(" "));
+        }
+    }
+    (kinds, told)
+}
+
+fn covers_all(lines: &str) {
+    let (kinds, told) = seen(lines);
+    for kind in [
+        "o 0", "b 0", "b 2", "b 5", "d 0", "d 2", "d 6", "u 0", "u 2", "u 7", "p 0", "p 1", "p 2",
+        "p 3", "p 4", "a 0", "a 8", "c 0", "c 8", "s 0", "s 4", "s 10",
+    ] {
+        assert!(kinds.contains(kind), "{kind}");
+    }
+    for triple in &sense::TEN[1..] {
+        assert!(told.contains(&triple.text()), "{}", triple.text());
+    }
+}
+
+#[test]
+fn stored_stream_covers_all() {
+    let stream = stored::stored_stream();
+    let lines = replay::run(&stream.bytes);
+    covers_all(&lines);
+    assert!(lines.ends_with("bad record\n"));
+    assert_eq!(lines.lines().count(), stream.calls + 1);
+}
+
+#[test]
+fn random_streams_cover_all() {
+    for seed in [0, 1, 2] {
+        covers_all(&replay::run(&random_stream(seed, 20_000).bytes));
+    }
+}
+
+#[test]
+fn stored_files_stay_small() {
+    let total: usize = stored::files().iter().map(|(_, bytes)| bytes.len()).sum();
+    assert!(total < 3_000_000);
+}
+
+#[test]
+fn listing_edges() {
+    let header = "n st key asc ascq len data start count\n";
+    let e = disc_e().bytes();
+    assert_eq!(listing::print(&e, &[]), header);
+    assert_eq!(listing::print(&e, &[0; 49_153]), "too long\n");
+    assert_eq!(listing::print(&e, &[0; 49_152]).lines().count(), 4_097);
+    let short = listing::print(&e, &[0; 17]);
+    assert!(short.ends_with("\n2 refused 1\n"));
+    let mut over = fullest().bytes();
+    assert!(!listing::print(&over, &[0; 12]).contains("refused"));
+    over.push(0);
+    let unfit = format!("{header}1 refused 4\n2 refused 1\n");
+    assert_eq!(listing::print(&over, &[0; 13]), unfit);
+    assert_eq!(listing::print(&[], &[0; 13]), unfit);
+    // "a GOOD INQUIRY shows the sense held before"
+    let told = listing::print(&e, &[[0; 12], second::cases::packets::inquiry(1)].concat());
+    assert!(told.ends_with("\n2 00 06 29 00 1 05 0 0\n"));
+}
+
+#[test]
+fn listing_pairs_take_their_turns() {
+    for seed in 0..3 {
+        let outs: Vec<String> = (0..20)
+            .map(|i| pair(seed, i))
+            .map(|pair| listing::print(&pair.table, &pair.packets))
+            .collect();
+        assert_eq!(outs[0].lines().count(), 1);
+        assert!(outs[1].ends_with("refused 1\n"));
+        assert_eq!(outs[2].lines().count(), 4_097);
+        assert_eq!(outs[3], "too long\n");
+        assert!(outs[4].contains("1 refused 4\n"));
+        assert!(outs[5].contains("1 refused 4\n"));
+    }
+}
+
+#[test]
+fn examples_show_the_marked_results() {
+    let files = examples::files();
+    let find = |name: &str| &files.iter().find(|(one, _)| one == name).unwrap().1;
+    let out = listing::print(find("disc-e.table"), find("marked.packets"));
+    assert_eq!(out.lines().count(), 12);
+    assert!(out.contains("\n5 00 00 00 00 12 000A01020010AA0000000600 0 0\n"));
+    let out = listing::print(find("two-sessions.table"), find("sessions.packets"));
+    assert!(out.contains("\n3 00 00 00 00 12 000A0102001404000000300C 0 0\n"));
+}

@@ -1,0 +1,114 @@
+//! The replay stream: line forms and every way a record is bad.
+
+use second::adler::adler32;
+use second::cases::bad::{bad_records, random_stream};
+use second::cases::packets::{capacity, test_ready};
+use second::cases::sheet::disc_e;
+use second::cases::stream::Stream;
+use second::drive::State;
+use second::replay::run;
+
+#[test]
+fn adler() {
+    assert_eq!(adler32(b""), 1);
+    assert_eq!(adler32(b"Wikipedia"), 0x11E6_0398);
+    let naive = |bytes: &[u8]| {
+        let (mut a, mut b) = (1u64, 0u64);
+        for &byte in bytes {
+            a = (a + u64::from(byte)) % 65_521;
+            b = (b + a) % 65_521;
+        }
+        (b << 16 | a) as u32
+    };
+    let high = vec![0xFF; 20_000];
+    assert_eq!(adler32(&high), naive(&high));
+}
+
+#[test]
+fn line_forms() {
+    let mut stream = Stream::new();
+    stream.packet(&test_ready());
+    stream.part(1);
+    stream.memory(4_360, 0);
+    stream.table(&disc_e().bytes());
+    stream.state(State::READY);
+    stream.power_on();
+    stream.packet(&test_ready());
+    stream.packet(&capacity());
+    stream.button();
+    stream.lay();
+    stream.lift();
+    stream.button();
+    stream.to_msf(449_849);
+    stream.to_msf(449_850);
+    stream.to_address(0, 2, 0);
+    stream.to_address(0, 1, 74);
+    stream.part(1);
+    stream.part(2);
+    assert_eq!(stream.calls, 15);
+    let lines = run(&stream.bytes);
+    let table = disc_e().bytes();
+    let mut memory = vec![0; 4_360];
+    let blank = adler32(&memory);
+    memory[..8].copy_from_slice(&[0, 0, 1, 0x2B, 0, 0, 8, 0]);
+    let expected = [
+        "p 3 00 0 0 0 00000 00 00 00 - 00000001".to_string(),
+        "s 4 0 00000001".to_string(),
+        "o 0 01010 00 00 00".to_string(),
+        format!("p 0 02 0 0 0 01000 06 29 00 - {blank:08X}"),
+        format!(
+            "p 0 00 8 0 0 01000 00 00 00 0000012B00000800 {:08X}",
+            adler32(&memory)
+        ),
+        "b 0 11000 00 00 00".to_string(),
+        "d 6 11000 00 00 00".to_string(),
+        "u 0 10000 00 00 00".to_string(),
+        "b 0 00000 00 00 00".to_string(),
+        "a 0 99 59 74".to_string(),
+        "a 8 0 0 0".to_string(),
+        "c 0 0".to_string(),
+        "c 8 0".to_string(),
+        format!("s 0 55 {:08X}", adler32(&table[4..])),
+        "s 10 0 00000001".to_string(),
+    ];
+    assert_eq!(lines, expected.join("\n") + "\n");
+}
+
+#[test]
+fn each_bad_record_ends_the_run() {
+    assert_eq!(run(&[]), "");
+    let mut before = Stream::new();
+    before.power_on();
+    let good = run(&before.bytes);
+    for (name, bytes) in bad_records() {
+        let mut stream = before.bytes.clone();
+        stream.extend(&bytes);
+        assert_eq!(run(&stream), format!("{good}bad record\n"), "{name}");
+        assert_eq!(run(&bytes), "bad record\n", "{name}");
+    }
+}
+
+#[test]
+fn longest_sound_records() {
+    let mut stream = Stream::new();
+    stream.table(&[0; 8_191]);
+    stream.memory(8_191, 1);
+    stream.packet(&[0; 8_191]);
+    stream.packet(&[]);
+    stream.table(&[]);
+    stream.memory(0, 1);
+    assert_eq!(run(&stream.bytes).lines().count(), 2);
+}
+
+#[test]
+fn streams_end_as_the_seed_says() {
+    for seed in 0..32 {
+        let stream = random_stream(seed, 300);
+        assert!(stream.calls >= 300);
+        let lines = run(&stream.bytes);
+        let bad = lines.ends_with("bad record\n");
+        assert_eq!(bad, seed % 8 != 0);
+        assert_eq!(lines.lines().count(), stream.calls + usize::from(bad));
+        assert_eq!(random_stream(seed, 300).bytes, stream.bytes);
+    }
+}

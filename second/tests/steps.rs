@@ -1,0 +1,248 @@
+//! The steps of a packet: attentions, sense, tray, fields, blocks.
+
+mod common;
+
+use common::{check, good, on, on_e};
+use second::cases::packets::*;
+use second::cases::picked_state::all_flags;
+use second::cases::sheet::{any_fit, disc_e, three_sessions, two_sessions};
+use second::drive::State;
+use second::rng::Rng;
+use second::sense::{self, NONE};
+use second::table::{read, Disc};
+
+const READY: State = State::READY;
+
+#[test]
+fn inquiry_leaves_sense_and_attentions() {
+    for flags in all_flags() {
+        let state = State {
+            sense: sense::WRONG_MODE,
+            ..flags
+        };
+        let (reply, memory) = on_e(state, &inquiry(36));
+        assert_eq!((reply.status, reply.length, reply.next), (0, 36, state));
+        assert_eq!(&memory[..8], [5, 0x80, 0, 0x21, 0x1F, 0, 0, 0]);
+        assert_eq!(&memory[8..36], b"LECTERN PACKET TARGET   0100");
+        let mut evpd = inquiry(36);
+        evpd[1] = 1;
+        let (reply, _) = on_e(state, &evpd);
+        let next = State {
+            sense: sense::BAD_FIELD,
+            ..flags
+        };
+        assert_eq!((reply.status, reply.next), (2, next));
+    }
+}
+
+#[test]
+fn attentions_power_first_then_change() {
+    let both = State {
+        power: true,
+        change: true,
+        ..READY
+    };
+    for packet in [test_ready(), plain(0xFF), prevent(1), start_stop(2)] {
+        let (first, _) = on_e(both, &packet);
+        let told = State {
+            sense: sense::POWERED_ON,
+            change: true,
+            ..READY
+        };
+        assert_eq!((first.status, first.next), (2, told));
+        let (second, _) = on_e(first.next, &packet);
+        let told = State {
+            sense: sense::CHANGED,
+            ..READY
+        };
+        assert_eq!((second.status, second.next), (2, told));
+    }
+}
+
+#[test]
+fn request_sense_tells_held_then_power_then_change() {
+    let mut state = State {
+        power: true,
+        change: true,
+        sense: sense::PREVENTED,
+        ..READY
+    };
+    for due in [
+        sense::PREVENTED,
+        sense::POWERED_ON,
+        sense::CHANGED,
+        NONE,
+        NONE,
+    ] {
+        for length in [0, 18, 255] {
+            let (reply, memory) = on_e(state, &request_sense(length));
+            assert_eq!(reply.next.sense, NONE);
+            if length >= 18 {
+                let expected = [
+                    0x70, 0, due.key, 0, 0, 0, 0, 0x0A, 0, 0, 0, 0, due.asc, due.ascq, 0, 0, 0, 0,
+                ];
+                assert_eq!(memory[..reply.length], expected);
+            } else {
+                assert_eq!(reply.length, 0);
+            }
+        }
+        state = on_e(state, &request_sense(0)).0.next;
+    }
+    assert_eq!(state, READY);
+}
+
+#[test]
+fn tray_by_packet() {
+    let locked = State {
+        lock: true,
+        ..READY
+    };
+    assert_eq!(check(locked, &start_stop(EJECT)), sense::PREVENTED);
+    let open = on_e(READY, &start_stop(EJECT)).0.next;
+    assert_eq!(open, READY.opened());
+    assert_eq!(on_e(open, &start_stop(EJECT)).0.next, open);
+    let loaded = on_e(open, &start_stop(LOAD)).0.next;
+    assert_eq!(
+        loaded,
+        State {
+            change: true,
+            ..READY
+        }
+    );
+    assert_eq!(on_e(READY, &start_stop(LOAD)).0.next, READY);
+    let empty = State::ZERO.opened();
+    assert_eq!(on_e(empty, &start_stop(LOAD)).0.next, State::ZERO);
+    assert_eq!(check(empty, &start_stop(1)), sense::TRAY_OPEN);
+    assert_eq!(check(State::ZERO, &start_stop(1)), sense::NO_MEDIUM);
+    assert_eq!(good(State::ZERO, &start_stop(0)), []);
+    assert_eq!(
+        on_e(empty, &prevent(1)).0.next,
+        State {
+            lock: true,
+            ..empty
+        }
+    );
+    assert_eq!(on_e(locked, &prevent(0xFE)).0.next, READY);
+}
+
+#[test]
+fn button_and_power_on() {
+    assert_eq!(READY.button(), Ok(READY.opened()));
+    let loaded = State {
+        change: true,
+        ..READY
+    };
+    assert_eq!(READY.opened().button(), Ok(loaded));
+    assert_eq!(State::ZERO.opened().button(), Ok(State::ZERO));
+    for state in all_flags() {
+        let next = state.power_on();
+        assert_eq!(
+            (next.tray_open, next.disc_in),
+            (state.tray_open, state.disc_in)
+        );
+        assert_eq!((next.lock, next.power, next.change), (false, true, false));
+    }
+}
+
+#[test]
+fn who_needs_a_disc() {
+    for code in [0x00, 0x25, 0x28, 0x2B, 0x43, 0xA8] {
+        assert_eq!(check(State::ZERO, &plain(code)), sense::NO_MEDIUM);
+        assert_eq!(check(READY.opened(), &plain(code)), sense::TRAY_OPEN);
+    }
+    for code in (0..=255).filter(|code| !CODES.contains(code)) {
+        for state in [READY, State::ZERO, READY.opened()] {
+            assert_eq!(check(state, &plain(code)), sense::UNKNOWN_CODE);
+        }
+    }
+}
+
+#[test]
+fn unnamed_bits_do_not_matter() {
+    let mut rng = Rng::new(3);
+    for packet in one_of_each() {
+        for _ in 0..200 {
+            let noisy = with_junk(&mut rng, packet);
+            assert_eq!(on_e(READY, &packet), on_e(READY, &noisy));
+        }
+    }
+}
+
+#[test]
+fn formats_one_and_two() {
+    let table = two_sessions().bytes();
+    let (reply, memory) = on(READY, &table, &toc(false, 1, 0xFF, 804));
+    let expected = [0, 10, 1, 2, 0, 0x14, 4, 0, 0, 0, 0x30, 0x0C];
+    assert_eq!(memory[..reply.length], expected);
+    let (reply, memory) = on(READY, &table, &toc(true, 2, 0, 804));
+    assert_eq!(memory[..reply.length], table);
+    let (reply, memory) = on(READY, &table, &toc(true, 2, 2, 804));
+    assert_eq!(memory[..4], [0, 57, 1, 2]);
+    assert_eq!(memory[4..reply.length], table[70..]);
+    assert_eq!(check(READY, &toc(false, 2, 2, 804)), sense::BAD_FIELD);
+    for format in 3..16 {
+        assert_eq!(check(READY, &toc(false, format, 0, 804)), sense::BAD_FIELD);
+        let high = format << 4 | 1;
+        assert_eq!(good(READY, &toc(false, high, 0, 2)), [0, 10]);
+    }
+}
+
+/// "A block belongs to the track with the greatest start not above it, if it
+/// lies below that track's session's lead-out; else to no track."
+fn block_is_data(disc: &Disc, block: u32) -> bool {
+    let mut owner = None;
+    for session in &disc.sessions {
+        for track in &session.tracks {
+            if track.start <= block {
+                owner = Some((track.bits, session.lead_out));
+            }
+        }
+    }
+    owner.is_some_and(|(bits, lead_out)| block < lead_out && bits & 4 != 0)
+}
+
+#[test]
+fn reads_agree_with_the_block_rule() {
+    let mut rng = Rng::new(4);
+    let mut tables = vec![
+        disc_e().bytes(),
+        two_sessions().bytes(),
+        three_sessions().bytes(),
+    ];
+    tables.extend((0..60).map(|_| any_fit(&mut rng).bytes()));
+    for table in tables {
+        let disc = read(&table).unwrap();
+        let marks = Marks::of(Some(&disc));
+        for _ in 0..120 {
+            let address = marks.address(&mut rng);
+            let count = marks.count(&mut rng, address);
+            let (reply, _) = on(READY, &table, &read12(address, count));
+            let end = u64::from(disc.end());
+            let past = u64::from(address) + u64::from(count);
+            let due = if u64::from(address) >= end || past > end {
+                sense::OUT_OF_RANGE
+            } else if (address..past as u32).all(|block| block_is_data(&disc, block)) {
+                NONE
+            } else {
+                sense::WRONG_MODE
+            };
+            assert_eq!(reply.next.sense, due, "{address} {count}");
+            let named = if due == NONE {
+                (address, count)
+            } else {
+                (0, 0)
+            };
+            assert_eq!((reply.start, reply.count), named);
+        }
+    }
+}
+
+#[test]
+fn sums_past_32_bits() {
+    for (address, count) in [(1, u32::MAX), (149, u32::MAX - 148), (150, u32::MAX)] {
+        assert_eq!(check(READY, &read12(address, count)), sense::OUT_OF_RANGE);
+    }
+    assert_eq!(check(READY, &seek(300)), sense::OUT_OF_RANGE);
+    assert_eq!(check(READY, &seek(u32::MAX)), sense::OUT_OF_RANGE);
+    assert_eq!(good(READY, &seek(299)), []);
+}
