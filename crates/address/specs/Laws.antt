@@ -9,7 +9,7 @@ use native.Mathlib.Decide.{decLe}
 use borrow.Author.Tests.{le-leb, lt-leb, leb-true}
 use lib.Dec.{leb}
 use Rattle.ground.specs.Tests.{_and_, if_then_else_, when, unless, and-head, and-tail, and-both}
-use Rattle.address.specs.Address.{refused, last, frames, addressOf, isMsf, minuteOf, secondOf, frameOf, msfAt, msfRefused, blockAt, blockRefused, toMsf, toBlock}
+use Rattle.address.specs.Address.{BlockAnswer, refused, last, frames, addressOf, isMsf, minuteOf, secondOf, frameOf, msfAt, msfRefused, blockAt, blockRefused, toMsf, toBlock}
 
 -- rule 6 of an M:S:F, its parts by name
 pub record InRange (m s f : ℕ) : Type 0 where
@@ -116,3 +116,21 @@ toMsf-rises a b h k = elim (decLe (minuteOf b) (minuteOf a)) [
   ))
   | no p ↦ inl (lt-of-not-le p)
 ]
+
+-- ---- the answer tells which range it was
+
+pub toBlock-accepts : (m s f a : ℕ) → blockAt a ≡ toBlock m s f → true ≡ isMsf m s f
+unfolding toBlock if_then_else_
+toBlock-accepts m s f a h = decided (isMsf m s f) refl
+  where
+    decided : (b : Bool) → isMsf m s f ≡ b → true ≡ isMsf m s f
+    decided true e = sym e
+    decided false e = let z : _≡_ {A = ℕ} 0 refused = ap (λ (r : BlockAnswer). r .number) (h ∙ unless _ _ _ e) in absurd (omega arith)
+
+pub toBlock-refuses : (m s f : ℕ) → blockRefused ≡ toBlock m s f → false ≡ isMsf m s f
+unfolding toBlock if_then_else_
+toBlock-refuses m s f h = decided (isMsf m s f) refl
+  where
+    decided : (b : Bool) → isMsf m s f ≡ b → false ≡ isMsf m s f
+    decided true e = let z : _≡_ {A = ℕ} refused 0 = ap (λ (r : BlockAnswer). r .number) (h ∙ when _ _ _ e) in absurd (omega arith)
+    decided false e = sym e

@@ -1,7 +1,7 @@
 // Block address to M:S:F and back, exact both ways; refusal 8 outside the ranges of rule 6.
 ghost use mathlib.Core.Path.{_≡_};
 ghost use Rattle.ground.specs.Number.{Byte};
-ghost use Rattle.address.specs.Address.{toMsf, toBlock, frames, msfMeaning, blockMeaning};
+ghost use Rattle.address.specs.Address.{toMsf, toBlock, isMsf, frames, msfMeaning, blockMeaning};
 
 // The refusal of an address that no M:S:F has, or of an M:S:F that no block has.
 pub const REFUSED: u8 = 8;
@@ -70,4 +70,14 @@ fn wide(b: u8) -> u32
     ensures { λ r. ⌜ Byte b r ⌝ }
 {
     b as u32
+}
+
+// The M:S:F is one that rule 6 allows.
+pub fn is_msf(minute: u8, second: u8, frame: u8) -> bool
+    ensures { λ r. ⌜ r ≡ isMsf minute second frame ⌝ }
+{
+    match to_block(minute, second, frame) {
+        Block::At(_) => true,
+        Block::Refused => false,
+    }
 }

@@ -1,0 +1,33 @@
+-- What commands need of a fit table.
+use Prim.Native.Nat.{ℕ, _+_, _-_}
+use mathlib.Core.List.{List}
+use Rattle.ground.specs.Tests.{if_then_else_}
+use Rattle.disc.specs.Layout.{lastSession, descriptors, flagsAt}
+use Rattle.disc.specs.Session.{first, last, starts, session}
+use Rattle.disc.specs.Rules.{leadOut, fault, isFit}
+use Rattle.disc.specs.declared.disc.Disc.{Disc}
+use Rattle.disc.specs.declared.disc.Reading.{Reading}
+use Rattle.disc.specs.declared.disc.Reading.the-variants.{Fit, Unfit}
+
+-- where the last session begins, among the descriptors
+abbrev pub lastAt : List ℕ → ℕ
+lastAt t = starts (descriptors t) (lastSession t - 1)
+
+-- the last session, from its A0 descriptor on
+abbrev pub lastPart : List ℕ → List ℕ
+lastPart t = session (descriptors t) (lastSession t - 1)
+
+-- the first and the last track of the disc, S, "L is the last session's lead-out" with its ADR/control, and where that session begins
+abbrev pub discOf : List ℕ → Disc
+discOf t = record {
+  first = first (descriptors t);
+  last = last (lastPart t);
+  sessions = lastSession t;
+  «lead_out» = leadOut (lastPart t);
+  «lead_flags» = flagsAt (lastPart t) 2;
+  «last_at» = lastAt t;
+}
+
+-- a lent table is read: the disc of a fit one, else the number of the first broken rule
+unfoldable pub reading : List ℕ → Reading
+reading t = if isFit t then Fit (discOf t) else Unfit (fault t)

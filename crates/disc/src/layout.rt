@@ -1,0 +1,58 @@
+// The table's layout: where each field of an 11-byte descriptor stands, and the bound.
+use ground::number::wide;
+ghost use mathlib.Core.Path.{_≡_};
+ghost use Prim.Native.Nat.{_+_, _*_, _≤_};
+ghost use lib.ListN.{length};
+ghost use Rattle.disc.specs.Layout.{row, addressAt, isTrack};
+
+// The most bytes of a table, of an answer and of the response memory.
+pub const BOUND: usize = 4360;
+
+pub const HEADER: usize = 4;
+
+pub const ROW: usize = 11;
+
+// Where the fields stand in a descriptor.
+pub const FLAGS: usize = 1;
+
+pub const TNO: usize = 2;
+
+pub const POINT: usize = 3;
+
+pub const ZERO: usize = 7;
+
+pub const PMIN: usize = 8;
+
+pub const PSEC: usize = 9;
+
+pub const PFRAME: usize = 10;
+
+// The POINTs that are no tracks.
+pub const A0: u8 = 0xA0;
+
+pub const A1: u8 = 0xA1;
+
+pub const A2: u8 = 0xA2;
+
+// The block address that descriptor j holds.
+pub(crate) fn address_at(d: &[u8], j: usize) -> usize
+    requires { ⌜ row * j + row ≤ length (now d) ⌝ }
+    ensures { λ r. ⌜ r ≡ addressAt (now (d .entry)) j ⌝ }
+{
+    let at = ROW * j;
+    let frames = (wide(d[at + PMIN]) * 60 + wide(d[at + PSEC])) * 75 + wide(d[at + PFRAME]);
+    if frames < 150 {
+        return 0;
+    }
+    frames - 150
+}
+
+// POINT p is a track's number.
+pub(crate) fn is_track(p: usize) -> bool
+    ensures { λ r. ⌜ r ≡ isTrack p ⌝ }
+{
+    if 1 <= p {
+        return p <= 99;
+    }
+    false
+}
