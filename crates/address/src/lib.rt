@@ -1,16 +1,16 @@
 // Block address to M:S:F and back, exact both ways; refusal 8 outside the ranges of rule 6.
+use ground::number::wide;
 ghost use mathlib.Core.Path.{_≡_};
-ghost use Rattle.ground.specs.Number.{Byte};
-ghost use Rattle.address.specs.Address.{toMsf, toBlock, isMsf, frames, msfMeaning, blockMeaning};
+ghost use Rattle.address.specs.Address.{toMsf, toBlock, isMsf, frames, addressOf, msfMeaning, blockMeaning};
 
 // The refusal of an address that no M:S:F has, or of an M:S:F that no block has.
 pub const REFUSED: u8 = 8;
 
 // The greatest block address.
-pub const LAST: u32 = 449849;
+pub const LAST: usize = 449849;
 
 // Frames before block 0, which stands at 00:02:00.
-const LEAD: u32 = 150;
+const LEAD: usize = 150;
 
 // A block's M:S:F, or refusal 8.
 pub enum Msf {
@@ -20,12 +20,12 @@ pub enum Msf {
 
 // An M:S:F's block, or refusal 8.
 pub enum Block {
-    At(u32),
+    At(usize),
     Refused,
 }
 
 // The M:S:F of a block address.
-pub fn to_msf(address: u32) -> Msf
+pub fn to_msf(address: usize) -> Msf
     ensures { λ r. ⌜ msfMeaning r ≡ toMsf address ⌝ }
 {
     if LAST < address {
@@ -60,16 +60,21 @@ pub fn to_block(minute: u8, second: u8, frame: u8) -> Block
 }
 
 // Frames from 00:00:00 on.
-fn frames_of(minute: u8, second: u8, frame: u8) -> u32
+fn frames_of(minute: u8, second: u8, frame: u8) -> usize
     ensures { λ r. ⌜ r ≡ frames minute second frame ⌝ }
 {
     (wide(minute) * 60 + wide(second)) * 75 + wide(frame)
 }
 
-fn wide(b: u8) -> u32
-    ensures { λ r. ⌜ Byte b r ⌝ }
+// The address that the formula gives, 0 before 00:02:00: of any three bytes.
+pub fn address_of(minute: u8, second: u8, frame: u8) -> usize
+    ensures { λ r. ⌜ r ≡ addressOf minute second frame ⌝ }
 {
-    b as u32
+    let frames = frames_of(minute, second, frame);
+    if frames < LEAD {
+        return 0;
+    }
+    frames - LEAD
 }
 
 // The M:S:F is one that rule 6 allows.

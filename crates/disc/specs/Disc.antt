@@ -1,5 +1,5 @@
 -- What commands need of a fit table.
-use Prim.Native.Nat.{ℕ, _+_, _-_}
+use Prim.Native.Nat.{ℕ, _-_}
 use mathlib.Core.List.{List}
 use Rattle.ground.specs.Tests.{if_then_else_}
 use Rattle.disc.specs.Layout.{lastSession, descriptors, flagsAt}

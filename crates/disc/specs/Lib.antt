@@ -1,6 +1,11 @@
 pub mod Layout
 pub mod Session
+pub mod SessionLaws
 pub mod Rules
+pub mod RulesLaws
+pub mod FitLaws
 pub mod Part
+pub mod PartLaws
 pub mod Track
+pub mod TrackLaws
 pub mod Disc

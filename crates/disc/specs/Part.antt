@@ -1,7 +1,6 @@
 -- "A caller may ask for a session: its descriptors are shown as that part of the lent table itself, uncopied."
 use mathlib.Core.Path.{_≡_}
 use Prim.Native.Nat.{ℕ, _+_, _-_}
-use mathlib.Core.Bool.{Bool}
 use mathlib.Core.List.{List}
 use lib.ListN.{take, drop}
 use lib.Dec.{leb, eqb}

@@ -1,5 +1,5 @@
 -- "A table is fit if": rules 1 to 7, each over the whole table, and the first that is broken.
-use Prim.Native.Nat.{ℕ, zero, suc, _+_, _-_, _*_, _/_, _%_}
+use Prim.Native.Nat.{ℕ, zero, suc, _+_, _-_, _%_}
 use mathlib.Core.Bool.{Bool, true, false}
 use mathlib.Core.List.{List, [], _∷_}
 use lib.ListN.{length}
@@ -61,8 +61,12 @@ outBefore d (suc k) = leadOut (session d k)
 unfoldable pub beginsAfter : ℕ → ℕ → ℕ → Bool
 beginsAfter k out start = eqb k 0 or ltb out start
 
+-- of session k + 1
+unfoldable pub rising : List ℕ → ℕ → Bool
+rising d k = rises (session d k) (tracks (session d k)) and beginsAfter k (outBefore d k) (trackStart (session d k) 0)
+
 unfoldable pub rule7 : ℕ → List ℕ → Bool
-rule7 n d = every n (λ k. rises (session d k) (tracks (session d k)) and beginsAfter k (outBefore d k) (trackStart (session d k) 0))
+rule7 n d = every n (rising d)
 
 -- the number of the first test that fails, counted from n; 0 where none does
 unfoldable pub firstBroken : ℕ → List Bool → ℕ

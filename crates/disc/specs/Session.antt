@@ -27,12 +27,15 @@ size d = row * (3 + tracks d)
 unfoldable pub names : List ℕ → ℕ → ℕ → ℕ → Bool
 names d k j p = eqb (sessionAt d j) k and eqb (pointAt d j) p
 
--- d begins with session k: "POINT A0h, A1h, A2h and then tracks f, f+1, .. l, .., 1 ≤ f ≤ l ≤ 99"
+-- "each as POINT A0h, A1h, A2h and then tracks f, f+1, .. l": n of them from f on
+unfoldable pub listed : List ℕ → ℕ → ℕ → ℕ → Bool
+listed d k f n = names d k 0 A0 and names d k 1 A1 and names d k 2 A2 and every n (λ i. names d k (3 + i) (f + i))
+
+-- d begins with session k: "1 ≤ f ≤ l ≤ 99"
 unfoldable pub isSession : ℕ → List ℕ → Bool
 isSession k d =
     leb (size d) (length d) and leb 1 (first d) and leb (first d) (last d) and leb (last d) 99
-    and names d k 0 A0 and names d k 1 A1 and names d k 2 A2
-    and every (tracks d) (λ i. names d k (3 + i) (first d + i))
+    and listed d k (first d) (tracks d)
 
 -- where the session after k others begins
 unfoldable pub starts : List ℕ → ℕ → ℕ

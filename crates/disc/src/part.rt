@@ -22,6 +22,7 @@ pub fn session_refusal(t: &[u8], k: u8) -> u8
             if n <= wide(t[3]) {
                 return 0;
             }
+            return NO_SESSION;
         }
         return NO_SESSION;
     }

@@ -24,7 +24,6 @@ ghost use mathlib.Core.Bool.{true};
 ghost use Prim.Native.Nat.{_+_, _-_, _*_, _≤_, _<_};
 ghost use lib.ListN.{length};
 ghost use Rattle.ground.specs.Tests.{every};
-ghost use Rattle.address.specs.Address.{isMsf};
 ghost use Rattle.disc.specs.Layout.{row, rows};
 ghost use Rattle.disc.specs.Session.{inOrder};
 ghost use Rattle.disc.specs.Rules.{rule1, rule2, plain, headA0, headed, addressed, rowTest, rises, beginsAfter, rule7, firstBroken, lateRules, rowRules, fault};
@@ -56,6 +55,7 @@ pub(crate) fn rule2(t: &[u8]) -> bool
         if 1 <= s {
             return s <= 99;
         }
+        return false;
     }
     false
 }
@@ -70,6 +70,7 @@ fn plain(d: &[u8], j: usize) -> bool
         if wide(d[at + TNO]) == 0 {
             return wide(d[at + ZERO]) == 0;
         }
+        return false;
     }
     false
 }
@@ -162,15 +163,17 @@ fn rises(s: &[u8], n: usize) -> bool
     requires { ⌜ (1 ≤ n) × (row * (3 + n) ≤ length (now s)) ⌝ }
     ensures { λ r. ⌜ r ≡ rises (now (s .entry)) n ⌝ }
 {
-    let mut i = 1;
-    while i < n {
-        if address_at(s, 2 + i) < address_at(s, 3 + i) {
-            i += 1;
+    let last = n - 1;
+    let mut i = 0;
+    while i < last {
+        let next = i + 1;
+        if address_at(s, 3 + i) < address_at(s, 3 + next) {
+            i = next;
         } else {
             return false;
         }
     }
-    address_at(s, 2 + n) < address_at(s, 2)
+    address_at(s, 3 + last) < address_at(s, 2)
 }
 
 // Rule 7: in each session the starts rise up to the lead-out, and begin after the lead-out before.

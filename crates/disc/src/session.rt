@@ -9,10 +9,11 @@ use ground::number::wide;
 ghost use mathlib.Core.Path.{_≡_};
 ghost use mathlib.Core.Bool.{true};
 ghost use Prim.Native.Nat.{_+_, _-_, _*_, _≤_, _<_};
-ghost use lib.ListN.{length};
+ghost use lib.ListN.{length, getD, drop};
+ghost use Rattle.ground.specs.Number.{Byte};
 ghost use Rattle.ground.specs.Tests.{every};
 ghost use Rattle.disc.specs.Layout.{row};
-ghost use Rattle.disc.specs.Session.{first, last, size, names, follows, isSession, inOrder, readSession, starts, inPlace};
+ghost use Rattle.disc.specs.Session.{first, last, size, names, listed, follows, inOrder, readSession, starts, inPlace};
 
 // What reading a session finds: its first and last track and how many bytes its descriptors take.
 pub enum Session {
@@ -48,6 +49,23 @@ fn lists_tracks(d: &[u8], k: usize, f: usize, n: usize) -> bool
     true
 }
 
+// The descriptors of session k name A0, A1, A2 and then the n tracks from number f on.
+fn listed(d: &[u8], k: usize, f: usize, n: usize) -> bool
+    requires { ⌜ (row * (3 + n) ≤ length (now d)) × (f ≤ 256) × (n ≤ 256) ⌝ }
+    ensures { λ r. ⌜ r ≡ listed (now (d .entry)) k f n ⌝ }
+{
+    if names(d, k, 0, wide(A0)) {
+        if names(d, k, 1, wide(A1)) {
+            if names(d, k, 2, wide(A2)) {
+                return lists_tracks(d, k, f, n);
+            }
+            return false;
+        }
+        return false;
+    }
+    false
+}
+
 // The session k that d begins with, if it does.
 pub(crate) fn read_session(d: &[u8], k: usize) -> Session
     ensures { λ r. ⌜ r ≡ readSession k (now (d .entry)) ⌝ }
@@ -73,14 +91,8 @@ pub(crate) fn read_session(d: &[u8], k: usize) -> Session
     if d.len() < bytes {
         return Session::Not;
     }
-    if names(d, k, 0, wide(A0)) {
-        if names(d, k, 1, wide(A1)) {
-            if names(d, k, 2, wide(A2)) {
-                if lists_tracks(d, k, f, n) {
-                    return Session::Is { first, last, bytes };
-                }
-            }
-        }
+    if listed(d, k, f, n) {
+        return Session::Is { first, last, bytes };
     }
     Session::Not
 }
@@ -130,16 +142,46 @@ pub(crate) fn session_bytes(d: &[u8]) -> usize
     ROW * (3 + (wide(d[ROW + PMIN]) + 1 - wide(d[PMIN])))
 }
 
+// Byte i of d, and 0 past its end.
+fn byte_at(d: &[u8], i: usize) -> usize
+    ensures { λ r. ⌜ Byte (getD (now (d .entry)) i 0) r ⌝ }
+{
+    if i < d.len() {
+        return wide(d[i]);
+    }
+    0
+}
+
+// How many bytes the descriptors take of the session that begins at `at`, of any bytes.
+fn size_at(d: &[u8], at: usize) -> usize
+    requires { ⌜ at < 1000000 ⌝ }
+    ensures { λ r. ⌜ (r ≡ size (drop at (now (d .entry)))) × (r ≤ 2849) ⌝ }
+{
+    let f = byte_at(d, at + PMIN);
+    let l = byte_at(d, at + ROW + PMIN);
+    if l + 1 < f {
+        return ROW * 3;
+    }
+    ROW * (3 + (l + 1 - f))
+}
+
 // Where the session after n others begins.
 pub(crate) fn starts_at(d: &[u8], n: usize) -> usize
-    requires { ⌜ every n (inPlace (now d)) ≡ true ⌝ }
+    requires { ⌜ n < 256 ⌝ }
     ensures { λ r. ⌜ r ≡ starts (now (d .entry)) n ⌝ }
 {
     let mut k = 0;
     let mut at = 0;
     while k < n {
-        at += session_bytes(&d[at..]);
+        at += size_at(d, at);
         k += 1;
     }
     at
+}
+
+// The same for any count of sessions that a table can say.
+pub fn starts_after(d: &[u8], n: u8) -> usize
+    ensures { λ r. ⌜ r ≡ starts (now (d .entry)) n ⌝ }
+{
+    starts_at(d, wide(n))
 }

@@ -144,33 +144,34 @@ pub fn track_numbered(t: &[u8], number: u8) -> Track
     found(Ask::Number(number), descriptors(t))
 }
 
-// Descriptor j lets the run from a up to e pass.
-fn passes(d: &[u8], a: usize, e: usize, j: usize) -> bool
+// Descriptor j lets the run of n blocks from a on pass.
+fn passes(d: &[u8], a: usize, n: usize, j: usize) -> bool
     requires { ⌜ row * j + row ≤ length (now d) ⌝ }
-    ensures { λ r. ⌜ r ≡ passes (now (d .entry)) a e j ⌝ }
+    ensures { λ r. ⌜ r ≡ passes (now (d .entry)) a (a + n) j ⌝ }
 {
     let start = address_at(d, j);
-    if a <= start {
-        if start < e {
-            let at = ROW * j;
-            let p = wide(d[at + POINT]);
-            if is_track(p) {
-                return is_data(d[at + FLAGS]);
-            }
-            return p != wide(A2);
-        }
+    if start < a {
+        return true;
     }
-    true
+    if n <= start - a {
+        return true;
+    }
+    let at = ROW * j;
+    let p = wide(d[at + POINT]);
+    if is_track(p) {
+        return is_data(d[at + FLAGS]);
+    }
+    p != wide(A2)
 }
 
 // Every descriptor lets the run pass.
-fn all_pass(d: &[u8], a: usize, e: usize) -> bool
-    ensures { λ r. ⌜ r ≡ every (rows (now (d .entry))) (passes (now (d .entry)) a e) ⌝ }
+fn all_pass(d: &[u8], a: usize, n: usize) -> bool
+    ensures { λ r. ⌜ r ≡ every (rows (now (d .entry))) (passes (now (d .entry)) a (a + n)) ⌝ }
 {
     let end = d.len() / ROW;
     let mut j = 0;
     while j < end {
-        if passes(d, a, e, j) {
+        if passes(d, a, n, j) {
             j += 1;
         } else {
             return false;
@@ -187,7 +188,7 @@ pub fn run_is_data(t: &[u8], a: usize, n: usize) -> bool
         return true;
     }
     if is_data(track_of(t, a).flags) {
-        return all_pass(descriptors(t), a, a + n);
+        return all_pass(descriptors(t), a, n);
     }
     false
 }

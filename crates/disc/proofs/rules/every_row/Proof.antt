@@ -1,0 +1,57 @@
+-- `disc::rules::every_row` meets its contract: each turn tests the next descriptor, and the first that fails decides.
+use mathlib.Core.Path.{_≡_, sym, _∙_}
+use mathlib.Core.Bool.{true}
+use Prim.Native.Nat.{_-_, _≤_}
+use native.Mathlib.Omega.{arith}
+use native.Mathlib.Nat.{le-antisymm}
+use borrow.Author.Needs.{needs}
+use Rattle.ground.specs.Tests.{every, every-none, every-more, every-breaks}
+use Rattle.disc.specs.Rules.{rowTest}
+use Rattle.disc.proofs.rules.every_row.Statement.{statement}
+use Rattle.disc.proofs.rules.every_row.Tie as tie
+use Rattle.disc.proofs.rules.every_row.Reads as reads
+use Rattle.disc.proofs.rules.every_row.Lts as lts
+use Rattle.disc.proofs.rules.row_test.Reads as row-test-reads
+
+abbrev Inv-loop : tie.InvT-loop
+Inv-loop n d end j₀ j = (j ≤ end) × (every j (rowTest n d) ≡ true)
+
+abbrev μ-loop : tie.MeasureT-loop
+μ-loop n d end j₀ j = end - j
+
+loop-holds : tie.Need-loop-holds Inv-loop μ-loop
+loop-holds c = (omega arith, every-none _)
+
+row-test-requires : tie.Need-row-test-requires Inv-loop μ-loop
+row-test-requires c κs = search needs
+
+add-j : tie.Need-add-j Inv-loop μ-loop
+add-j c = search needs
+
+loop-less : tie.Need-loop-less Inv-loop μ-loop
+loop-less c = search needs
+
+loop-again : tie.Need-loop-again Inv-loop μ-loop
+loop-again c = (omega arith, every-more _ _ (c .before .before .before .loop .inv .1) (sym (c .before .row-test .ensures) ∙ c .if1 .taken))
+
+returns : tie.Need-returns Inv-loop μ-loop
+returns c =
+    every-breaks _ _ (c .before .before .before .loop .j) (c .before .before .loop-test .taken)
+    (sym (c .before .row-test .ensures) ∙ c .if1 .left)
+
+returns-2 : tie.Need-returns-2 Inv-loop μ-loop
+returns-2 c = rw (le-antisymm (c .before .loop .inv .0) (c .loop-test .left)) at (sym (c .before .loop .inv .1))
+
+pub every-row-spec : {M : Type 1} → statement M
+every-row-spec =
+    tie.close
+    (tie.spec
+    Inv-loop
+    μ-loop
+    loop-holds
+    row-test-requires
+    add-j
+    loop-less
+    loop-again
+    returns
+    returns-2)

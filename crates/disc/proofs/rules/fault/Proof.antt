@@ -1,0 +1,76 @@
+-- `disc::rules::fault` meets its contract: the rules 1 and 2 are tested in turn, then those of the descriptors, and the first that fails is the answer.
+use mathlib.Core.Path.{sym, _∙_}
+use Rattle.ground.specs.Memory.{rest-all}
+use Rattle.disc.specs.Rules.{fault}
+use Rattle.disc.specs.RulesLaws.{firstBroken-on, firstBroken-off, rule1-parts}
+use borrow.Author.Needs.{needs}
+use Rattle.disc.proofs.rules.fault.Statement.{statement}
+use Rattle.disc.proofs.rules.fault.Tie as tie
+use Rattle.disc.proofs.rules.fault.Reads as reads
+use Rattle.disc.proofs.rules.fault.Lts as lts
+use Rattle.disc.proofs.rules.fault_of_rows.Reads as fault-of-rows-reads
+use Rattle.disc.proofs.rules.rule1.Reads as rule1-reads
+use Rattle.disc.proofs.rules.rule2.Reads as rule2-reads
+use Rattle.ground.proofs.number.wide.Reads as wide-reads
+
+rule1-requires : tie.Need-rule1-requires
+rule1-requires c κs = search needs
+
+rule2-requires : tie.Need-rule2-requires
+rule2-requires c κs = rule1-parts (sym (c .before .rule1 .ensures) ∙ c .if1 .taken) .least
+
+shared-slice-read-wide : tie.Need-shared-slice-read-wide
+shared-slice-read-wide c =
+    let s = rule1-parts (sym (c .before .before .before .before .rule1 .ensures) ∙ c .before .before .before .if1 .taken) in search needs
+
+wide-requires : tie.Need-wide-requires
+wide-requires c κs = search needs
+
+sub-fault-of-rows : tie.Need-sub-fault-of-rows
+sub-fault-of-rows c =
+    rule1-parts (sym (c .before .before .before .before .before .rule1 .ensures) ∙ c .before .before .before .before .if1 .taken) .least
+
+part-fault-of-rows-start : tie.Need-part-fault-of-rows-start
+part-fault-of-rows-start c =
+    let s = rule1-parts (sym (c .before .before .before .before .before .rule1 .ensures) ∙ c .before .before .before .before .if1 .taken) in
+    search needs
+
+part-fault-of-rows-end : tie.Need-part-fault-of-rows-end
+part-fault-of-rows-end c = search needs
+
+fault-of-rows-requires : tie.Need-fault-of-rows-requires
+fault-of-rows-requires c κs = search needs
+
+returns : tie.Need-returns
+unfolding fault
+returns c =
+    firstBroken-on _ _ _ (sym (c .before .before .before .before .before .before .before .rule1 .ensures)
+    ∙ c .before .before .before .before .before .before .if1 .taken)
+    (firstBroken-on _ _ _ (sym (c .before .before .before .before .before .rule2 .ensures) ∙ c .before .before .before .before .if2 .taken)
+    (rw (rest-all, c .before .before .wide .ensures .same) at (c .fault-of-rows .ensures)))
+
+returns-2 : tie.Need-returns-2
+unfolding fault
+returns-2 c =
+    firstBroken-on _ _ _ (sym (c .before .before .before .rule1 .ensures) ∙ c .before .before .if1 .taken)
+    (firstBroken-off _ _ _ (sym (c .before .rule2 .ensures) ∙ c .if2 .left))
+
+returns-3 : tie.Need-returns-3
+unfolding fault
+returns-3 c = firstBroken-off _ _ _ (sym (c .before .rule1 .ensures) ∙ c .if1 .left)
+
+pub fault-spec : {M : Type 1} → statement M
+fault-spec =
+    tie.close
+    (tie.spec
+    rule1-requires
+    rule2-requires
+    shared-slice-read-wide
+    wide-requires
+    sub-fault-of-rows
+    part-fault-of-rows-start
+    part-fault-of-rows-end
+    fault-of-rows-requires
+    returns
+    returns-2
+    returns-3)

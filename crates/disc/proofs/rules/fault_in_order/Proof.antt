@@ -1,0 +1,56 @@
+-- `disc::rules::fault_in_order` meets its contract: the rules 5 to 7 are tested in turn, and the first that fails is the answer.
+use mathlib.Core.Path.{sym, _∙_}
+use Rattle.disc.specs.Rules.{lateRules}
+use Rattle.disc.specs.RulesLaws.{firstBroken-on, firstBroken-off, firstBroken-none}
+use borrow.Author.Needs.{needs}
+use Rattle.disc.proofs.rules.fault_in_order.Statement.{statement}
+use Rattle.disc.proofs.rules.fault_in_order.Tie as tie
+use Rattle.disc.proofs.rules.fault_in_order.Reads as reads
+use Rattle.disc.proofs.rules.fault_in_order.Lts as lts
+use Rattle.disc.proofs.rules.every_row.Reads as every-row-reads
+use Rattle.disc.proofs.rules.rule7.Reads as rule7-reads
+
+every-row-requires : tie.Need-every-row-requires
+every-row-requires c κs = search needs
+
+every-row-requires-2 : tie.Need-every-row-requires-2
+every-row-requires-2 c κs = search needs
+
+rule7-requires : tie.Need-rule7-requires
+rule7-requires c κs = search needs
+
+returns : tie.Need-returns
+unfolding lateRules
+returns c =
+    firstBroken-on _ _ _ (sym (c .before .before .before .before .before .every-row .ensures) ∙ c .before .before .before .before .if1 .taken)
+    (firstBroken-on _ _ _ (sym (c .before .before .before .every-row2 .ensures) ∙ c .before .before .if2 .taken)
+    (firstBroken-on _ _ _ (sym (c .before .rule7 .ensures) ∙ c .if3 .taken) (firstBroken-none _)))
+
+returns-2 : tie.Need-returns-2
+unfolding lateRules
+returns-2 c =
+    firstBroken-on _ _ _ (sym (c .before .before .before .before .before .every-row .ensures) ∙ c .before .before .before .before .if1 .taken)
+    (firstBroken-on _ _ _ (sym (c .before .before .before .every-row2 .ensures) ∙ c .before .before .if2 .taken)
+    (firstBroken-off _ _ _ (sym (c .before .rule7 .ensures) ∙ c .if3 .left)))
+
+returns-3 : tie.Need-returns-3
+unfolding lateRules
+returns-3 c =
+    firstBroken-on _ _ _ (sym (c .before .before .before .every-row .ensures) ∙ c .before .before .if1 .taken)
+    (firstBroken-off _ _ _ (sym (c .before .every-row2 .ensures) ∙ c .if2 .left))
+
+returns-4 : tie.Need-returns-4
+unfolding lateRules
+returns-4 c = firstBroken-off _ _ _ (sym (c .before .every-row .ensures) ∙ c .if1 .left)
+
+pub fault-in-order-spec : {M : Type 1} → statement M
+fault-in-order-spec =
+    tie.close
+    (tie.spec
+    every-row-requires
+    every-row-requires-2
+    rule7-requires
+    returns
+    returns-2
+    returns-3
+    returns-4)

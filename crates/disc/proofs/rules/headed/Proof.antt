@@ -1,0 +1,109 @@
+-- `disc::rules::headed` meets its contract: the tests are the definition's, in its order.
+use mathlib.Core.Path.{sym, _∙_}
+use borrow.Author.Tests.{eq-eqb, ne-eqb}
+use Rattle.ground.specs.Tests.{and-on, and-off, when, unless}
+use Rattle.disc.specs.Rules.{headed}
+use Rattle.disc.specs.RulesLaws.{byte-is, byte-is-not}
+use borrow.Author.Needs.{needs}
+use Rattle.disc.proofs.rules.headed.Statement.{statement}
+use Rattle.disc.proofs.rules.headed.Tie as tie
+use Rattle.disc.proofs.rules.headed.Reads as reads
+use Rattle.disc.proofs.rules.headed.Lts as lts
+use Rattle.disc.proofs.rules.head_a0.Reads as head-a0-reads
+use Rattle.ground.proofs.number.wide.Reads as wide-reads
+
+mul-at : tie.Need-mul-at
+mul-at c = search needs
+
+add-wide : tie.Need-add-wide
+add-wide c = search needs
+
+shared-slice-read-wide : tie.Need-shared-slice-read-wide
+shared-slice-read-wide c = search needs
+
+wide-requires : tie.Need-wide-requires
+wide-requires c κs = search needs
+
+add-wide-2 : tie.Need-add-wide-2
+add-wide-2 c = search needs
+
+shared-slice-read-wide-2 : tie.Need-shared-slice-read-wide-2
+shared-slice-read-wide-2 c = search needs
+
+wide-requires-2 : tie.Need-wide-requires-2
+wide-requires-2 c κs = search needs
+
+add-wide-3 : tie.Need-add-wide-3
+add-wide-3 c = search needs
+
+shared-slice-read-wide-3 : tie.Need-shared-slice-read-wide-3
+shared-slice-read-wide-3 c = search needs
+
+wide-requires-3 : tie.Need-wide-requires-3
+wide-requires-3 c κs = search needs
+
+wide-requires-4 : tie.Need-wide-requires-4
+wide-requires-4 c κs = search needs
+
+head-a0-requires : tie.Need-head-a0-requires
+head-a0-requires c κs = search needs
+
+returns : tie.Need-returns
+unfolding headed
+returns c =
+    rw (c .before .before .before .before .before .wide2 .ensures .same, c .before .before .before .wide3 .ensures .same) at
+    (c .head-a0 .ensures)
+    ∙ sym (when _ _ _ (byte-is (c .before .before .before .before .before .before .before .wide .ensures) (c .before .before .wide4 .ensures)
+    (c .before .if1 .taken)))
+
+wide-requires-5 : tie.Need-wide-requires-5
+wide-requires-5 c κs = search needs
+
+returns-2 : tie.Need-returns-2
+unfolding headed
+returns-2 c =
+    and-on _ _ (eq-eqb _ _ (sym (c .before .before .before .before .before .before .before .wide2 .ensures .same) ∙ c .if3 .taken))
+    (rw (c .before .before .before .before .before .wide3 .ensures .same))
+    ∙ sym (unless _ _ _ (byte-is-not (c .before .before .before .before .before .before .before .before .before .wide .ensures)
+    (c .before .before .before .before .wide4 .ensures) (c .before .before .before .if1 .left))
+    ∙ when _ _ _ (byte-is (c .before .before .before .before .before .before .before .before .before .wide .ensures)
+    (c .before .before .wide5 .ensures) (c .before .if2 .taken)))
+
+returns-3 : tie.Need-returns-3
+unfolding headed
+returns-3 c =
+    and-off _ _ (ne-eqb _ _ (λ e. c .if3 .left (c .before .before .before .before .before .before .before .wide2 .ensures .same ∙ e)))
+    ∙ sym (unless _ _ _ (byte-is-not (c .before .before .before .before .before .before .before .before .before .wide .ensures)
+    (c .before .before .before .before .wide4 .ensures) (c .before .before .before .if1 .left))
+    ∙ when _ _ _ (byte-is (c .before .before .before .before .before .before .before .before .before .wide .ensures)
+    (c .before .before .wide5 .ensures) (c .before .if2 .taken)))
+
+returns-4 : tie.Need-returns-4
+unfolding headed
+returns-4 c =
+    sym (unless _ _ _ (byte-is-not (c .before .before .before .before .before .before .before .before .wide .ensures)
+    (c .before .before .before .wide4 .ensures) (c .before .before .if1 .left))
+    ∙ unless _ _ _ (byte-is-not (c .before .before .before .before .before .before .before .before .wide .ensures) (c .before .wide5 .ensures)
+    (c .if2 .left)))
+
+pub headed-spec : {M : Type 1} → statement M
+headed-spec =
+    tie.close
+    (tie.spec
+    mul-at
+    add-wide
+    shared-slice-read-wide
+    wide-requires
+    add-wide-2
+    shared-slice-read-wide-2
+    wide-requires-2
+    add-wide-3
+    shared-slice-read-wide-3
+    wide-requires-3
+    wide-requires-4
+    head-a0-requires
+    returns
+    wide-requires-5
+    returns-2
+    returns-3
+    returns-4)

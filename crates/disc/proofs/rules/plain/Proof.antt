@@ -1,0 +1,77 @@
+-- `disc::rules::plain` meets its contract: the three tests are the definition's, in its order.
+use mathlib.Core.Path.{sym, ap, _∙_}
+use Prim.Native.Nat.{ℕ, _/_}
+use borrow.Author.Tests.{eq-eqb, ne-eqb}
+use Rattle.ground.specs.Tests.{and-on, and-off, and-late}
+use Rattle.disc.specs.Rules.{plain}
+use borrow.Author.Needs.{needs}
+use Rattle.disc.proofs.rules.plain.Statement.{statement}
+use Rattle.disc.proofs.rules.plain.Tie as tie
+use Rattle.disc.proofs.rules.plain.Reads as reads
+use Rattle.disc.proofs.rules.plain.Lts as lts
+use Rattle.ground.proofs.number.wide.Reads as wide-reads
+
+mul-at : tie.Need-mul-at
+mul-at c = search needs
+
+add-wide : tie.Need-add-wide
+add-wide c = search needs
+
+shared-slice-read-wide : tie.Need-shared-slice-read-wide
+shared-slice-read-wide c = search needs
+
+wide-requires : tie.Need-wide-requires
+wide-requires c κs = search needs
+
+add-wide-2 : tie.Need-add-wide-2
+add-wide-2 c = search needs
+
+shared-slice-read-wide-2 : tie.Need-shared-slice-read-wide-2
+shared-slice-read-wide-2 c = search needs
+
+wide-requires-2 : tie.Need-wide-requires-2
+wide-requires-2 c κs = search needs
+
+add-wide-3 : tie.Need-add-wide-3
+add-wide-3 c = search needs
+
+shared-slice-read-wide-3 : tie.Need-shared-slice-read-wide-3
+shared-slice-read-wide-3 c = search needs
+
+wide-requires-3 : tie.Need-wide-requires-3
+wide-requires-3 c κs = search needs
+
+returns : tie.Need-returns
+unfolding plain
+returns c =
+    and-on _ _ (eq-eqb _ _
+    (ap (λ (x : ℕ). x / 16) (sym (c .before .before .before .before .before .before .wide .ensures .same))
+    ∙ c .before .before .before .before .before .if1 .taken))
+    (and-on _ _ (eq-eqb _ _ (sym (c .before .before .before .wide2 .ensures .same) ∙ c .before .before .if2 .taken))
+    (rw (c .wide3 .ensures .same)))
+
+returns-2 : tie.Need-returns-2
+unfolding plain
+returns-2 c = and-late _ _ (and-off _ _ (ne-eqb _ _ (λ e. c .if2 .left (c .before .wide2 .ensures .same ∙ e))))
+
+returns-3 : tie.Need-returns-3
+unfolding plain
+returns-3 c = and-off _ _ (ne-eqb _ _ (λ e. c .if1 .left (ap (λ (x : ℕ). x / 16) (c .before .wide .ensures .same) ∙ e)))
+
+pub plain-spec : {M : Type 1} → statement M
+plain-spec =
+    tie.close
+    (tie.spec
+    mul-at
+    add-wide
+    shared-slice-read-wide
+    wide-requires
+    add-wide-2
+    shared-slice-read-wide-2
+    wide-requires-2
+    add-wide-3
+    shared-slice-read-wide-3
+    wide-requires-3
+    returns
+    returns-2
+    returns-3)

@@ -1,0 +1,40 @@
+-- `disc::rules::row_test` meets its contract: the rule's number chooses the test as in the definition.
+use mathlib.Core.Path.{sym, _∙_}
+use borrow.Author.Tests.{eq-eqb, ne-eqb}
+use Rattle.ground.specs.Tests.{when, unless}
+use Rattle.disc.specs.Rules.{rowTest}
+use borrow.Author.Needs.{needs}
+use Rattle.disc.proofs.rules.row_test.Statement.{statement}
+use Rattle.disc.proofs.rules.row_test.Tie as tie
+use Rattle.disc.proofs.rules.row_test.Reads as reads
+use Rattle.disc.proofs.rules.row_test.Lts as lts
+use Rattle.disc.proofs.rules.addressed.Reads as addressed-reads
+use Rattle.disc.proofs.rules.headed.Reads as headed-reads
+use Rattle.disc.proofs.rules.plain.Reads as plain-reads
+
+plain-requires : tie.Need-plain-requires
+plain-requires c κs = search needs
+
+returns : tie.Need-returns
+unfolding rowTest
+returns c = c .plain .ensures ∙ sym (when _ _ _ (eq-eqb _ _ (c .before .if1 .taken)))
+
+headed-requires : tie.Need-headed-requires
+headed-requires c κs = search needs
+
+returns-2 : tie.Need-returns-2
+unfolding rowTest
+returns-2 c = c .headed .ensures ∙ sym (unless _ _ _ (ne-eqb _ _ (c .before .before .if1 .left)) ∙ when _ _ _ (eq-eqb _ _ (c .before .if2 .taken)))
+
+addressed-requires : tie.Need-addressed-requires
+addressed-requires c κs = search needs
+
+returns-3 : tie.Need-returns-3
+unfolding rowTest
+returns-3 c =
+    c .addressed .ensures ∙ sym (unless _ _ _ (ne-eqb _ _ (c .before .before .if1 .left)) ∙ unless _ _ _ (ne-eqb _ _ (c .before .if2 .left)))
+
+pub row-test-spec : {M : Type 1} → statement M
+row-test-spec =
+    tie.close
+    (tie.spec plain-requires returns headed-requires returns-2 addressed-requires returns-3)

@@ -1,0 +1,80 @@
+-- `disc::session::listed` meets its contract: the four tests are the definition's, in its order.
+use mathlib.Core.Path.{_≡_, sym, ap, _∙_}
+use mathlib.Core.Bool.{Bool}
+use mathlib.Core.List.{List}
+use Prim.Native.Nat.{ℕ}
+use Rattle.ground.specs.Number.{Byte}
+use Rattle.ground.specs.Tests.{and-on, and-off, and-late}
+use Rattle.disc.specs.Session.{names, listed}
+use borrow.Author.Needs.{needs}
+use Rattle.disc.proofs.session.listed.Statement.{statement}
+use Rattle.disc.proofs.session.listed.Tie as tie
+use Rattle.disc.proofs.session.listed.Reads as reads
+use Rattle.disc.proofs.session.listed.Lts as lts
+use Rattle.disc.proofs.session.lists_tracks.Reads as lists-tracks-reads
+use Rattle.disc.proofs.session.names.Reads as names-reads
+use Rattle.ground.proofs.number.wide.Reads as wide-reads
+
+-- what a test of descriptor j told, whose POINT was widened
+told : (d : List ℕ) (k j : ℕ) {p q : ℕ} {r b : Bool} → Byte p q → r ≡ names d k j q → r ≡ b → names d k j p ≡ b
+told d k j w e h = ap (names d k j) (sym (w .same)) ∙ sym e ∙ h
+
+wide-requires : tie.Need-wide-requires
+wide-requires c κs = search needs
+
+names-requires : tie.Need-names-requires
+names-requires c κs = search needs
+
+wide-requires-2 : tie.Need-wide-requires-2
+wide-requires-2 c κs = search needs
+
+names-requires-2 : tie.Need-names-requires-2
+names-requires-2 c κs = search needs
+
+wide-requires-3 : tie.Need-wide-requires-3
+wide-requires-3 c κs = search needs
+
+names-requires-3 : tie.Need-names-requires-3
+names-requires-3 c κs = search needs
+
+lists-tracks-requires : tie.Need-lists-tracks-requires
+lists-tracks-requires c κs = search needs
+
+returns : tie.Need-returns
+unfolding listed
+returns c =
+    and-on _ _ (told _ _ _ (c .before .before .before .before .before .before .before .before .before .wide .ensures)
+    (c .before .before .before .before .before .before .before .before .names .ensures)
+    (c .before .before .before .before .before .before .before .if1 .taken))
+    (and-on _ _ (told _ _ _ (c .before .before .before .before .before .before .wide2 .ensures)
+    (c .before .before .before .before .before .names2 .ensures) (c .before .before .before .before .if2 .taken))
+    (and-on _ _ (told _ _ _ (c .before .before .before .wide3 .ensures) (c .before .before .names3 .ensures) (c .before .if3 .taken))
+    (c .lists-tracks .ensures)))
+
+returns-2 : tie.Need-returns-2
+unfolding listed
+returns-2 c = and-late _ _ (and-late _ _ (and-off _ _ (told _ _ _ (c .before .before .wide3 .ensures) (c .before .names3 .ensures) (c .if3 .left))))
+
+returns-3 : tie.Need-returns-3
+unfolding listed
+returns-3 c = and-late _ _ (and-off _ _ (told _ _ _ (c .before .before .wide2 .ensures) (c .before .names2 .ensures) (c .if2 .left)))
+
+returns-4 : tie.Need-returns-4
+unfolding listed
+returns-4 c = and-off _ _ (told _ _ _ (c .before .before .wide .ensures) (c .before .names .ensures) (c .if1 .left))
+
+pub listed-spec : {M : Type 1} → statement M
+listed-spec =
+    tie.close
+    (tie.spec
+    wide-requires
+    names-requires
+    wide-requires-2
+    names-requires-2
+    wide-requires-3
+    names-requires-3
+    lists-tracks-requires
+    returns
+    returns-2
+    returns-3
+    returns-4)

@@ -1,0 +1,62 @@
+-- `disc::session::starts_at` meets its contract: after k sessions it stands where the next one begins (`starts-next`).
+use mathlib.Core.Path.{_≡_, ap, _∙_}
+use Prim.Native.Nat.{_≤_, _-_, _*_}
+use native.Mathlib.Omega.{arith}
+use borrow.Author.Needs.{needs}
+use denote.Ref.{now}
+use Rattle.disc.specs.Session.{starts}
+use Rattle.disc.specs.SessionLaws.{starts-none, starts-next}
+use Rattle.disc.proofs.session.starts_at.Statement.{statement}
+use Rattle.disc.proofs.session.starts_at.Tie as tie
+use Rattle.disc.proofs.session.starts_at.Reads as reads
+use Rattle.disc.proofs.session.starts_at.Lts as lts
+use Rattle.disc.proofs.session.size_at.Reads as size-at-reads
+
+abbrev Inv-loop : tie.InvT-loop
+Inv-loop d n k₀ at₀ k at = (k ≤ n) × (at ≡ starts d k) × (at ≤ 2849 * k)
+
+abbrev μ-loop : tie.MeasureT-loop
+μ-loop d n k₀ at₀ k at = n - k
+
+loop-holds : tie.Need-loop-holds Inv-loop μ-loop
+loop-holds c = (omega arith, starts-none _, omega arith)
+
+size-at-requires : tie.Need-size-at-requires Inv-loop μ-loop
+size-at-requires c κs = omega arith
+
+add-at : tie.Need-add-at Inv-loop μ-loop
+add-at c = let e = c .size-at .ensures .1 in omega arith
+
+add-k : tie.Need-add-k Inv-loop μ-loop
+add-k c = omega arith
+
+loop-less : tie.Need-loop-less Inv-loop μ-loop
+loop-less c = omega arith
+
+loop-again : tie.Need-loop-again Inv-loop μ-loop
+loop-again c =
+    let l = c .before .before .loop in
+    let s = c .size-at .ensures in
+    let r = s .1 in
+    (omega arith, starts-next _ (l .k) (l .inv .1) (s .0), omega arith)
+
+returns : tie.Need-returns Inv-loop μ-loop
+returns c =
+    let l = c .before .loop in
+    let x = c .before .before .before .args in
+    let e : l .k ≡ x .n = omega arith in
+    l .inv .1 ∙ ap (starts (now (x .d))) e
+
+pub starts-at-spec : {M : Type 1} → statement M
+starts-at-spec =
+    tie.close
+    (tie.spec
+    Inv-loop
+    μ-loop
+    loop-holds
+    size-at-requires
+    add-at
+    add-k
+    loop-less
+    loop-again
+    returns)

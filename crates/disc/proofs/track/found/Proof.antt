@@ -1,0 +1,68 @@
+-- `disc::track::found` meets its contract: after j descriptors it holds what the definition finds and the lead-out that stands there.
+use mathlib.Core.Path.{_≡_, sym, ap, _∙_}
+use Prim.Native.Nat.{_≤_, _-_}
+use native.Mathlib.Omega.{arith}
+use borrow.Author.Needs.{needs}
+use Rattle.disc.specs.Layout.{rows}
+use Rattle.disc.specs.Track.{outAt, nextOut, found, nextFound}
+use Rattle.disc.specs.TrackLaws.{outAt-none, outAt-next, found-none, found-next}
+use Rattle.disc.proofs.track.found.Statement.{statement}
+use Rattle.disc.proofs.track.found.Tie as tie
+use Rattle.disc.proofs.track.found.Reads as reads
+use Rattle.disc.proofs.track.found.Lts as lts
+use Rattle.disc.proofs.track.next_found.Reads as next-found-reads
+use Rattle.disc.proofs.track.next_out.Reads as next-out-reads
+use Rattle.disc.proofs.track.no_track.Reads as no-track-reads
+
+abbrev Inv-loop : tie.InvT-loop
+Inv-loop ask d end j₀ out₀ u₀ j out u = (j ≤ rows d) × (out ≡ outAt d j) × (u ≡ found ask d j)
+
+abbrev μ-loop : tie.MeasureT-loop
+μ-loop ask d end j₀ out₀ u₀ j out u = rows d - j
+
+-- src/track.rt:83:9
+no-track-requires : tie.Need-no-track-requires Inv-loop μ-loop
+no-track-requires c κs = search needs
+
+-- src/track.rt:84:5
+loop-holds : tie.Need-loop-holds Inv-loop μ-loop
+loop-holds c = (omega arith, sym (outAt-none _), c .no-track .ensures ∙ sym (found-none _ _))
+
+-- src/track.rt:85:9
+next-found-requires : tie.Need-next-found-requires Inv-loop μ-loop
+next-found-requires c κs = (omega arith, c .before .loop .inv .1)
+
+-- src/track.rt:86:9
+next-out-requires : tie.Need-next-out-requires Inv-loop μ-loop
+next-out-requires c κs = omega arith
+
+-- src/track.rt:87:9
+add-j : tie.Need-add-j Inv-loop μ-loop
+add-j c = omega arith
+
+-- src/track.rt:84:5
+loop-less : tie.Need-loop-less Inv-loop μ-loop
+loop-less c = omega arith
+
+-- src/track.rt:84:5
+loop-again : tie.Need-loop-again Inv-loop μ-loop
+loop-again c = (omega arith, c .next-out .ensures ∙ ap (nextOut _ _) (c .before .before .before .loop .inv .1) ∙ sym (outAt-next _ _), c .before .next-found .ensures ∙ ap (nextFound _ _ _) (c .before .before .before .loop .inv .2) ∙ sym (found-next _ _ _))
+
+-- src/track.rt:77:1
+returns : tie.Need-returns Inv-loop μ-loop
+returns c = c .before .loop .inv .2 ∙ ap (found _ _) (let l = c .before .loop .inv .0 in omega arith)
+
+pub found-spec : {M : Type 1} → statement M
+found-spec =
+    tie.close
+    (tie.spec
+    Inv-loop
+    μ-loop
+    no-track-requires
+    loop-holds
+    next-found-requires
+    next-out-requires
+    add-j
+    loop-less
+    loop-again
+    returns)

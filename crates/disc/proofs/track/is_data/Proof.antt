@@ -1,0 +1,18 @@
+-- `disc::track::is_data` meets its contract: the byte is the number that it writes.
+use borrow.Author.Needs.{needs}
+use Rattle.disc.proofs.track.is_data.Statement.{statement}
+use Rattle.disc.proofs.track.is_data.Tie as tie
+use Rattle.disc.proofs.track.is_data.Reads as reads
+use Rattle.disc.proofs.track.is_data.Lts as lts
+use Rattle.ground.proofs.number.wide.Reads as wide-reads
+
+-- src/track.rt:46:5
+wide-requires : tie.Need-wide-requires
+wide-requires c κs = search needs
+
+-- src/track.rt:43:1
+returns : tie.Need-returns
+returns c = rw (c .wide .ensures .same)
+
+pub is-data-spec : {M : Type 1} → statement M
+is-data-spec = tie.close (tie.spec wide-requires returns)

@@ -1,0 +1,65 @@
+-- The laws of a session's part: when it is given, and that it is never empty then.
+use mathlib.Core.Path.{_≡_, refl, sym, _∙_}
+use mathlib.Core.Bool.{Bool, true, false}
+use mathlib.Core.List.{List}
+use Prim.Native.Nat.{ℕ, _+_, _-_, _≤_}
+use native.Mathlib.Omega.{arith}
+use borrow.Author.Tests.{le-leb, leb-true, eq-eqb, ne-eqb}
+use lib.ListN.{length, take, drop}
+use lib.Dec.{leb}
+use Rattle.ground.specs.Memory.{rest-all}
+use Rattle.ground.specs.Tests.{_and_, and-head, and-tail, and-both, when, unless}
+use Rattle.disc.specs.Layout.{header, descriptors, lastSession}
+use Rattle.disc.specs.Session.{size, starts, session}
+use Rattle.disc.specs.Rules.{isFit}
+use Rattle.disc.specs.RulesLaws.{Fit, isFit-true, fit-isFit, fit-least}
+use Rattle.disc.specs.Part.{unfit, noSession, partRefusal, partStart, partSize}
+
+-- the part of session k is given: the table is fit, and it has the session
+pub record Given (t : List ℕ) (k : ℕ) : Type 0 where
+  pub fit : Fit t
+  pub low : 1 ≤ k
+  pub high : k ≤ lastSession t
+
+pub partRefusal-given : (t : List ℕ) (k : ℕ) → partRefusal t k ≡ 0 → Given t k
+unfolding partRefusal
+partRefusal-given t k h = decided (isFit t) (leb 1 k and leb k (lastSession t)) refl refl
+  where
+    decided : (a b : Bool) → isFit t ≡ a → (leb 1 k and leb k (lastSession t)) ≡ b → Given t k
+    decided true true p q = record { fit = isFit-true p; low = leb-true _ _ (and-head _ _ q); high = leb-true _ _ (and-tail _ _ q) }
+    decided true false p q = let z : noSession ≡ 0 = sym (when _ _ _ p ∙ unless _ _ _ q) ∙ h in absurd (omega arith)
+    decided false b p q = let z : unfit ≡ 0 = sym (unless _ _ _ p) ∙ h in absurd (omega arith)
+
+pub given-partRefusal : {t : List ℕ} {k : ℕ} → Given t k → 0 ≡ partRefusal t k
+unfolding partRefusal
+given-partRefusal g = sym (when _ _ _ (fit-isFit (g .fit)) ∙ when _ _ _ (and-both _ _ (le-leb _ _ (g .low)) (le-leb _ _ (g .high))))
+
+-- where the part stands that is given, and where it is refused
+pub partStart-given : (t : List ℕ) (k : ℕ) → partRefusal t k ≡ 0 → header + starts (descriptors t) (k - 1) ≡ partStart t k
+unfolding partStart
+partStart-given t k h = sym (when _ _ _ (eq-eqb _ _ h))
+
+pub partSize-given : (t : List ℕ) (k : ℕ) → partRefusal t k ≡ 0 → size (session (descriptors t) (k - 1)) ≡ partSize t k
+unfolding partSize
+partSize-given t k h = sym (when _ _ _ (eq-eqb _ _ h))
+
+pub partStart-refused : (t : List ℕ) (k : ℕ) → (partRefusal t k ≡ 0 → ⊥) → 0 ≡ partStart t k
+unfolding partStart
+partStart-refused t k n = sym (unless _ _ _ (ne-eqb _ _ n))
+
+pub partSize-refused : (t : List ℕ) (k : ℕ) → (partRefusal t k ≡ 0 → ⊥) → 0 ≡ partSize t k
+unfolding partSize
+partSize-refused t k n = sym (unless _ _ _ (ne-eqb _ _ n))
+
+-- "only a refusal gives an empty part"
+pub part-accepted : (t : List ℕ) (k : ℕ) → partRefusal t k ≡ 0 → 44 ≤ partSize t k
+part-accepted t k h =
+    let g = partRefusal-given t k h in
+    let e = partSize-given t k h in
+    let l = fit-least (g .fit) {k = k - 1} (omega arith) in
+    omega arith
+
+-- the rest of a rest, in the form in which the code lends it
+pub rest-rest : (i j : ℕ) (l : List ℕ)
+    → take (length (take (length l - i) (drop i l)) - j) (drop j (take (length l - i) (drop i l))) ≡ drop j (drop i l)
+rest-rest i j l = rw (rest-all i l) (rest-all j (drop i l))

@@ -1,0 +1,217 @@
+-- The laws of the seven rules, and what a fit table has.
+use mathlib.Core.Path.{_≡_, refl, sym, ap, _∙_}
+use mathlib.Core.Bool.{Bool, true, false}
+use mathlib.Core.List.{List, [], _∷_}
+use Prim.Native.Nat.{ℕ, suc, _+_, _-_, _*_, _/_, _%_, _≤_, _<_}
+use native.Mathlib.Omega.{arith}
+use native.Mathlib.Numerals.{add-one}
+use borrow.Author.Tests.{leb-true, eq-eqb, ne-eqb, eqb-true}
+use lib.ListN.{length, drop, length-drop}
+use lib.Dec.{eqb}
+use Rattle.ground.specs.Number.{Byte}
+use Rattle.ground.specs.Tests.{_and_, every, and-head, and-tail, and-both, every-none, every-more, every-at, every-all, every-breaks}
+use Rattle.disc.specs.Layout.{bound, dataLength, firstSession, lastSession, header, row, descriptors, rows}
+use Rattle.disc.specs.Session.{tracks, size, starts, session, inPlace, inOrder}
+use Rattle.disc.specs.SessionLaws.{IsSession, size-least, size-within, Walked, walked-none, walked-next, walked-all, starts-within, placed, inOrder-places, inOrder-end, rowsBefore, starts-rows}
+use Rattle.disc.specs.Rules.{rule1, rule2, rowTest, leadOut, trackStart, rises, outBefore, beginsAfter, rising, rule7, firstBroken, lateRules, rowRules, fault, isFit}
+
+-- ---- the first broken rule
+
+-- this rule is kept: the first broken one comes later
+pub firstBroken-on : (n : ℕ) (b : Bool) (tests : List Bool) {r : ℕ} → b ≡ true → r ≡ firstBroken (n + 1) tests → r ≡ firstBroken n (b ∷ tests)
+unfolding firstBroken
+firstBroken-on n true tests h e = e
+firstBroken-on n false tests h e = absurd (let z : _≡_ {A = ℕ} 0 1 = cc in omega arith)
+
+-- this rule is the first that is broken
+pub firstBroken-off : (n : ℕ) (b : Bool) (tests : List Bool) → b ≡ false → n ≡ firstBroken n (b ∷ tests)
+unfolding firstBroken
+firstBroken-off n false tests h = refl
+firstBroken-off n true tests h = absurd (let z : _≡_ {A = ℕ} 0 1 = cc in omega arith)
+
+pub firstBroken-none : (n : ℕ) → 0 ≡ firstBroken n []
+unfolding firstBroken
+firstBroken-none n = refl
+
+-- ---- a byte that was widened, tested against another
+
+pub byte-is : {p q r s : ℕ} → Byte p q → Byte r s → q ≡ s → eqb p r ≡ true
+byte-is v w e = eq-eqb _ _ (sym (v .same) ∙ e ∙ w .same)
+
+pub byte-is-not : {p q r s : ℕ} → Byte p q → Byte r s → (q ≡ s → ⊥) → eqb p r ≡ false
+byte-is-not v w n = ne-eqb _ _ (λ e. n (v .same ∙ e ∙ sym (w .same)))
+
+-- ---- rule 7, session by session
+
+-- the tracks of a session, off its size
+pub size-tracks : (s : List ℕ) → size s / row - 3 ≡ tracks s
+unfolding size
+size-tracks s = omega arith
+
+-- and those tracks are there
+pub size-rises : {k b : ℕ} {s : List ℕ} → IsSession k s → b ≡ size s → (1 ≤ b / row - 3) × (row * (3 + (b / row - 3)) ≤ length s)
+unfolding size
+size-rises i e = let f = i .fits in let o = i .order in (omega arith, omega arith)
+
+-- rule 7 holds of k of n sessions: the next begins at `at`, and the one before has its lead-out at `out`
+pub record Risen (n : ℕ) (d : List ℕ) (k at out : ℕ) : Type 0 where
+  pub walked : Walked n d k at
+  pub passed : every k (rising d) ≡ true
+  pub lead : out ≡ outBefore d k
+
+pub risen-none : (n : ℕ) (d : List ℕ) → Risen n d 0 0 0
+unfolding outBefore
+risen-none n d = record { walked = walked-none n d; passed = every-none (rising d); lead = refl }
+
+pub outBefore-next : (d : List ℕ) (k : ℕ) → outBefore d (k + 1) ≡ leadOut (session d k)
+unfolding outBefore
+outBefore-next d k = rw (add-one k)
+
+-- the tests of the session at `at` are those of session k + 1
+pub risen-here :
+    {n : ℕ} {d : List ℕ} {k at out : ℕ} → Risen n d k at out
+    → (rises (drop at d) (tracks (drop at d)) and beginsAfter k out (trackStart (drop at d) 0)) ≡ rising d k
+unfolding rising
+risen-here r = rw (r .walked .place, r .lead)
+
+pub risen-next :
+    {n : ℕ} {d : List ℕ} {k at out b o : ℕ} → Risen n d k at out → k < n → IsSession (k + 1) (drop at d) → b ≡ size (drop at d)
+    → o ≡ leadOut (drop at d)
+    → rises (drop at d) (tracks (drop at d)) ≡ true → beginsAfter k out (trackStart (drop at d) 0) ≡ true → Risen n d (k + 1) (at + b) o
+risen-next {d = d} {k} r i s e l h g = record {
+  walked = walked-next (r .walked) i s e;
+  passed = every-more k (rising d) (r .passed) (sym (risen-here r) ∙ and-both _ _ h g);
+  lead = l ∙ ap (λ (x : ℕ). leadOut (drop x d)) (r .walked .place) ∙ sym (outBefore-next d k);
+}
+
+-- the first test that fails breaks the rule
+pub risen-breaks :
+    {n : ℕ} {d : List ℕ} {k at out : ℕ} → Risen n d k at out → k < n
+    → false ≡ rises (drop at d) (tracks (drop at d)) and beginsAfter k out (trackStart (drop at d) 0) → false ≡ rule7 n d
+unfolding rule7
+risen-breaks {n} {d} {k} r i h = every-breaks n (rising d) k i (sym (h ∙ risen-here r))
+
+pub risen-end : {n : ℕ} {d : List ℕ} {k at out : ℕ} → Risen n d k at out → n ≤ k → true ≡ rule7 n d
+unfolding rule7
+risen-end r i = sym (rw (walked-all (r .walked) i) at (r .passed))
+
+-- ---- rules 1 and 2, their parts by name
+
+pub record Sized (t : List ℕ) : Type 0 where
+  pub least : header ≤ length t
+  pub most : length t ≤ bound
+  pub whole : (length t - header) % row ≡ 0
+  pub says : dataLength t ≡ length t - 2
+
+pub rule1-parts : {t : List ℕ} → rule1 t ≡ true → Sized t
+unfolding rule1
+rule1-parts h =
+    let u = and-tail _ _ h in
+    let v = and-tail _ _ u in
+    record {
+      least = leb-true _ _ (and-head _ _ h);
+      most = leb-true _ _ (and-head _ _ u);
+      whole = eqb-true _ _ (and-head _ _ v);
+      says = eqb-true _ _ (and-tail _ _ v);
+    }
+
+pub record Numbered (t : List ℕ) : Type 0 where
+  pub one : firstSession t ≡ 1
+  pub low : 1 ≤ lastSession t
+  pub high : lastSession t ≤ 99
+
+pub rule2-parts : {t : List ℕ} → rule2 t ≡ true → Numbered t
+unfolding rule2
+rule2-parts h =
+    let u = and-tail _ _ h in
+    record { one = eqb-true _ _ (and-head _ _ h); low = leb-true _ _ (and-head _ _ u); high = leb-true _ _ (and-tail _ _ u) }
+
+-- ---- a fit table
+
+-- every rule is kept
+pub record Fit (t : List ℕ) : Type 0 where
+  pub rule1 : rule1 t ≡ true
+  pub rule2 : rule2 t ≡ true
+  pub rule3 : every (rows (descriptors t)) (rowTest 3 (descriptors t)) ≡ true
+  pub rule4 : inOrder (lastSession t) (descriptors t) ≡ true
+  pub rule5 : every (rows (descriptors t)) (rowTest 5 (descriptors t)) ≡ true
+  pub rule6 : every (rows (descriptors t)) (rowTest 6 (descriptors t)) ≡ true
+  pub rule7 : rule7 (lastSession t) (descriptors t) ≡ true
+
+-- a test that the first broken rule is not: it holds, and the later ones are to be asked
+pub firstBroken-kept :
+    (n : ℕ) (b : Bool) (tests : List Bool) → firstBroken (suc n) (b ∷ tests) ≡ 0 → (b ≡ true) × (firstBroken (suc (suc n)) tests ≡ 0)
+unfolding firstBroken
+firstBroken-kept n true tests h = (refl, rw (add-one (suc n)) at h)
+firstBroken-kept n false tests h = absurd (omega arith)
+
+pub fault-fit : {t : List ℕ} → fault t ≡ 0 → Fit t
+unfolding fault rowRules lateRules
+fault-fit h =
+    let a = firstBroken-kept _ _ _ h in
+    let b = firstBroken-kept _ _ _ (a .1) in
+    let c = firstBroken-kept _ _ _ (b .1) in
+    let d = firstBroken-kept _ _ _ (c .1) in
+    let e = firstBroken-kept _ _ _ (d .1) in
+    let f = firstBroken-kept _ _ _ (e .1) in
+    let g = firstBroken-kept _ _ _ (f .1) in
+    record { rule1 = a .0; rule2 = b .0; rule3 = c .0; rule4 = d .0; rule5 = e .0; rule6 = f .0; rule7 = g .0 }
+
+pub fit-fault : {t : List ℕ} → Fit t → fault t ≡ 0
+unfolding fault rowRules lateRules
+fit-fault f =
+    sym (firstBroken-on _ _ _ (f .rule1) (firstBroken-on _ _ _ (f .rule2) (firstBroken-on _ _ _ (f .rule3) (firstBroken-on _ _ _ (f .rule4)
+    (firstBroken-on _ _ _ (f .rule5) (firstBroken-on _ _ _ (f .rule6) (firstBroken-on _ _ _ (f .rule7) (firstBroken-none _))))))))
+
+pub isFit-true : {t : List ℕ} → isFit t ≡ true → Fit t
+unfolding isFit
+isFit-true h = fault-fit (eqb-true _ _ h)
+
+pub fit-isFit : {t : List ℕ} → Fit t → isFit t ≡ true
+unfolding isFit
+fit-isFit f = eq-eqb _ _ (fit-fault f)
+
+-- ---- what a fit table has
+
+-- 4 to 4,360 bytes, S from 1 to 99
+pub fit-sized : {t : List ℕ} → Fit t → Sized t
+fit-sized f = rule1-parts (f .rule1)
+
+pub fit-numbered : {t : List ℕ} → Fit t → Numbered t
+fit-numbered f = rule2-parts (f .rule2)
+
+-- whole descriptors
+pub fit-rows : {t : List ℕ} → Fit t → length (descriptors t) ≡ row * rows (descriptors t)
+fit-rows {t} f = let s = fit-sized f in let e = length-drop header t in omega arith
+
+module _ {t : List ℕ} (f : Fit t) where
+  -- the sessions in their places, and nothing more
+  pub fit-places : every (lastSession t) (inPlace (descriptors t)) ≡ true
+  fit-places = inOrder-places _ _ (f .rule4)
+
+  pub fit-places-below : (k : ℕ) → k ≤ lastSession t → every k (inPlace (descriptors t)) ≡ true
+  fit-places-below k h = every-all _ _ (λ i l. every-at _ _ fit-places i (omega arith))
+
+  pub fit-end : starts (descriptors t) (lastSession t) ≡ length (descriptors t)
+  fit-end = inOrder-end _ _ (f .rule4)
+
+  pub fit-end-rows : rowsBefore (descriptors t) (lastSession t) ≡ rows (descriptors t)
+  fit-end-rows = let e = fit-end in let r = fit-rows f in let s = starts-rows (descriptors t) (lastSession t) in omega arith
+
+  -- each begins and ends in the table
+  pub fit-starts : (k : ℕ) → k ≤ lastSession t → starts (descriptors t) k ≤ length (descriptors t)
+  fit-starts k h = starts-within _ _ fit-places k h
+
+  pub fit-session : {k : ℕ} → k < lastSession t → IsSession (k + 1) (session (descriptors t) k)
+  fit-session h = placed _ _ fit-places h
+
+  pub fit-ends : {k : ℕ} → k < lastSession t → starts (descriptors t) k + size (session (descriptors t) k) ≤ length (descriptors t)
+  fit-ends {k} h = size-within _ _ (fit-starts k (omega arith)) (fit-session h)
+
+  -- and has four descriptors at least
+  pub fit-least : {k : ℕ} → k < lastSession t → 44 ≤ size (session (descriptors t) k)
+  fit-least h = size-least (fit-session h)
+
+  -- the last one
+  pub fit-last : IsSession (lastSession t - 1 + 1) (session (descriptors t) (lastSession t - 1))
+  fit-last = fit-session (let n = fit-numbered f in omega arith)

@@ -1,0 +1,26 @@
+-- `gate::unit::clear` meets its contract: it holds the table's first row.
+use mathlib.Core.Path.{ap, _∙_}
+use Rattle.drive.specs.declared.sense.Sense.{Sense}
+use Rattle.gate.specs.Unit.{hold}
+use borrow.Author.Needs.{needs}
+use Rattle.gate.proofs.unit.clear.Statement.{statement}
+use Rattle.gate.proofs.unit.clear.Tie as tie
+use Rattle.gate.proofs.unit.clear.Reads as reads
+use Rattle.gate.proofs.unit.clear.Lts as lts
+use Rattle.drive.proofs.sense.sense_at.Reads as sense-at-reads
+use Rattle.gate.proofs.unit.hold.Reads as hold-reads
+
+-- src/unit.rt:40:13
+sense-at-requires : tie.Need-sense-at-requires
+sense-at-requires c κs = search needs
+
+-- src/unit.rt:40:5
+hold-requires : tie.Need-hold-requires
+hold-requires c κs = search needs
+
+-- src/unit.rt:37:1
+returns : tie.Need-returns
+returns c = c .hold .ensures ∙ ap (λ (s : Sense). hold s (c .before .before .args .u)) (c .before .sense-at .ensures)
+
+pub clear-spec : {M : Type 1} → statement M
+clear-spec = tie.close (tie.spec sense-at-requires hold-requires returns)

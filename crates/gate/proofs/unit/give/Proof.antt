@@ -1,0 +1,77 @@
+-- `gate::unit::give` meets its contract: the test of the held sense is the definition's, and each way out gives what its calls give.
+use mathlib.Core.Path.{_≡_, sym, ap, _∙_}
+use mathlib.Core.Bool.{true, false}
+use Rattle.ground.specs.Tests.{when, unless}
+use Rattle.drive.specs.Sense.{noSense, sameSense}
+use Rattle.gate.specs.declared.unit.Pending.{Pending}
+use Rattle.gate.specs.Unit.{clear, attentionSense, told, give}
+use borrow.Author.Needs.{needs}
+use Rattle.gate.proofs.unit.give.Statement.{statement}
+use Rattle.gate.proofs.unit.give.Tie as tie
+use Rattle.gate.proofs.unit.give.Reads as reads
+use Rattle.gate.proofs.unit.give.Lts as lts
+use Rattle.drive.proofs.sense.same.Reads as same-reads
+use Rattle.drive.proofs.sense.sense_at.Reads as sense-at-reads
+use Rattle.gate.proofs.unit.clear.Reads as clear-reads
+use Rattle.gate.proofs.unit.first_pending.Reads as first-pending-reads
+use Rattle.gate.proofs.unit.sense_of_pending.Reads as sense-of-pending-reads
+use Rattle.gate.proofs.unit.told.Reads as told-reads
+
+-- src/unit.rt:92:19
+sense-at-requires : tie.Need-sense-at-requires
+sense-at-requires c κs = search needs
+
+-- src/unit.rt:92:8
+same-requires : tie.Need-same-requires
+same-requires c κs = search needs
+
+-- src/unit.rt:93:13
+first-pending-requires : tie.Need-first-pending-requires
+first-pending-requires c κs = search needs
+
+-- src/unit.rt:95:20
+sense-of-pending-requires : tie.Need-sense-of-pending-requires
+sense-of-pending-requires c κs = search needs
+
+-- src/unit.rt:96:25
+told-requires : tie.Need-told-requires
+told-requires c κs = search needs
+
+-- src/unit.rt:96:19
+clear-requires : tie.Need-clear-requires
+clear-requires c κs = search needs
+
+-- src/unit.rt:94:9
+returns : tie.Need-returns
+unfolding give
+returns c = let u = c .before .before .before .before .before .before .before .before .args .u in
+    let k : sameSense (u .sense) noSense ≡ true = ap (sameSense (u .sense)) (sym (c .before .before .before .before .before .before .sense-at .ensures)) ∙ sym (c .before .before .before .before .before .same .ensures) ∙ c .before .before .before .before .if1 .taken in
+    let p = c .before .before .before .first-pending .ensures in
+    let s = c .before .before .sense-of-pending .ensures ∙ ap attentionSense p in
+    let v = c .clear .ensures ∙ ap clear (c .before .told .ensures ∙ ap (λ (a : Pending). told a u) p) in
+    rw (s, v) (sym (when _ _ _ k))
+
+-- src/unit.rt:101:15
+clear-requires-2 : tie.Need-clear-requires-2
+clear-requires-2 c κs = search needs
+
+-- src/unit.rt:88:1
+returns-2 : tie.Need-returns-2
+unfolding give
+returns-2 c = let u = c .before .before .before .before .before .args .u in
+    let k : sameSense (u .sense) noSense ≡ false = ap (sameSense (u .sense)) (sym (c .before .before .before .sense-at .ensures)) ∙ sym (c .before .before .same .ensures) ∙ c .before .if1 .left in
+    rw (c .clear2 .ensures) (sym (unless _ _ _ k))
+
+pub give-spec : {M : Type 1} → statement M
+give-spec =
+    tie.close
+    (tie.spec
+    sense-at-requires
+    same-requires
+    first-pending-requires
+    sense-of-pending-requires
+    told-requires
+    clear-requires
+    returns
+    clear-requires-2
+    returns-2)

@@ -1,0 +1,15 @@
+-- The triples with which a command fails: the seven of the ten that are neither 00/00/00 nor an attention's.
+use Rattle.drive.specs.declared.sense.Sense.{Sense}
+use Rattle.drive.specs.Sense.{noMediumClosed, noMediumOpen, unknownCode, outOfRange, badField, removalPrevented, illegalMode}
+use Rattle.gate.specs.declared.fault.Fault.{Fault}
+use Rattle.gate.specs.declared.fault.Fault.the-variants.{NoMediumClosed, NoMediumOpen, UnknownCode, OutOfRange, BadField, RemovalPrevented, IllegalMode}
+
+-- the row of the table of triples that a fault cites
+abbrev pub senseOf : Fault → Sense
+senseOf NoMediumClosed = noMediumClosed
+senseOf NoMediumOpen = noMediumOpen
+senseOf UnknownCode = unknownCode
+senseOf OutOfRange = outOfRange
+senseOf BadField = badField
+senseOf RemovalPrevented = removalPrevented
+senseOf IllegalMode = illegalMode

@@ -1,0 +1,37 @@
+// The triples with which a command fails: the seven of the table that are no attention.
+use drive::sense::BAD_FIELD;
+use drive::sense::ILLEGAL_MODE;
+use drive::sense::NO_MEDIUM_CLOSED;
+use drive::sense::NO_MEDIUM_OPEN;
+use drive::sense::OUT_OF_RANGE;
+use drive::sense::REMOVAL_PREVENTED;
+use drive::sense::Sense;
+use drive::sense::UNKNOWN_CODE;
+use drive::sense::sense_at;
+ghost use mathlib.Core.Path.{_≡_};
+ghost use Rattle.gate.specs.Fault.{senseOf};
+
+pub enum Fault {
+    NoMediumClosed,
+    NoMediumOpen,
+    UnknownCode,
+    OutOfRange,
+    BadField,
+    RemovalPrevented,
+    IllegalMode,
+}
+
+// The row of the table that the fault cites.
+pub fn sense_of(f: Fault) -> Sense
+    ensures { λ r. ⌜ r ≡ senseOf f ⌝ }
+{
+    match f {
+        Fault::NoMediumClosed => sense_at(NO_MEDIUM_CLOSED),
+        Fault::NoMediumOpen => sense_at(NO_MEDIUM_OPEN),
+        Fault::UnknownCode => sense_at(UNKNOWN_CODE),
+        Fault::OutOfRange => sense_at(OUT_OF_RANGE),
+        Fault::BadField => sense_at(BAD_FIELD),
+        Fault::RemovalPrevented => sense_at(REMOVAL_PREVENTED),
+        Fault::IllegalMode => sense_at(ILLEGAL_MODE),
+    }
+}

@@ -1,0 +1,3 @@
+// The attention gate: which attention a packet tells, what it holds as sense, and REQUEST SENSE. It knows no mechanics.
+pub mod fault;
+pub mod unit;

@@ -1,0 +1,103 @@
+// What the gate does to the attention unit.
+use drive::sense::CHANGED;
+use drive::sense::NO_SENSE;
+use drive::sense::POWERED;
+use drive::sense::Sense;
+use drive::sense::same;
+use drive::sense::sense_at;
+use drive::state::Unit;
+ghost use mathlib.Core.Path.{_≡_};
+ghost use Rattle.gate.specs.Unit.{hold, clear, pendingOf, attentionSense, told, give};
+
+// The attention that is told next: power first.
+pub enum Pending {
+    Power,
+    Change,
+    Nothing,
+}
+
+// What REQUEST SENSE gives, and the unit then.
+pub struct Giving {
+    pub sense: Sense,
+    pub unit: Unit,
+}
+
+// The unit with the triple held as sense.
+pub fn hold(u: Unit, sense: Sense) -> Unit
+    ensures { λ r. ⌜ r ≡ hold sense u ⌝ }
+{
+    Unit {
+        power: u.power,
+        change: u.change,
+        sense,
+    }
+}
+
+// The unit after GOOD: sense 00/00/00.
+pub fn clear(u: Unit) -> Unit
+    ensures { λ r. ⌜ r ≡ clear u ⌝ }
+{
+    hold(u, sense_at(NO_SENSE))
+}
+
+// The attention that is pending, power first.
+pub fn first_pending(u: Unit) -> Pending
+    ensures { λ r. ⌜ r ≡ pendingOf u ⌝ }
+{
+    if u.power {
+        return Pending::Power;
+    }
+    if u.change {
+        return Pending::Change;
+    }
+    Pending::Nothing
+}
+
+// That attention stops being pending.
+pub fn told(u: Unit, a: Pending) -> Unit
+    ensures { λ r. ⌜ r ≡ told a u ⌝ }
+{
+    let sense = u.sense;
+    match a {
+        Pending::Power => Unit {
+            power: false,
+            change: u.change,
+            sense,
+        },
+        Pending::Change => Unit {
+            power: u.power,
+            change: false,
+            sense,
+        },
+        Pending::Nothing => u,
+    }
+}
+
+// The triple of an attention; 00/00/00 for none.
+pub fn sense_of_pending(a: Pending) -> Sense
+    ensures { λ r. ⌜ r ≡ attentionSense a ⌝ }
+{
+    match a {
+        Pending::Power => sense_at(POWERED),
+        Pending::Change => sense_at(CHANGED),
+        Pending::Nothing => sense_at(NO_SENSE),
+    }
+}
+
+// REQUEST SENSE: a held sense is given and cleared, attentions untouched; else a pending attention, power first, is given and cleared.
+pub fn give(u: Unit) -> Giving
+    ensures { λ r. ⌜ r ≡ give u ⌝ }
+{
+    let held = u.sense;
+    if same(held, sense_at(NO_SENSE)) {
+        let a = first_pending(u);
+        return Giving {
+            sense: sense_of_pending(a),
+            unit: clear(told(u, a)),
+        };
+    }
+    Giving {
+        sense: held,
+        unit: clear(u),
+    }
+}
