@@ -8,4 +8,8 @@ pub mod Part
 pub mod PartLaws
 pub mod Track
 pub mod TrackLaws
+pub mod RunLaws
+pub mod SpreadLaws
 pub mod Disc
+pub mod DiscLaws
+pub mod Examples

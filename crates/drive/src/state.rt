@@ -76,6 +76,16 @@ impl Unit {
 }
 
 impl Mechanics {
+    // Tray closed with a disc in.
+    pub fn is_loaded(self) -> bool
+        ensures { λ r. ⌜ r ≡ isLoaded self ⌝ }
+    {
+        if self.tray_open {
+            return false;
+        }
+        self.disc_in
+    }
+
     // The tray opens, by button or packet.
     pub fn opening(self) -> Shifted
         ensures { λ r. ⌜ r ≡ opening self ⌝ }
@@ -126,16 +136,6 @@ impl Mechanics {
 }
 
 impl Drive {
-    // Tray closed with a disc in.
-    pub fn is_loaded(self) -> bool
-        ensures { λ r. ⌜ r ≡ isLoaded (self .mechanics) ⌝ }
-    {
-        if self.mechanics.tray_open {
-            return false;
-        }
-        self.mechanics.disc_in
-    }
-
     // The state after the tray moved.
     pub fn shift(self, s: Shifted) -> Drive
         ensures { λ r. ⌜ r ≡ shift self s ⌝ }

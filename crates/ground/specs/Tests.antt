@@ -68,6 +68,22 @@ unfolding _and_
 and-assoc true b c = refl
 and-assoc false b c = refl
 
+-- ---- or
+
+pub or-left : (a b : Bool) → a ≡ true → a or b ≡ true
+unfolding _or_
+or-left a b h = rw h
+
+pub or-right : (a b : Bool) → b ≡ true → a or b ≡ true
+unfolding _or_
+or-right true b h = refl
+or-right false b h = h
+
+-- the first test fails: the second decides
+pub or-else : (a b : Bool) → a ≡ false → a or b ≡ b
+unfolding _or_
+or-else a b h = rw h
+
 -- ---- if
 
 module _ {ℓ} {A : Type ℓ} where

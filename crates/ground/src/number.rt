@@ -1,5 +1,6 @@
 // Numbers in bytes, the high byte first.
 ghost use mathlib.Core.Path.{_≡_};
+ghost use Prim.Native.Nat.{_<_};
 ghost use Rattle.ground.specs.Number.{Byte, word16, word32, bytes16, bytes32};
 
 // The byte as a wide number.
@@ -18,7 +19,8 @@ pub fn word16(high: u8, low: u8) -> usize
 
 // The number that four bytes write.
 pub fn word32(a: u8, b: u8, c: u8, d: u8) -> usize
-    ensures { λ r. ⌜ r ≡ word32 a b c d ⌝ }
+    ensures same { λ r. ⌜ r ≡ word32 a b c d ⌝ }
+    ensures small { λ r. ⌜ r < 4294967296 ⌝ }
 {
     word16(a, b) * 65536 + word16(c, d)
 }

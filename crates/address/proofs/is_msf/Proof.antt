@@ -9,23 +9,18 @@ use Rattle.address.proofs.is_msf.Reads as reads
 use Rattle.address.proofs.is_msf.Lts as lts
 use Rattle.address.proofs.to_block.Reads as to-block-reads
 
--- src/lib.rt:79:11
 to-block-requires : tie.Need-to-block-requires
 to-block-requires c κs = search needs
 
--- src/lib.rt:80:25
 enum-told : tie.Need-enum-told
 enum-told c = search needs
 
--- src/lib.rt:81:27
 enum-told-2 : tie.Need-enum-told-2
 enum-told-2 c = search needs
 
--- src/lib.rt:76:1
 returns : tie.Need-returns
 returns c = toBlock-accepts _ _ _ _ (sym (ap blockMeaning (c .enum-told .given .1)) ∙ c .before .before .to-block .ensures)
 
--- src/lib.rt:76:1
 returns-2 : tie.Need-returns-2
 returns-2 c = toBlock-refuses _ _ _ (sym (ap blockMeaning (c .enum-told2 .given .1)) ∙ c .before .before .to-block .ensures)
 

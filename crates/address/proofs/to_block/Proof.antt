@@ -11,27 +11,21 @@ use Rattle.address.proofs.to_block.Reads as reads
 use Rattle.address.proofs.to_block.Lts as lts
 use Rattle.address.proofs.frames_of.Reads as frames-of-reads
 
--- src/lib.rt:47:9
 returns : tie.Need-returns
 returns c = sym (toBlock-refused _ _ _ (λ r. omega arith))
 
--- src/lib.rt:50:9
 returns-2 : tie.Need-returns-2
 returns-2 c = sym (toBlock-refused _ _ _ (λ r. omega arith))
 
--- src/lib.rt:53:9
 returns-3 : tie.Need-returns-3
 returns-3 c = sym (toBlock-refused _ _ _ (λ r. omega arith))
 
--- src/lib.rt:55:9
 frames-of-requires : tie.Need-frames-of-requires
 frames-of-requires c κs = search needs
 
--- src/lib.rt:57:9
 returns-4 : tie.Need-returns-4
 returns-4 c = sym (toBlock-refused _ _ _ (λ r. let e = c .before .frames-of .ensures in omega arith))
 
--- src/lib.rt:43:1
 returns-5 : tie.Need-returns-5
 returns-5 c =
     let e = c .before .frames-of .ensures in

@@ -7,27 +7,21 @@ use Rattle.address.proofs.to_msf.Tie as tie
 use Rattle.address.proofs.to_msf.Reads as reads
 use Rattle.address.proofs.to_msf.Lts as lts
 
--- src/lib.rt:32:9
 returns : tie.Need-returns
 returns c = sym (toMsf-refused _ (c .if1 .taken))
 
--- src/lib.rt:34:18
 add-frames : tie.Need-add-frames
 add-frames c = search needs
 
--- src/lib.rt:36:17
 cast-t6 : tie.Need-cast-t6
 cast-t6 c = search needs
 
--- src/lib.rt:37:17
 cast-t9 : tie.Need-cast-t9
 cast-t9 c = search needs
 
--- src/lib.rt:38:16
 cast-t11 : tie.Need-cast-t11
 cast-t11 c = search needs
 
--- src/lib.rt:28:1
 returns-2 : tie.Need-returns-2
 returns-2 c = sym (toMsf-at _ (c .if1 .left))
 

@@ -10,15 +10,12 @@ use Rattle.disc.proofs.session.starts_after.Lts as lts
 use Rattle.disc.proofs.session.starts_at.Reads as starts-at-reads
 use Rattle.ground.proofs.number.wide.Reads as wide-reads
 
--- src/session.rt:186:18
 wide-requires : tie.Need-wide-requires
 wide-requires c κs = search needs
 
--- src/session.rt:186:5
 starts-at-requires : tie.Need-starts-at-requires
 starts-at-requires c κs = search needs
 
--- src/session.rt:183:1
 returns : tie.Need-returns
 returns c = let x = c .before .before .before .args in c .starts-at .ensures ∙ ap (starts (now (x .d))) (c .before .wide .ensures .same)
 

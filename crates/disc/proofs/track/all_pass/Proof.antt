@@ -18,31 +18,24 @@ Inv-loop d a n end j₀ j = (j ≤ rows d) × (every j (passes d a (a + n)) ≡ 
 abbrev μ-loop : tie.MeasureT-loop
 μ-loop d a n end j₀ j = rows d - j
 
--- src/track.rt:173:5
 loop-holds : tie.Need-loop-holds Inv-loop μ-loop
 loop-holds c = (omega arith, every-none _)
 
--- src/track.rt:174:12
 passes-requires : tie.Need-passes-requires Inv-loop μ-loop
 passes-requires c κs = omega arith
 
--- src/track.rt:175:13
 add-j : tie.Need-add-j Inv-loop μ-loop
 add-j c = omega arith
 
--- src/track.rt:173:5
 loop-less : tie.Need-loop-less Inv-loop μ-loop
 loop-less c = omega arith
 
--- src/track.rt:173:5
 loop-again : tie.Need-loop-again Inv-loop μ-loop
 loop-again c = (omega arith, every-more _ _ (c .before .before .before .loop .inv .1) (sym (c .before .passes .ensures) ∙ c .if1 .taken))
 
--- src/track.rt:177:13
 returns : tie.Need-returns Inv-loop μ-loop
 returns c = every-breaks _ _ _ (c .before .before .loop-test .taken) (sym (c .before .passes .ensures) ∙ c .if1 .left)
 
--- src/track.rt:168:1
 returns-2 : tie.Need-returns-2 Inv-loop μ-loop
 returns-2 c = sym (every-all _ _ (λ i k. every-at _ _ (c .before .loop .inv .1) i (omega arith)))
 

@@ -8,12 +8,10 @@ use Rattle.disc.proofs.track.covers.Tie as tie
 use Rattle.disc.proofs.track.covers.Reads as reads
 use Rattle.disc.proofs.track.covers.Lts as lts
 
--- src/track.rt:71:9
 returns : tie.Need-returns
 unfolding covers
 returns c = and-on _ _ (le-leb _ _ (c .if1 .taken)) refl
 
--- src/track.rt:67:1
 returns-2 : tie.Need-returns-2
 unfolding covers
 returns-2 c = and-off _ _ (lt-leb _ _ (c .if1 .left))

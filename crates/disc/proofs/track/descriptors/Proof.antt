@@ -9,27 +9,21 @@ use Rattle.disc.proofs.track.descriptors.Tie as tie
 use Rattle.disc.proofs.track.descriptors.Reads as reads
 use Rattle.disc.proofs.track.descriptors.Lts as lts
 
--- src/track.rt:124:9
 slice-aggregate-result : tie.Need-slice-aggregate-result
 slice-aggregate-result c = search needs
 
--- src/track.rt:124:9
 returns : tie.Need-returns
 returns c = sym (drop-of-length-le (c .before .before .args .t .now) {i = 4} (omega arith))
 
--- src/track.rt:126:5
 sub-result : tie.Need-sub-result
 sub-result c = search needs
 
--- src/track.rt:126:5
 part-result-start : tie.Need-part-result-start
 part-result-start c = search needs
 
--- src/track.rt:126:5
 part-result-end : tie.Need-part-result-end
 part-result-end c = search needs
 
--- src/track.rt:120:1
 returns-2 : tie.Need-returns-2
 returns-2 c = rest-all 4 (c .before .before .args .t .now)
 

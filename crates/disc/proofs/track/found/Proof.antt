@@ -20,35 +20,27 @@ Inv-loop ask d end j₀ out₀ u₀ j out u = (j ≤ rows d) × (out ≡ outAt d
 abbrev μ-loop : tie.MeasureT-loop
 μ-loop ask d end j₀ out₀ u₀ j out u = rows d - j
 
--- src/track.rt:83:9
 no-track-requires : tie.Need-no-track-requires Inv-loop μ-loop
 no-track-requires c κs = search needs
 
--- src/track.rt:84:5
 loop-holds : tie.Need-loop-holds Inv-loop μ-loop
 loop-holds c = (omega arith, sym (outAt-none _), c .no-track .ensures ∙ sym (found-none _ _))
 
--- src/track.rt:85:9
 next-found-requires : tie.Need-next-found-requires Inv-loop μ-loop
 next-found-requires c κs = (omega arith, c .before .loop .inv .1)
 
--- src/track.rt:86:9
 next-out-requires : tie.Need-next-out-requires Inv-loop μ-loop
 next-out-requires c κs = omega arith
 
--- src/track.rt:87:9
 add-j : tie.Need-add-j Inv-loop μ-loop
 add-j c = omega arith
 
--- src/track.rt:84:5
 loop-less : tie.Need-loop-less Inv-loop μ-loop
 loop-less c = omega arith
 
--- src/track.rt:84:5
 loop-again : tie.Need-loop-again Inv-loop μ-loop
 loop-again c = (omega arith, c .next-out .ensures ∙ ap (nextOut _ _) (c .before .before .before .loop .inv .1) ∙ sym (outAt-next _ _), c .before .next-found .ensures ∙ ap (nextFound _ _ _) (c .before .before .before .loop .inv .2) ∙ sym (found-next _ _ _))
 
--- src/track.rt:77:1
 returns : tie.Need-returns Inv-loop μ-loop
 returns c = c .before .loop .inv .2 ∙ ap (found _ _) (let l = c .before .loop .inv .0 in omega arith)
 

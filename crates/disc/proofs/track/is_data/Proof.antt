@@ -6,11 +6,9 @@ use Rattle.disc.proofs.track.is_data.Reads as reads
 use Rattle.disc.proofs.track.is_data.Lts as lts
 use Rattle.ground.proofs.number.wide.Reads as wide-reads
 
--- src/track.rt:46:5
 wide-requires : tie.Need-wide-requires
 wide-requires c κs = search needs
 
--- src/track.rt:43:1
 returns : tie.Need-returns
 returns c = rw (c .wide .ensures .same)
 

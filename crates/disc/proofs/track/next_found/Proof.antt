@@ -9,39 +9,30 @@ use Rattle.disc.proofs.track.next_found.Lts as lts
 use Rattle.disc.proofs.layout.address_at.Reads as address-at-reads
 use Rattle.disc.proofs.track.wanted.Reads as wanted-reads
 
--- src/track.rt:96:8
 wanted-requires : tie.Need-wanted-requires
 wanted-requires c κs = search needs
 
--- src/track.rt:97:18
 mul-at : tie.Need-mul-at
 mul-at c = search needs
 
--- src/track.rt:99:23
 add-t8 : tie.Need-add-t8
 add-t8 c = search needs
 
--- src/track.rt:99:21
 shared-slice-read-t10 : tie.Need-shared-slice-read-t10
 shared-slice-read-t10 c = search needs
 
--- src/track.rt:100:22
 add-t11 : tie.Need-add-t11
 add-t11 c = search needs
 
--- src/track.rt:100:20
 shared-slice-read-t13 : tie.Need-shared-slice-read-t13
 shared-slice-read-t13 c = search needs
 
--- src/track.rt:101:20
 address-at-requires : tie.Need-address-at-requires
 address-at-requires c κs = search needs
 
--- src/track.rt:98:9
 returns : tie.Need-returns
 returns c = nextFound-made _ _ _ _ (sym (c .before .before .before .before .wanted .ensures) ∙ c .before .before .before .if1 .taken) (c .address-at .ensures) (c .before .before .before .before .before .before .pre .1)
 
--- src/track.rt:92:1
 returns-2 : tie.Need-returns-2
 returns-2 c = sym (nextFound-on _ _ _ _ (sym (c .before .wanted .ensures) ∙ c .if1 .left))
 

@@ -9,35 +9,27 @@ use Rattle.disc.proofs.track.next_out.Lts as lts
 use Rattle.disc.proofs.layout.address_at.Reads as address-at-reads
 use Rattle.ground.proofs.number.wide.Reads as wide-reads
 
--- src/track.rt:112:14
 mul-at : tie.Need-mul-at
 mul-at c = search needs
 
--- src/track.rt:113:15
 add-wide : tie.Need-add-wide
 add-wide c = search needs
 
--- src/track.rt:113:13
 shared-slice-read-wide : tie.Need-shared-slice-read-wide
 shared-slice-read-wide c = search needs
 
--- src/track.rt:113:8
 wide-requires : tie.Need-wide-requires
 wide-requires c κs = search needs
 
--- src/track.rt:113:31
 wide-requires-2 : tie.Need-wide-requires-2
 wide-requires-2 c κs = search needs
 
--- src/track.rt:114:9
 address-at-requires : tie.Need-address-at-requires
 address-at-requires c κs = search needs
 
--- src/track.rt:114:9
 returns : tie.Need-returns
 returns c = c .address-at .ensures ∙ sym (nextOut-here _ _ _ (sym (c .before .before .before .wide .ensures .same) ∙ c .before .if1 .taken ∙ c .before .before .wide2 .ensures .same))
 
--- src/track.rt:108:1
 returns-2 : tie.Need-returns-2
 returns-2 c = sym (nextOut-on _ _ _ (λ e. c .if1 .left (c .before .before .wide .ensures .same ∙ e ∙ sym (c .before .wide2 .ensures .same))))
 

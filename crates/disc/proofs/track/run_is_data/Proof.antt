@@ -1,7 +1,7 @@
 -- `disc::track::run_is_data` meets its contract: each way out is one law of the run.
 use mathlib.Core.Path.{sym, _∙_}
 use Rattle.disc.specs.Track.{inData}
-use Rattle.disc.specs.TrackLaws.{run-none, run-off, run-on}
+use Rattle.disc.specs.RunLaws.{run-none, run-off, run-on}
 use borrow.Author.Needs.{needs}
 use Rattle.disc.proofs.track.run_is_data.Statement.{statement}
 use Rattle.disc.proofs.track.run_is_data.Tie as tie
@@ -12,32 +12,25 @@ use Rattle.disc.proofs.track.descriptors.Reads as descriptors-reads
 use Rattle.disc.proofs.track.is_data.Reads as is-data-reads
 use Rattle.disc.proofs.track.track_of.Reads as track-of-reads
 
--- src/track.rt:188:9
 returns : tie.Need-returns
 returns c = sym (run-none _ _ _ (c .if1 .taken))
 
--- src/track.rt:190:16
 track-of-requires : tie.Need-track-of-requires
 track-of-requires c κs = search needs
 
--- src/track.rt:190:8
 is-data-requires : tie.Need-is-data-requires
 is-data-requires c κs = search needs
 
--- src/track.rt:191:25
 descriptors-requires : tie.Need-descriptors-requires
 descriptors-requires c κs = search needs
 
--- src/track.rt:191:9
 all-pass-requires : tie.Need-all-pass-requires
 all-pass-requires c κs = search needs
 
--- src/track.rt:191:9
 returns-2 : tie.Need-returns-2
 unfolding inData
 returns-2 c = rw (c .before .descriptors .ensures) at (c .all-pass .ensures) ∙ sym (run-on _ _ _ (c .before .before .before .before .before .if1 .left) (rw (c .before .before .before .before .track-of .ensures) at (sym (c .before .before .before .is-data .ensures) ∙ c .before .before .if2 .taken)))
 
--- src/track.rt:184:1
 returns-3 : tie.Need-returns-3
 unfolding inData
 returns-3 c = sym (run-off _ _ _ (c .before .before .before .if1 .left) (rw (c .before .before .track-of .ensures) at (sym (c .before .is-data .ensures) ∙ c .if2 .left)))

@@ -8,15 +8,12 @@ use Rattle.disc.proofs.track.track_numbered.Lts as lts
 use Rattle.disc.proofs.track.descriptors.Reads as descriptors-reads
 use Rattle.disc.proofs.track.found.Reads as found-reads
 
--- src/track.rt:144:32
 descriptors-requires : tie.Need-descriptors-requires
 descriptors-requires c κs = search needs
 
--- src/track.rt:144:5
 found-requires : tie.Need-found-requires
 found-requires c κs = search needs
 
--- src/track.rt:141:1
 returns : tie.Need-returns
 unfolding trackNumbered
 returns c = rw (c .before .descriptors .ensures) at (c .found .ensures)

@@ -10,23 +10,18 @@ use Rattle.disc.proofs.track.descriptors.Reads as descriptors-reads
 use Rattle.disc.proofs.track.found.Reads as found-reads
 use Rattle.disc.proofs.track.no_track.Reads as no-track-reads
 
--- src/track.rt:133:38
 descriptors-requires : tie.Need-descriptors-requires
 descriptors-requires c κs = search needs
 
--- src/track.rt:133:9
 found-requires : tie.Need-found-requires
 found-requires c κs = search needs
 
--- src/track.rt:135:9
 returns : tie.Need-returns
 returns c = trackOf-below _ _ (rw (c .before .before .before .descriptors .ensures) at (c .before .before .found .ensures)) (c .if1 .taken)
 
--- src/track.rt:137:5
 no-track-requires : tie.Need-no-track-requires
 no-track-requires c κs = search needs
 
--- src/track.rt:130:1
 returns-2 : tie.Need-returns-2
 returns-2 c = c .no-track .ensures ∙ sym (trackOf-past _ _ (rw (c .before .before .before .before .descriptors .ensures) at (c .before .before .before .found .ensures)) (c .before .if1 .left))
 

@@ -12,55 +12,42 @@ use Rattle.disc.proofs.layout.is_track.Reads as is-track-reads
 use Rattle.disc.proofs.track.covers.Reads as covers-reads
 use Rattle.ground.proofs.number.wide.Reads as wide-reads
 
--- src/track.rt:54:14
 mul-at : tie.Need-mul-at
 mul-at c = search needs
 
--- src/track.rt:55:20
 add-wide : tie.Need-add-wide
 add-wide c = search needs
 
--- src/track.rt:55:18
 shared-slice-read-wide : tie.Need-shared-slice-read-wide
 shared-slice-read-wide c = search needs
 
--- src/track.rt:55:9
 wide-requires : tie.Need-wide-requires
 wide-requires c κs = search needs
 
--- src/track.rt:56:8
 is-track-requires : tie.Need-is-track-requires
 is-track-requires c κs = search needs
 
--- src/track.rt:57:13
 address-at-requires : tie.Need-address-at-requires
 address-at-requires c κs = search needs
 
--- src/track.rt:59:24
 enum-known-ask : tie.Need-enum-known-ask
 enum-known-ask c = search needs
 
--- src/track.rt:59:30
 covers-requires : tie.Need-covers-requires
 covers-requires c κs = search needs
 
--- src/track.rt:60:25
 enum-known-ask-2 : tie.Need-enum-known-ask-2
 enum-known-ask-2 c = search needs
 
--- src/track.rt:60:36
 wide-requires-2 : tie.Need-wide-requires-2
 wide-requires-2 c κs = search needs
 
--- src/track.rt:58:9
 returns : tie.Need-returns
 returns c = rw (c .covers .ensures, c .before .before .before .before .address-at .ensures, c .before .before .ask .given .1) (wanted-block _ _ _ _ (ap isTrack (sym (c .before .before .before .before .before .before .before .wide .ensures .same)) ∙ sym (c .before .before .before .before .before .before .is-track .ensures) ∙ c .before .before .before .before .before .if1 .taken))
 
--- src/track.rt:58:9
 returns-2 : tie.Need-returns-2
 returns-2 c = rw (c .before .before .before .before .before .before .before .wide .ensures .same, c .wide2 .ensures .same, c .before .before .ask2 .given .1) (wanted-number _ _ _ _ (ap isTrack (sym (c .before .before .before .before .before .before .before .wide .ensures .same)) ∙ sym (c .before .before .before .before .before .before .is-track .ensures) ∙ c .before .before .before .before .before .if1 .taken))
 
--- src/track.rt:50:1
 returns-3 : tie.Need-returns-3
 returns-3 c = wanted-not _ _ _ _ (ap isTrack (sym (c .before .before .wide .ensures .same)) ∙ sym (c .before .is-track .ensures) ∙ c .if1 .left)
 

@@ -20,36 +20,28 @@ Inv-loop s i₀ i = (i ≤ 10) × (among (drop i senses) s ≡ isKnown s)
 abbrev μ-loop : tie.MeasureT-loop
 μ-loop s i₀ i = 10 - i
 
--- src/sense.rt:113:5
 loop-holds : tie.Need-loop-holds Inv-loop μ-loop
 unfolding isKnown
 loop-holds c = (omega arith, refl)
 
--- src/sense.rt:114:17
 sense-at-requires : tie.Need-sense-at-requires Inv-loop μ-loop
 sense-at-requires c κs = search needs
 
--- src/sense.rt:114:12
 same-requires : tie.Need-same-requires Inv-loop μ-loop
 same-requires c κs = search needs
 
--- src/sense.rt:115:13
 returns : tie.Need-returns Inv-loop μ-loop
 returns c = among-here _ _ (c .before .before .before .loop-test .taken) (ap (λ (r : Sense). sameSense r (c .before .before .before .before .before .args .s)) (sym (c .before .before .sense-at .ensures)) ∙ sym (c .before .same .ensures) ∙ c .if1 .taken) ∙ c .before .before .before .before .loop .inv .1
 
--- src/sense.rt:117:9
 add-i : tie.Need-add-i Inv-loop μ-loop
 add-i c = search needs
 
--- src/sense.rt:113:5
 loop-less : tie.Need-loop-less Inv-loop μ-loop
 loop-less c = search needs
 
--- src/sense.rt:113:5
 loop-again : tie.Need-loop-again Inv-loop μ-loop
 loop-again c = (omega arith, sym (among-on _ _ (c .before .before .before .loop-test .taken) (ap (λ (r : Sense). sameSense r (c .before .before .before .before .before .args .s)) (sym (c .before .before .sense-at .ensures)) ∙ sym (c .before .same .ensures) ∙ c .if1 .left)) ∙ c .before .before .before .before .loop .inv .1)
 
--- src/sense.rt:109:1
 returns-2 : tie.Need-returns-2 Inv-loop μ-loop
 returns-2 c = among-none _ _ (c .loop-test .left) ∙ c .before .loop .inv .1
 

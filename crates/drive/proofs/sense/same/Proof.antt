@@ -8,17 +8,14 @@ use Rattle.drive.proofs.sense.same.Tie as tie
 use Rattle.drive.proofs.sense.same.Reads as reads
 use Rattle.drive.proofs.sense.same.Lts as lts
 
--- src/sense.rt:101:13
 returns : tie.Need-returns
 unfolding sameSense
 returns c = and-on _ _ (eq-eqb _ _ (c .before .before .before .before .before .if1 .taken)) (and-on _ _ (eq-eqb _ _ (c .before .before .if2 .taken)) refl)
 
--- src/sense.rt:103:9
 returns-2 : tie.Need-returns-2
 unfolding sameSense
 returns-2 c = and-late _ _ (and-off _ _ (ne-eqb _ _ (c .if2 .left)))
 
--- src/sense.rt:96:1
 returns-3 : tie.Need-returns-3
 unfolding sameSense
 returns-3 c = and-off _ _ (ne-eqb _ _ (c .if1 .left))

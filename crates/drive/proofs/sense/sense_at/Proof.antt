@@ -8,24 +8,19 @@ use Rattle.drive.proofs.sense.sense_at.Tie as tie
 use Rattle.drive.proofs.sense.sense_at.Reads as reads
 use Rattle.drive.proofs.sense.sense_at.Lts as lts
 
--- src/sense.rt:90:16
 mul-result : tie.Need-mul-result
 mul-result c = search needs
 
--- src/sense.rt:90:16
 array-copy-out-result : tie.Need-array-copy-out-result
 array-copy-out-result c = search needs
 
--- src/sense.rt:90:9
 returns : tie.Need-returns
 unfolding senseAt
 returns c = refl
 
--- src/sense.rt:92:5
 array-copy-out-result-2 : tie.Need-array-copy-out-result-2
 array-copy-out-result-2 c = search needs
 
--- src/sense.rt:86:1
 returns-2 : tie.Need-returns-2
 returns-2 c = senseAt-past _ (c .before .if1 .left)
 

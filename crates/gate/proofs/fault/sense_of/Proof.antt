@@ -8,87 +8,66 @@ use Rattle.gate.proofs.fault.sense_of.Reads as reads
 use Rattle.gate.proofs.fault.sense_of.Lts as lts
 use Rattle.drive.proofs.sense.sense_at.Reads as sense-at-reads
 
--- src/fault.rt:29:34
 enum-told : tie.Need-enum-told
 enum-told c = search needs
 
--- src/fault.rt:29:34
 sense-at-requires : tie.Need-sense-at-requires
 sense-at-requires c κs = search needs
 
--- src/fault.rt:30:32
 enum-told-2 : tie.Need-enum-told-2
 enum-told-2 c = search needs
 
--- src/fault.rt:30:32
 sense-at-requires-2 : tie.Need-sense-at-requires-2
 sense-at-requires-2 c κs = search needs
 
--- src/fault.rt:31:31
 enum-told-3 : tie.Need-enum-told-3
 enum-told-3 c = search needs
 
--- src/fault.rt:31:31
 sense-at-requires-3 : tie.Need-sense-at-requires-3
 sense-at-requires-3 c κs = search needs
 
--- src/fault.rt:32:30
 enum-told-4 : tie.Need-enum-told-4
 enum-told-4 c = search needs
 
--- src/fault.rt:32:30
 sense-at-requires-4 : tie.Need-sense-at-requires-4
 sense-at-requires-4 c κs = search needs
 
--- src/fault.rt:33:28
 enum-told-5 : tie.Need-enum-told-5
 enum-told-5 c = search needs
 
--- src/fault.rt:33:28
 sense-at-requires-5 : tie.Need-sense-at-requires-5
 sense-at-requires-5 c κs = search needs
 
--- src/fault.rt:34:36
 enum-told-6 : tie.Need-enum-told-6
 enum-told-6 c = search needs
 
--- src/fault.rt:34:36
 sense-at-requires-6 : tie.Need-sense-at-requires-6
 sense-at-requires-6 c κs = search needs
 
--- src/fault.rt:35:31
 enum-told-7 : tie.Need-enum-told-7
 enum-told-7 c = search needs
 
--- src/fault.rt:35:31
 sense-at-requires-7 : tie.Need-sense-at-requires-7
 sense-at-requires-7 c κs = search needs
 
--- src/fault.rt:25:1
 returns : tie.Need-returns
 returns c = c .sense-at .ensures ∙ sym (ap senseOf (c .before .enum-told .given .1))
 
--- src/fault.rt:25:1
 returns-2 : tie.Need-returns-2
 returns-2 c = c .sense-at2 .ensures ∙ sym (ap senseOf (c .before .enum-told2 .given .1))
 
--- src/fault.rt:25:1
 returns-3 : tie.Need-returns-3
 returns-3 c = c .sense-at3 .ensures ∙ sym (ap senseOf (c .before .enum-told3 .given .1))
 
--- src/fault.rt:25:1
 returns-4 : tie.Need-returns-4
 returns-4 c = c .sense-at4 .ensures ∙ sym (ap senseOf (c .before .enum-told4 .given .1))
 
--- src/fault.rt:25:1
 returns-5 : tie.Need-returns-5
 returns-5 c = c .sense-at5 .ensures ∙ sym (ap senseOf (c .before .enum-told5 .given .1))
 
--- src/fault.rt:25:1
 returns-6 : tie.Need-returns-6
 returns-6 c = c .sense-at6 .ensures ∙ sym (ap senseOf (c .before .enum-told6 .given .1))
 
--- src/fault.rt:25:1
 returns-7 : tie.Need-returns-7
 returns-7 c = c .sense-at7 .ensures ∙ sym (ap senseOf (c .before .enum-told7 .given .1))
 

@@ -10,15 +10,12 @@ use Rattle.gate.proofs.unit.clear.Lts as lts
 use Rattle.drive.proofs.sense.sense_at.Reads as sense-at-reads
 use Rattle.gate.proofs.unit.hold.Reads as hold-reads
 
--- src/unit.rt:40:13
 sense-at-requires : tie.Need-sense-at-requires
 sense-at-requires c κs = search needs
 
--- src/unit.rt:40:5
 hold-requires : tie.Need-hold-requires
 hold-requires c κs = search needs
 
--- src/unit.rt:37:1
 returns : tie.Need-returns
 returns c = c .hold .ensures ∙ ap (λ (s : Sense). hold s (c .before .before .args .u)) (c .before .sense-at .ensures)
 

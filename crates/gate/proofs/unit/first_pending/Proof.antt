@@ -7,17 +7,14 @@ use Rattle.gate.proofs.unit.first_pending.Tie as tie
 use Rattle.gate.proofs.unit.first_pending.Reads as reads
 use Rattle.gate.proofs.unit.first_pending.Lts as lts
 
--- src/unit.rt:48:9
 returns : tie.Need-returns
 unfolding pendingOf
 returns c = sym (when _ _ _ (c .if1 .taken))
 
--- src/unit.rt:51:9
 returns-2 : tie.Need-returns-2
 unfolding pendingOf
 returns-2 c = sym (unless _ _ _ (c .before .if1 .left) ∙ when _ _ _ (c .if2 .taken))
 
--- src/unit.rt:44:1
 returns-3 : tie.Need-returns-3
 unfolding pendingOf
 returns-3 c = sym (unless _ _ _ (c .before .if1 .left) ∙ unless _ _ _ (c .if2 .left))

@@ -17,31 +17,24 @@ use Rattle.gate.proofs.unit.first_pending.Reads as first-pending-reads
 use Rattle.gate.proofs.unit.sense_of_pending.Reads as sense-of-pending-reads
 use Rattle.gate.proofs.unit.told.Reads as told-reads
 
--- src/unit.rt:92:19
 sense-at-requires : tie.Need-sense-at-requires
 sense-at-requires c κs = search needs
 
--- src/unit.rt:92:8
 same-requires : tie.Need-same-requires
 same-requires c κs = search needs
 
--- src/unit.rt:93:13
 first-pending-requires : tie.Need-first-pending-requires
 first-pending-requires c κs = search needs
 
--- src/unit.rt:95:20
 sense-of-pending-requires : tie.Need-sense-of-pending-requires
 sense-of-pending-requires c κs = search needs
 
--- src/unit.rt:96:25
 told-requires : tie.Need-told-requires
 told-requires c κs = search needs
 
--- src/unit.rt:96:19
 clear-requires : tie.Need-clear-requires
 clear-requires c κs = search needs
 
--- src/unit.rt:94:9
 returns : tie.Need-returns
 unfolding give
 returns c = let u = c .before .before .before .before .before .before .before .before .args .u in
@@ -51,11 +44,9 @@ returns c = let u = c .before .before .before .before .before .before .before .b
     let v = c .clear .ensures ∙ ap clear (c .before .told .ensures ∙ ap (λ (a : Pending). told a u) p) in
     rw (s, v) (sym (when _ _ _ k))
 
--- src/unit.rt:101:15
 clear-requires-2 : tie.Need-clear-requires-2
 clear-requires-2 c κs = search needs
 
--- src/unit.rt:88:1
 returns-2 : tie.Need-returns-2
 unfolding give
 returns-2 c = let u = c .before .before .before .before .before .args .u in

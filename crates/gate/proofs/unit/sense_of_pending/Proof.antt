@@ -8,39 +8,30 @@ use Rattle.gate.proofs.unit.sense_of_pending.Reads as reads
 use Rattle.gate.proofs.unit.sense_of_pending.Lts as lts
 use Rattle.drive.proofs.sense.sense_at.Reads as sense-at-reads
 
--- src/unit.rt:81:27
 enum-told : tie.Need-enum-told
 enum-told c = search needs
 
--- src/unit.rt:81:27
 sense-at-requires : tie.Need-sense-at-requires
 sense-at-requires c κs = search needs
 
--- src/unit.rt:82:28
 enum-told-2 : tie.Need-enum-told-2
 enum-told-2 c = search needs
 
--- src/unit.rt:82:28
 sense-at-requires-2 : tie.Need-sense-at-requires-2
 sense-at-requires-2 c κs = search needs
 
--- src/unit.rt:83:29
 enum-told-3 : tie.Need-enum-told-3
 enum-told-3 c = search needs
 
--- src/unit.rt:83:29
 sense-at-requires-3 : tie.Need-sense-at-requires-3
 sense-at-requires-3 c κs = search needs
 
--- src/unit.rt:77:1
 returns : tie.Need-returns
 returns c = c .sense-at .ensures ∙ sym (ap attentionSense (c .before .enum-told .given .1))
 
--- src/unit.rt:77:1
 returns-2 : tie.Need-returns-2
 returns-2 c = c .sense-at2 .ensures ∙ sym (ap attentionSense (c .before .enum-told2 .given .1))
 
--- src/unit.rt:77:1
 returns-3 : tie.Need-returns-3
 returns-3 c = c .sense-at3 .ensures ∙ sym (ap attentionSense (c .before .enum-told3 .given .1))
 

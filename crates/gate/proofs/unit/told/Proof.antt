@@ -8,27 +8,21 @@ use Rattle.gate.proofs.unit.told.Tie as tie
 use Rattle.gate.proofs.unit.told.Reads as reads
 use Rattle.gate.proofs.unit.told.Lts as lts
 
--- src/unit.rt:62:27
 enum-told : tie.Need-enum-told
 enum-told c = search needs
 
--- src/unit.rt:67:28
 enum-told-2 : tie.Need-enum-told-2
 enum-told-2 c = search needs
 
--- src/unit.rt:72:29
 enum-told-3 : tie.Need-enum-told-3
 enum-told-3 c = search needs
 
--- src/unit.rt:57:1
 returns : tie.Need-returns
 returns c = let x = c .before .before .before .args in sym (ap (λ (a : Pending). told a (x .u)) (c .enum-told .given .1))
 
--- src/unit.rt:57:1
 returns-2 : tie.Need-returns-2
 returns-2 c = let x = c .before .before .before .args in sym (ap (λ (a : Pending). told a (x .u)) (c .enum-told2 .given .1))
 
--- src/unit.rt:57:1
 returns-3 : tie.Need-returns-3
 returns-3 c = search needs
 

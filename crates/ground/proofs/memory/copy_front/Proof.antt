@@ -17,45 +17,35 @@ Inv-loop src dst₀ i₀ dst i = (i ≤ length src) × Laid dst₀ (take i src) 
 abbrev μ-loop : tie.MeasureT-loop
 μ-loop src dst₀ i₀ dst i = length src - i
 
--- src/memory.rt:11:5
 loop-holds : tie.Need-loop-holds Inv-loop μ-loop
 loop-holds c = (omega arith, laid-none _, refl)
 
--- src/memory.rt:13:13
 same-length : tie.Need-same-length Inv-loop μ-loop
 same-length c = search needs
 
--- src/memory.rt:13:13
 returns : tie.Need-returns Inv-loop μ-loop
 returns c = let l = c .before .before .loop in laid-full _ _ (search needs) (search needs) (l .inv .1)
 
--- src/memory.rt:15:18
 shared-slice-read-dst : tie.Need-shared-slice-read-dst Inv-loop μ-loop
 shared-slice-read-dst c = search needs
 
--- src/memory.rt:15:9
 slice-write-dst : tie.Need-slice-write-dst Inv-loop μ-loop
 slice-write-dst c = search needs
 
--- src/memory.rt:16:9
 add-i : tie.Need-add-i Inv-loop μ-loop
 add-i c = search needs
 
--- src/memory.rt:11:5
 loop-less : tie.Need-loop-less Inv-loop μ-loop
 loop-less c = search needs
 
--- src/memory.rt:11:5
 loop-again : tie.Need-loop-again Inv-loop μ-loop
 loop-again c =
     let l = c .before .before .before .loop in
     (omega arith, laid-next _ _ (search needs) (search needs) (l .inv .1), simp length-set (l .inv .2))
 
--- src/memory.rt:7:1
 same-length-2 : tie.Need-same-length-2 Inv-loop μ-loop
 same-length-2 c = search needs
 
--- src/memory.rt:7:1
 returns-2 : tie.Need-returns-2 Inv-loop μ-loop
 returns-2 c = laid-end _ _ (search needs) (c .before .loop .inv .1)
 

@@ -9,31 +9,24 @@ use Rattle.ground.proofs.memory.put_cut.Reads as reads
 use Rattle.ground.proofs.memory.put_cut.Lts as lts
 use Rattle.ground.proofs.memory.copy_front.Reads as copy-front-reads
 
--- src/memory.rt:26:27
 slice-aggregate-copy-front : tie.Need-slice-aggregate-copy-front
 slice-aggregate-copy-front c = sym (length-take-le _ _ (search needs))
 
--- src/memory.rt:26:9
 copy-front-requires : tie.Need-copy-front-requires
 copy-front-requires c κs = search needs
 
--- src/memory.rt:26:9
 same-length : tie.Need-same-length
 same-length c = search needs
 
--- src/memory.rt:26:9
 returns : tie.Need-returns
 returns c = search needs
 
--- src/memory.rt:28:5
 copy-front-requires-2 : tie.Need-copy-front-requires-2
 copy-front-requires-2 c κs = search needs
 
--- src/memory.rt:22:1
 same-length-2 : tie.Need-same-length-2
 same-length-2 c = search needs
 
--- src/memory.rt:22:1
 returns-2 : tie.Need-returns-2
 returns-2 c =
     let a = c .before .before .before .before .before .before .before .args in

@@ -17,55 +17,42 @@ use Rattle.drive.proofs.state.Mechanics.opening.Reads as opening-reads
 use Rattle.drive.proofs.state.moves.Reads as moves-reads
 use Rattle.drive.proofs.state.refuse.Reads as refuse-reads
 
--- src/state.rt:163:12
 is-known-requires : tie.Need-is-known-requires
 is-known-requires c κs = search needs
 
--- src/state.rt:165:41
 closing-requires : tie.Need-closing-requires
 closing-requires c κs = search needs
 
--- src/state.rt:165:30
 shift-requires : tie.Need-shift-requires
 shift-requires c κs = search needs
 
--- src/state.rt:165:17
 moves-requires : tie.Need-moves-requires
 moves-requires c κs = search needs
 
--- src/state.rt:165:17
 returns : tie.Need-returns
 returns c = let d = c .before .before .before .before .before .before .args .self in c .moves .ensures ∙ ap moves (c .before .shift .ensures ∙ ap (shift d) (c .before .before .closing .ensures)) ∙ sym (button-closes d (sym (c .before .before .before .before .before .is-known .ensures) ∙ c .before .before .before .before .if1 .taken) (c .before .before .before .if2 .taken))
 
--- src/state.rt:168:17
 refuse-requires : tie.Need-refuse-requires
 refuse-requires c κs = search needs
 
--- src/state.rt:168:17
 returns-2 : tie.Need-returns-2
 returns-2 c = let d = c .before .before .before .before .before .args .self in c .refuse .ensures ∙ sym (button-locked d (sym (c .before .before .before .before .is-known .ensures) ∙ c .before .before .before .if1 .taken) (c .before .before .if2 .left) (c .before .if3 .taken))
 
--- src/state.rt:170:37
 opening-requires : tie.Need-opening-requires
 opening-requires c κs = search needs
 
--- src/state.rt:170:26
 shift-requires-2 : tie.Need-shift-requires-2
 shift-requires-2 c κs = search needs
 
--- src/state.rt:170:13
 moves-requires-2 : tie.Need-moves-requires-2
 moves-requires-2 c κs = search needs
 
--- src/state.rt:170:13
 returns-3 : tie.Need-returns-3
 returns-3 c = let d = c .before .before .before .before .before .before .before .args .self in c .moves2 .ensures ∙ ap moves (c .before .shift2 .ensures ∙ ap (shift d) (c .before .before .opening .ensures)) ∙ sym (button-opens d (sym (c .before .before .before .before .before .before .is-known .ensures) ∙ c .before .before .before .before .before .if1 .taken) (c .before .before .before .before .if2 .left) (c .before .before .before .if3 .left))
 
--- src/state.rt:172:9
 refuse-requires-2 : tie.Need-refuse-requires-2
 refuse-requires-2 c κs = search needs
 
--- src/state.rt:160:5
 returns-4 : tie.Need-returns-4
 returns-4 c = let d = c .before .before .before .args .self in c .refuse2 .ensures ∙ sym (button-unknown d (sym (c .before .before .is-known .ensures) ∙ c .before .if1 .left))
 

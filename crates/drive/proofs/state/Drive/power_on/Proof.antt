@@ -8,15 +8,12 @@ use Rattle.drive.proofs.state.Drive.power_on.Lts as lts
 use Rattle.drive.proofs.state.Mechanics.with_lock.Reads as with-lock-reads
 use Rattle.drive.proofs.state.Unit.powered_on.Reads as powered-on-reads
 
--- src/state.rt:153:19
 powered-on-requires : tie.Need-powered-on-requires
 powered-on-requires c κs = search needs
 
--- src/state.rt:154:24
 with-lock-requires : tie.Need-with-lock-requires
 with-lock-requires c κs = search needs
 
--- src/state.rt:149:5
 returns : tie.Need-returns
 unfolding powerOn
 returns c = cc

@@ -6,11 +6,9 @@ use Rattle.drive.proofs.state.Drive.shift.Reads as reads
 use Rattle.drive.proofs.state.Drive.shift.Lts as lts
 use Rattle.drive.proofs.state.Unit.attend.Reads as attend-reads
 
--- src/state.rt:145:19
 attend-requires : tie.Need-attend-requires
 attend-requires c κs = search needs
 
--- src/state.rt:140:5
 returns : tie.Need-returns
 returns c = cc
 

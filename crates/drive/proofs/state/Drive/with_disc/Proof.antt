@@ -6,11 +6,9 @@ use Rattle.drive.proofs.state.Drive.with_disc.Reads as reads
 use Rattle.drive.proofs.state.Drive.with_disc.Lts as lts
 use Rattle.drive.proofs.state.Mechanics.with_disc.Reads as with-disc-reads
 
--- src/state.rt:210:24
 with-disc-requires : tie.Need-with-disc-requires
 with-disc-requires c κs = search needs
 
--- src/state.rt:204:5
 returns : tie.Need-returns
 returns c = cc
 

@@ -7,12 +7,10 @@ use Rattle.drive.proofs.state.Unit.attend.Tie as tie
 use Rattle.drive.proofs.state.Unit.attend.Reads as reads
 use Rattle.drive.proofs.state.Unit.attend.Lts as lts
 
--- src/state.rt:68:13
 returns : tie.Need-returns
 unfolding attend
 returns c = sym (when _ _ _ (c .if1 .taken))
 
--- src/state.rt:63:5
 returns-2 : tie.Need-returns-2
 unfolding attend
 returns-2 c = sym (unless _ _ _ (c .if1 .left))

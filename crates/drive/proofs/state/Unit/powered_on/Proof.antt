@@ -6,11 +6,9 @@ use Rattle.drive.proofs.state.Unit.powered_on.Reads as reads
 use Rattle.drive.proofs.state.Unit.powered_on.Lts as lts
 use Rattle.drive.proofs.sense.sense_at.Reads as sense-at-reads
 
--- src/state.rt:58:20
 sense-at-requires : tie.Need-sense-at-requires
 sense-at-requires c κs = search needs
 
--- src/state.rt:52:5
 returns : tie.Need-returns
 returns c = cc
 

@@ -1,0 +1,187 @@
+-- The calls on the drive, and what an event tells: all of it read off calls, answers and mechanics, never off the attentions.
+use Prim.Native.Nat.{ℕ}
+use mathlib.Core.Path.{_≡_}
+use mathlib.Core.Bool.{Bool, true, false, not}
+use mathlib.Core.List.{List, []}
+use lib.ListN.{length}
+use lib.Dec.{eqb}
+use Rattle.ground.specs.Tests.{_and_, _or_}
+use Rattle.drive.specs.declared.state.Mechanics.{Mechanics}
+use Rattle.drive.specs.declared.state.Drive.{Drive}
+use Rattle.drive.specs.State.{powerOn, button, lay, lift}
+use Rattle.disc.specs.Rules.{isFit}
+use Rattle.target.specs.Command.{codeOf, loEj, start}
+use Rattle.target.specs.Packet.{answer as replyTo, stateOf}
+use Rattle.claims.specs.Telling.{Attention, power, change, pending, anyPending, Answer, answerOf, isGood, tellsTo}
+use Rattle.claims.specs.History as past
+use Rattle.claims.specs.History.{Event}
+use Rattle.claims.specs.Carried.{Board, answerOn, nextOn}
+
+-- power-on, button, laying, lifting, and a packet with its bytes, its lent table and its response memory:
+-- "They and the packets are the calls on the drive."
+pub data Call : Type 0 where
+  powering : Call
+  pressing : Call
+  laying : Call
+  lifting : Call
+  packet : (bytes table memory : List ℕ) → Call
+
+-- the response memory that is lent: a packet alone has one
+abbrev pub memoryOf : Call → List ℕ
+memoryOf powering = []
+memoryOf pressing = []
+memoryOf laying = []
+memoryOf lifting = []
+memoryOf (packet p t m) = m
+
+-- the answer of a call that is no packet
+abbrev pub numbered : ℕ → Answer
+numbered n = record { number = n; status = 0; full = []; limit = 0; start = 0; count = 0; memory = [] }
+
+-- what the call answers
+abbrev pub answer : Call → Drive → Answer
+answer powering d = numbered 0
+answer pressing d = numbered (button d .number)
+answer laying d = numbered (lay d .number)
+answer lifting d = numbered (lift d .number)
+answer (packet p t m) d = answerOf m (replyTo d p t (length m))
+
+-- the state after it
+abbrev pub next : Call → Drive → Drive
+next powering d = powerOn d
+next pressing d = button d .state
+next laying d = lay d .state
+next lifting d = lift d .state
+next (packet p t m) d = stateOf (replyTo d p t (length m))
+
+-- ---- the drive's histories
+
+abbrev pub Happening : Type 0
+Happening = Event Call Drive Answer
+
+abbrev pub event : Call → Drive → Happening
+event = past.event answer next
+
+-- the calls made one after the other on a handed state
+abbrev pub history : Drive → List Call → List Happening
+history = past.history answer next
+
+-- the state after them
+abbrev pub final : Drive → List Call → Drive
+final = past.final answer next
+
+-- the attention is pending in the state, and: one of the two is
+abbrev pub isPending : Attention → Drive → Bool
+isPending k d = pending k (d .unit)
+
+abbrev pub isAttending : Drive → Bool
+isAttending d = anyPending (d .unit)
+
+-- ---- causes
+
+abbrev pub isPowering : Call → Bool
+isPowering powering = true
+isPowering pressing = false
+isPowering laying = false
+isPowering lifting = false
+isPowering (packet p t m) = false
+
+-- "Power-on (also reset)"
+abbrev pub isPowerOn : Happening → Bool
+isPowerOn e = isPowering (e .call)
+
+-- "by button or packet"
+abbrev pub closes : Call → Bool
+closes powering = false
+closes pressing = true
+closes laying = false
+closes lifting = false
+closes (packet p t m) = true
+
+-- the tray was open and is closed, with a disc in
+abbrev pub closed : Mechanics → Mechanics → Bool
+closed m n = m .«tray_open» and not (n .«tray_open») and n .«disc_in»
+
+-- "Loading is any closing of the tray, by button or packet, with a disc in"
+abbrev pub isLoading : Happening → Bool
+isLoading e = closes (e .call) and closed (e .old .mechanics) (e .new .mechanics)
+
+-- "a power-on or a loading"
+abbrev pub isCause : Happening → Bool
+isCause e = isPowerOn e or isLoading e
+
+-- "Power-on ..: power attention pending"; "Loading ..: the change attention becomes pending"
+abbrev pub causes : Attention → Happening → Bool
+causes power e = isPowerOn e
+causes change e = isLoading e
+
+-- ---- tellings
+
+-- "REQUEST SENSE 03h"
+abbrev pub isRequestSense : List ℕ → Bool
+isRequestSense p = eqb (codeOf p) 0x03
+
+-- "no later answer told it": a packet's answer alone can tell an attention
+abbrev pub tells : Attention → Happening → Bool
+tells k e = toldBy (e .call)
+  where
+    toldBy : Call → Bool
+    toldBy powering = false
+    toldBy pressing = false
+    toldBy laying = false
+    toldBy lifting = false
+    toldBy (packet p t m) = tellsTo k (isRequestSense p) (e .old .unit) (e .answer) (e .new .unit)
+
+-- ---- successes
+
+-- "Needing one: 00h, 25h, 28h, 2Bh, 43h, A8h, and 1Bh with LoEj 0 and Start 1."
+unfoldable pub isNeeding : List ℕ → Bool
+isNeeding p =
+    eqb (codeOf p) 0x00
+    or eqb (codeOf p) 0x25
+    or eqb (codeOf p) 0x28
+    or eqb (codeOf p) 0x2B
+    or eqb (codeOf p) 0x43
+    or eqb (codeOf p) 0xA8
+    or eqb (codeOf p) 0x1B and not (loEj p) and start p
+
+-- a packet that needs a disc was answered GOOD
+abbrev pub isSuccess : Happening → Bool
+isSuccess e = ofNeeding (e .call) and isGood (e .answer)
+  where
+    ofNeeding : Call → Bool
+    ofNeeding powering = false
+    ofNeeding pressing = false
+    ofNeeding laying = false
+    ofNeeding lifting = false
+    ofNeeding (packet p t m) = isNeeding p
+
+-- ---- runs
+
+-- the same call, or the same packet with the same memory and two fit tables
+pub data Alike : Call → Call → Type 0 where
+  same : (c : Call) → Alike c c
+  tables : (p m : List ℕ) {t u : List ℕ} → isFit t ≡ true → isFit u ≡ true → Alike (packet p t m) (packet p u m)
+
+-- the call, lent that memory in place of its own
+abbrev pub lend : List ℕ → Call → Call
+lend memory powering = powering
+lend memory pressing = pressing
+lend memory laying = laying
+lend memory lifting = lifting
+lend memory (packet p t m) = packet p t memory
+
+-- what a call with that answer leaves in the memory: one that is no packet leaves it as it was
+abbrev pub left : Call → Answer → List ℕ → List ℕ
+left powering a memory = memory
+left pressing a memory = memory
+left laying a memory = memory
+left lifting a memory = memory
+left (packet p t m) a memory = a .memory
+
+-- the drive with one response memory, each call lent what the one before left
+abbrev pub historyOn : Board Drive → List Call → List (Event Call (Board Drive) Answer)
+historyOn = past.history (answerOn answer next lend left) (nextOn answer next lend left)
+
+abbrev pub finalOn : Board Drive → List Call → Board Drive
+finalOn = past.final (answerOn answer next lend left) (nextOn answer next lend left)

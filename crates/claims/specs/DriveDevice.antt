@@ -1,0 +1,184 @@
+-- The drive is a device: the laws of one step, for every call.
+use mathlib.Core.Path.{_≡_, refl, sym, ap, _∙_, subst₂}
+use mathlib.Core.Bool.{Bool, true, false, not, false≢true, true≢false}
+use mathlib.Core.List.{List}
+use mathlib.Core.Logic.{⊎-elim}
+use Prim.Native.Nat.{ℕ}
+use lib.ListN.{length}
+use Rattle.ground.specs.Tests.{_and_, _or_, either}
+use Rattle.drive.specs.declared.state.Drive.{Drive}
+use Rattle.drive.specs.declared.state.Moved.{Moved}
+use Rattle.drive.specs.State.{powerOn, button, lay, lift}
+use Rattle.gate.specs.Gate.{Reply}
+use Rattle.drive.specs.declared.state.Mechanics.{Mechanics}
+use Rattle.target.specs.Packet.{stateOf}
+use Rattle.claims.specs.Telling.{Attention, power, change, Answer, answerOf, isGood, tellsTo}
+use Rattle.claims.specs.UnitLaws.{Turn, only, unmoved, attended, meets-turn, orders-blocks, any-pending}
+use Rattle.claims.specs.Call.{Call, powering, pressing, laying, lifting, packet, answer, next, event, isPending, isAttending, isPowering, isPowerOn, closed, isLoading, isCause, causes, tells, isNeeding, isSuccess, Alike, same, tables, lend, left}
+use Rattle.claims.specs.PacketLaws.{kind, reply-kind, closed-still, packet-fair, packet-request, packet-orders, packet-blind}
+use Rattle.claims.specs.Device.{Device, or-cases, cause-lives}
+
+-- ---- how a call turns an attention
+
+press-turn : (k : Attention) (d : Drive) → Turn k (d .unit) false (closed (d .mechanics) (button d .state .mechanics)) (button d .state .unit)
+unfolding button _and_
+press-turn k d =
+    either P _
+    (λ h. either P _
+    (λ t. rw t (attended k (d .unit) (d .unit .sense) (d .mechanics .«disc_in»)))
+    (λ t. either P _ (λ l. here) (λ l. rw t (attended k (d .unit) (d .unit .sense) false))))
+    (λ h. here)
+  where
+    P : Moved → Type 0
+    P r = Turn k (d .unit) false (closed (d .mechanics) (r .state .mechanics)) (r .state .unit)
+
+    here : Turn k (d .unit) false (closed (d .mechanics) (d .mechanics)) (d .unit)
+    here = rw (closed-still (d .mechanics)) (unmoved k (d .unit) (d .unit .sense))
+
+lay-turn : (k : Attention) (d : Drive) → Turn k (d .unit) false false (lay d .state .unit)
+unfolding lay
+lay-turn k d = either P _ (λ h. either P _ (λ t. here) (λ t. here)) (λ h. here)
+  where
+    P : Moved → Type 0
+    P r = Turn k (d .unit) false false (r .state .unit)
+
+    here : Turn k (d .unit) false false (d .unit)
+    here = unmoved k (d .unit) (d .unit .sense)
+
+lift-turn : (k : Attention) (d : Drive) → Turn k (d .unit) false false (lift d .state .unit)
+unfolding lift
+lift-turn k d = either P _ (λ h. either P _ (λ t. here) (λ t. here)) (λ h. here)
+  where
+    P : Moved → Type 0
+    P r = Turn k (d .unit) false false (r .state .unit)
+
+    here : Turn k (d .unit) false false (d .unit)
+    here = unmoved k (d .unit) (d .unit .sense)
+
+packet-turn : (k : Attention) (p t m : List ℕ) (d : Drive)
+    → Turn k (d .unit) (tells k (event (packet p t m) d)) (isLoading (event (packet p t m) d)) (next (packet p t m) d .unit)
+unfolding _and_
+packet-turn k p t m d =
+    let f = reply-kind d p t (length m) in
+    let T : Bool → Reply Mechanics → Type 0 =
+    λ a r. Turn k (d .unit) (tellsTo k a (d .unit) (answerOf m r) (r .unit)) (closed (d .mechanics) (r .mechanics)) (r .unit) in
+    subst₂ T (packet-request p (d .mechanics) t) (sym (f .1))
+    (meets-turn closed k m (d .mechanics) (f .0) (kind p (d .mechanics) t) (d .unit) (packet-fair p (d .mechanics) t))
+
+-- every call but power-on
+call-turn : (k : Attention) (c : Call) (d : Drive) → isPowering c ≡ false → Turn k (d .unit) (tells k (event c d)) (isLoading (event c d)) (next c d .unit)
+unfolding _and_
+call-turn k powering d h = absurd (true≢false h)
+call-turn k pressing d h = press-turn k d
+call-turn k laying d h = lay-turn k d
+call-turn k lifting d h = lift-turn k d
+call-turn k (packet p t m) d h = packet-turn k p t m d
+
+-- the causes of a call that is no power-on
+causes-only : (k : Attention) (c : Call) (d : Drive) → isPowering c ≡ false → causes k (event c d) ≡ only k (isLoading (event c d))
+unfolding _or_
+causes-only power c d h = h
+causes-only change powering d h = absurd (true≢false h)
+causes-only change pressing d h = refl
+causes-only change laying d h = refl
+causes-only change lifting d h = refl
+causes-only change (packet p t m) d h = refl
+
+-- ---- the four laws
+
+abbrev Turning : Attention → Call → Drive → Type 0
+Turning k c d = isPending k (next c d) ≡ causes k (event c d) or (not (isPowerOn (event c d)) and (not (tells k (event c d)) and isPending k d))
+
+call-turns : (k : Attention) (c : Call) (d : Drive) → isPowering c ≡ false → Turning k c d
+unfolding _and_
+call-turns k c d h = rw (h, causes-only k c d h) (call-turn k c d h .turns)
+
+pub drive-turns : (k : Attention) (c : Call) (d : Drive) → Turning k c d
+unfolding powerOn _and_ _or_
+drive-turns power powering d = refl
+drive-turns change powering d = refl
+drive-turns k pressing d = call-turns k pressing d refl
+drive-turns k laying d = call-turns k laying d refl
+drive-turns k lifting d = call-turns k lifting d refl
+drive-turns k (packet p t m) d = call-turns k (packet p t m) d refl
+
+pub packet-blocked : (k : Attention) (d : Drive) (p t m : List ℕ) → isPending k d ≡ true → isNeeding p ≡ true → isGood (answer (packet p t m) d) ≡ false
+packet-blocked k d p t m h n =
+    let f = reply-kind d p t (length m) in
+    let o = packet-orders p (d .mechanics) t n in
+    rw (f .1, o .1) (orders-blocks (f .0) (o .0) (d .unit) (d .mechanics) m (any-pending k (d .unit) h))
+
+pub drive-blocks : (k : Attention) (c : Call) (d : Drive) → isPending k d ≡ true → isSuccess (event c d) ≡ false
+unfolding _and_
+drive-blocks k powering d h = refl
+drive-blocks k pressing d h = refl
+drive-blocks k laying d h = refl
+drive-blocks k lifting d h = refl
+drive-blocks k (packet p t m) d h = go (isNeeding p) refl
+  where
+    go : (b : Bool) → isNeeding p ≡ b → b and isGood (answer (packet p t m) d) ≡ false
+    go false n = refl
+    go true n = packet-blocked k d p t m h n
+
+pub drive-blind : (c e : Call) (d : Drive) → Alike c e → isAttending d ≡ true → (answer c d ≡ answer e d) × (next c d ≡ next e d)
+drive-blind c e d (same b) l = (refl, refl)
+drive-blind c e d (tables p m {t} {u} f g) l =
+    let q = packet-blind d p t u (length m) f g l in
+    (ap (answerOf m) q, ap stateOf q)
+
+-- ---- what tells
+
+-- an answer that tells an attention: it was pending, and the answer is no cause of it
+pub record Told (k : Attention) (c : Call) (d : Drive) : Type 0 where
+  pub due : isPending k d ≡ true
+  pub apart : causes k (event c d) ≡ false
+  pub gone : isPending k (next c d) ≡ false
+
+only-none : (k : Attention) (b : Bool) → b ≡ false → only k b ≡ false
+only-none power b h = refl
+only-none change b h = h
+
+call-told : (k : Attention) (c : Call) (d : Drive) → isPowering c ≡ false → tells k (event c d) ≡ true → Told k c d
+unfolding _and_ _or_
+call-told k c d h t =
+    let w = call-turn k c d h in
+    let n : causes k (event c d) ≡ false = causes-only k c d h ∙ only-none k _ (w .apart t) in
+    record { due = w .due t; apart = n; gone = call-turns k c d h ∙ rw (n, h, t) }
+
+pub drive-told : (k : Attention) (c : Call) (d : Drive) → tells k (event c d) ≡ true → Told k c d
+drive-told k powering d t = absurd (false≢true t)
+drive-told k pressing d t = absurd (false≢true t)
+drive-told k laying d t = absurd (false≢true t)
+drive-told k lifting d t = absurd (false≢true t)
+drive-told k (packet p q m) d t = call-told k (packet p q m) d refl t
+
+-- ---- the device
+
+abbrev pub drive : Device Call Drive Answer
+drive = record {
+  answer = answer;
+  next = next;
+  pend = isPending;
+  on = isPowerOn;
+  cause = causes;
+  tells = tells;
+  served = isSuccess;
+  Alike = Alike;
+  turns = drive-turns;
+  blocks = drive-blocks;
+  blind = drive-blind;
+}
+
+-- a power-on or a loading leaves an attention pending
+pub cause-attends : (c : Call) (d : Drive) → isCause (event c d) ≡ true → isAttending (next c d) ≡ true
+cause-attends c d h = ⊎-elim (cause-lives drive power c d) (cause-lives drive change c d) (or-cases _ _ h)
+
+-- ---- the response memory lent to alike calls
+
+pub lend-alike : (c e : Call) (m : List ℕ) → Alike c e → Alike (lend m c) (lend m e)
+lend-alike c e m (same b) = same (lend m c)
+lend-alike c e m (tables p n f g) = tables p m f g
+
+pub left-alike : (c e : Call) (a : Answer) (m : List ℕ) → Alike c e → left c a m ≡ left e a m
+left-alike c e a m (same b) = refl
+left-alike c e a m (tables p n f g) = refl

@@ -1,0 +1,20 @@
+-- the claims
+pub mod Attentions
+pub mod NoSuccess
+pub mod TwoRuns
+pub mod Refused
+pub mod Marked
+pub mod Addresses
+-- their notions
+pub mod Call
+pub mod Telling
+pub mod History
+-- their proofs: over any device, over any mechanics, for the drive
+pub mod Runs
+pub mod Device
+pub mod Carried
+pub mod UnitLaws
+pub mod PacketLaws
+pub mod DriveDevice
+pub mod RefusalLaws
+pub mod AddressLaws

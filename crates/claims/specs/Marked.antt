@@ -1,0 +1,152 @@
+-- "Disc E and its marked results": P1 to P12, "Loaded, nothing pending".
+use Prim.Native.Nat.{ℕ}
+use mathlib.Core.Path.{_≡_, refl}
+use mathlib.Core.Bool.{Bool, true, false}
+use mathlib.Core.List.{List, [], _∷_}
+use lib.Dec.{eqb}
+use Rattle.ground.specs.Tests.{_and_, _or_, if_then_else_, every}
+use Rattle.address.specs.Address.{isMsf, toMsf, toBlock}
+use Rattle.drive.specs.declared.sense.Sense.{Sense}
+use Rattle.drive.specs.declared.state.Drive.{Drive}
+use Rattle.drive.specs.Sense.{triple, senseAt, sameSense, among, isKnown}
+use Rattle.drive.specs.Unit.{attend}
+use Rattle.disc.specs.Layout.{addressAt, isTrack}
+use Rattle.disc.specs.Session.{size, names, listed, isSession, starts, before, follows, inPlace, inOrder}
+use Rattle.disc.specs.Rules.{rule1, rule2, plain, headA0, headed, addressed, rowTest, rises, outBefore, beginsAfter, rising, rule7, firstBroken, lateRules, rowRules, fault, isFit}
+use Rattle.disc.specs.Track.{nextOut, outAt, covers, wanted, nextFound, found, trackOf, inData, allInData}
+use Rattle.gate.specs.Unit.{pendingOf}
+use Rattle.gate.specs.Gate.{gate}
+use Rattle.target.specs.Command.{decode}
+use Rattle.target.specs.Toc.{shownAddress, isShown, shownTrack, shownTracks, headed as tocHeaded, format0, tocBytes, tocBad, readToc}
+use Rattle.target.specs.Perform.{read, perform}
+use Rattle.target.specs.Packet.{within, refusalOf, answer, stateOf, bytesOf}
+
+-- "Table E, 59 bytes"
+abbrev pub tableE : List ℕ
+tableE =
+    0x00 ∷ 0x39 ∷ 0x01 ∷ 0x01
+    ∷ 0x01 ∷ 0x14 ∷ 0x00 ∷ 0xA0 ∷ 0x00 ∷ 0x00 ∷ 0x00 ∷ 0x00 ∷ 0x01 ∷ 0x00 ∷ 0x00
+    ∷ 0x01 ∷ 0x10 ∷ 0x00 ∷ 0xA1 ∷ 0x00 ∷ 0x00 ∷ 0x00 ∷ 0x00 ∷ 0x02 ∷ 0x00 ∷ 0x00
+    ∷ 0x01 ∷ 0x10 ∷ 0x00 ∷ 0xA2 ∷ 0x00 ∷ 0x00 ∷ 0x00 ∷ 0x00 ∷ 0x00 ∷ 0x06 ∷ 0x00
+    ∷ 0x01 ∷ 0x14 ∷ 0x00 ∷ 0x01 ∷ 0x00 ∷ 0x00 ∷ 0x00 ∷ 0x00 ∷ 0x00 ∷ 0x02 ∷ 0x00
+    ∷ 0x01 ∷ 0x10 ∷ 0x00 ∷ 0x02 ∷ 0x00 ∷ 0x00 ∷ 0x00 ∷ 0x00 ∷ 0x00 ∷ 0x04 ∷ 0x00
+    ∷ []
+
+-- "Loaded, nothing pending"
+abbrev pub loadedE : Drive
+loadedE = record {
+  unit = record { power = false; change = false; sense = triple 0x00 0x00 0x00 };
+  mechanics = record { «tray_open» = false; «disc_in» = true; lock = false };
+}
+
+-- a packet to the loaded drive with Table E and 4,360 bytes of response memory; the address of M:S:F; the M:S:F of an address
+pub data Question : Type 0 where
+  packet : (bytes : List ℕ) → Question
+  addressFor : (m s f : ℕ) → Question
+  msfFor : (a : ℕ) → Question
+
+-- what comes of it: the refusal's number or 0, the status, the sense held afterwards, the bytes or the numbers asked for, start and count
+pub record Outcome : Type 0 where
+  pub number : ℕ
+  pub status : ℕ
+  pub sense : Sense
+  pub shown : List ℕ
+  pub start : ℕ
+  pub count : ℕ
+
+-- GOOD with these bytes, or a conversion to these numbers
+abbrev pub gives : List ℕ → Outcome
+gives b = record { number = 0; status = 0x00; sense = triple 0x00 0x00 0x00; shown = b; start = 0; count = 0 }
+
+-- GOOD, naming blocks
+abbrev pub reads : ℕ → ℕ → Outcome
+reads a n = record { number = 0; status = 0x00; sense = triple 0x00 0x00 0x00; shown = []; start = a; count = n }
+
+-- CHECK CONDITION with a triple
+abbrev pub fails : ℕ → ℕ → ℕ → Outcome
+fails k a q = record { number = 0; status = 0x02; sense = triple k a q; shown = []; start = 0; count = 0 }
+
+-- refused by number, with zeros
+abbrev pub refuses : ℕ → List ℕ → Outcome
+refuses n b = record { number = n; status = 0x00; sense = triple 0x00 0x00 0x00; shown = b; start = 0; count = 0 }
+
+-- what the definitions give
+unfoldable pub asked : Question → Outcome
+asked (packet p) =
+    let a = answer loadedE p tableE 4360 in
+    record { number = a .number; status = a .status; sense = stateOf a .unit .sense; shown = bytesOf a; start = a .start; count = a .count }
+asked (addressFor m s f) =
+    let a = toBlock m s f in
+    record { number = a .number; status = 0x00; sense = triple 0x00 0x00 0x00; shown = a .address ∷ []; start = 0; count = 0 }
+asked (msfFor b) =
+    let a = toMsf b in
+    record { number = a .number; status = 0x00; sense = triple 0x00 0x00 0x00; shown = a .minute ∷ a .second ∷ a .frame ∷ []; start = 0; count = 0 }
+
+unfoldable pub sameBytes : List ℕ → List ℕ → Bool
+unfolding _and_
+sameBytes [] [] = true
+sameBytes [] (y ∷ ys) = false
+sameBytes (x ∷ xs) [] = false
+sameBytes (x ∷ xs) (y ∷ ys) = eqb x y and sameBytes xs ys
+
+unfoldable pub sameOutcome : Outcome → Outcome → Bool
+sameOutcome a b =
+    eqb (a .number) (b .number) and eqb (a .status) (b .status) and sameSense (a .sense) (b .sense)
+    and sameBytes (a .shown) (b .shown) and eqb (a .start) (b .start) and eqb (a .count) (b .count)
+
+-- a question and its marked result
+pub record Mark : Type 0 where
+  pub question : Question
+  pub result : Outcome
+
+abbrev pub mark : Question → Outcome → Mark
+mark q r = record { question = q; result = r }
+
+-- every question of the list comes out as marked
+unfoldable pub allMarked : List Mark → Bool
+unfolding _and_
+allMarked [] = true
+allMarked (m ∷ ms) = sameOutcome (asked (m .question)) (m .result) and allMarked ms
+
+-- P1 to P12, those of READ by 28h and once more by A8h
+abbrev pub marks : List Mark
+marks =
+    -- P1
+    mark (packet (0x25 ∷ 0x00 ∷ 0x00 ∷ 0x00 ∷ 0x00 ∷ 0x00 ∷ 0x00 ∷ 0x00 ∷ 0x00 ∷ 0x00 ∷ 0x00 ∷ 0x00 ∷ [])) (gives (0x00 ∷ 0x00 ∷ 0x01 ∷ 0x2B ∷ 0x00 ∷ 0x00 ∷ 0x08 ∷ 0x00 ∷ []))
+    -- P2
+    ∷ mark (packet (0x43 ∷ 0x00 ∷ 0x00 ∷ 0x00 ∷ 0x00 ∷ 0x00 ∷ 0x00 ∷ 0x03 ∷ 0x24 ∷ 0x00 ∷ 0x00 ∷ 0x00 ∷ [])) (gives (0x00 ∷ 0x1A ∷ 0x01 ∷ 0x02 ∷ 0x00 ∷ 0x14 ∷ 0x01 ∷ 0x00 ∷ 0x00 ∷ 0x00 ∷ 0x00 ∷ 0x00 ∷ 0x00 ∷ 0x10 ∷ 0x02 ∷ 0x00 ∷ 0x00 ∷ 0x00 ∷ 0x00 ∷ 0x96 ∷ 0x00 ∷ 0x10 ∷ 0xAA ∷ 0x00 ∷ 0x00 ∷ 0x00 ∷ 0x01 ∷ 0x2C ∷ []))
+    -- P3
+    ∷ mark (packet (0x43 ∷ 0x00 ∷ 0x00 ∷ 0x00 ∷ 0x00 ∷ 0x00 ∷ 0x00 ∷ 0x00 ∷ 0x04 ∷ 0x00 ∷ 0x00 ∷ 0x00 ∷ [])) (gives (0x00 ∷ 0x1A ∷ 0x01 ∷ 0x02 ∷ []))
+    -- P4
+    ∷ mark (packet (0x43 ∷ 0x02 ∷ 0x00 ∷ 0x00 ∷ 0x00 ∷ 0x00 ∷ 0xAA ∷ 0x03 ∷ 0x24 ∷ 0x00 ∷ 0x00 ∷ 0x00 ∷ [])) (gives (0x00 ∷ 0x0A ∷ 0x01 ∷ 0x02 ∷ 0x00 ∷ 0x10 ∷ 0xAA ∷ 0x00 ∷ 0x00 ∷ 0x00 ∷ 0x06 ∷ 0x00 ∷ []))
+    -- P5
+    ∷ mark (packet (0x43 ∷ 0x00 ∷ 0x00 ∷ 0x00 ∷ 0x00 ∷ 0x00 ∷ 0x03 ∷ 0x03 ∷ 0x24 ∷ 0x00 ∷ 0x00 ∷ 0x00 ∷ [])) (fails 0x05 0x24 0x00)
+    -- P6
+    ∷ mark (packet (0x28 ∷ 0x00 ∷ 0x00 ∷ 0x00 ∷ 0x00 ∷ 0x95 ∷ 0x00 ∷ 0x00 ∷ 0x01 ∷ 0x00 ∷ 0x00 ∷ 0x00 ∷ [])) (reads 149 1)
+    -- P7
+    ∷ mark (packet (0x28 ∷ 0x00 ∷ 0x00 ∷ 0x00 ∷ 0x00 ∷ 0x95 ∷ 0x00 ∷ 0x00 ∷ 0x02 ∷ 0x00 ∷ 0x00 ∷ 0x00 ∷ [])) (fails 0x05 0x64 0x00)
+    -- P8
+    ∷ mark (packet (0x28 ∷ 0x00 ∷ 0x00 ∷ 0x00 ∷ 0x00 ∷ 0x95 ∷ 0x00 ∷ 0x00 ∷ 0x98 ∷ 0x00 ∷ 0x00 ∷ 0x00 ∷ [])) (fails 0x05 0x21 0x00)
+    -- P9
+    ∷ mark (packet (0x28 ∷ 0x00 ∷ 0x00 ∷ 0x00 ∷ 0x00 ∷ 0x96 ∷ 0x00 ∷ 0x00 ∷ 0x00 ∷ 0x00 ∷ 0x00 ∷ 0x00 ∷ [])) (reads 150 0)
+    -- P10
+    ∷ mark (packet (0x28 ∷ 0x00 ∷ 0x00 ∷ 0x00 ∷ 0x01 ∷ 0x2C ∷ 0x00 ∷ 0x00 ∷ 0x00 ∷ 0x00 ∷ 0x00 ∷ 0x00 ∷ [])) (fails 0x05 0x21 0x00)
+    -- P6 by A8h
+    ∷ mark (packet (0xA8 ∷ 0x00 ∷ 0x00 ∷ 0x00 ∷ 0x00 ∷ 0x95 ∷ 0x00 ∷ 0x00 ∷ 0x00 ∷ 0x01 ∷ 0x00 ∷ 0x00 ∷ [])) (reads 149 1)
+    -- P7 by A8h
+    ∷ mark (packet (0xA8 ∷ 0x00 ∷ 0x00 ∷ 0x00 ∷ 0x00 ∷ 0x95 ∷ 0x00 ∷ 0x00 ∷ 0x00 ∷ 0x02 ∷ 0x00 ∷ 0x00 ∷ [])) (fails 0x05 0x64 0x00)
+    -- P8 by A8h
+    ∷ mark (packet (0xA8 ∷ 0x00 ∷ 0x00 ∷ 0x00 ∷ 0x00 ∷ 0x95 ∷ 0x00 ∷ 0x00 ∷ 0x00 ∷ 0x98 ∷ 0x00 ∷ 0x00 ∷ [])) (fails 0x05 0x21 0x00)
+    -- P9 by A8h
+    ∷ mark (packet (0xA8 ∷ 0x00 ∷ 0x00 ∷ 0x00 ∷ 0x00 ∷ 0x96 ∷ 0x00 ∷ 0x00 ∷ 0x00 ∷ 0x00 ∷ 0x00 ∷ 0x00 ∷ [])) (reads 150 0)
+    -- P10 by A8h
+    ∷ mark (packet (0xA8 ∷ 0x00 ∷ 0x00 ∷ 0x00 ∷ 0x01 ∷ 0x2C ∷ 0x00 ∷ 0x00 ∷ 0x00 ∷ 0x00 ∷ 0x00 ∷ 0x00 ∷ [])) (fails 0x05 0x21 0x00)
+    -- P11
+    ∷ mark (addressFor 99 59 74) (gives (449849 ∷ []))
+    -- P12
+    ∷ mark (msfFor 449850) (refuses 8 (0 ∷ 0 ∷ 0 ∷ []))
+    ∷ []
+
+pub marked : allMarked marks ≡ true
+unfolding allMarked sameOutcome sameBytes asked _and_ _or_ if_then_else_ every isMsf toMsf toBlock senseAt sameSense among isKnown attend addressAt isTrack size names listed isSession starts before follows inPlace inOrder rule1 rule2 plain headA0 headed addressed rowTest rises outBefore beginsAfter rising rule7 firstBroken lateRules rowRules fault isFit nextOut outAt covers wanted nextFound found trackOf inData allInData pendingOf gate decode shownAddress isShown shownTrack shownTracks tocHeaded format0 tocBytes tocBad readToc read perform within refusalOf answer
+marked = refl

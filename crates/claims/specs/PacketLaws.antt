@@ -1,0 +1,216 @@
+-- A packet on the drive is one of three kinds, refused or not; none but a closing with a disc is a loading.
+use mathlib.Core.Path.{_≡_, refl, sym, ap, _∙_}
+use mathlib.Core.Bool.{Bool, true, false, not, false≢true}
+use mathlib.Core.List.{List}
+use Prim.Native.Nat.{ℕ, zero, suc}
+use lib.ListN.{length}
+use lib.Dec.{eqb, ltb, eqb·suc-zero}
+use borrow.Author.Tests.{eqb-true}
+use Rattle.ground.specs.Tests.{_and_, _or_, if_then_else_, when, unless, either}
+use Rattle.drive.specs.declared.state.Unit.{Unit}
+use Rattle.drive.specs.declared.state.Mechanics.{Mechanics}
+use Rattle.drive.specs.declared.state.Drive.{Drive}
+use Rattle.disc.specs.Layout.{bound}
+use Rattle.disc.specs.Rules.{isFit}
+use Rattle.gate.specs.Gate.{Result, Reply, refuse, gate}
+use Rattle.target.specs.declared.decode.Command.{Command}
+use Rattle.target.specs.declared.decode.Command.the-variants.{TestUnitReady, RequestSense, Inquiry, StartStop, Prevent, ReadCapacity, Read10, Seek, ReadToc, Read12, Unknown}
+use Rattle.target.specs.Command.{decode, byte, codeOf, needsDisc, loEj, start}
+use Rattle.target.specs.Tray.{eject, load, startStop}
+use Rattle.target.specs.Toc.{readToc}
+use Rattle.target.specs.Perform.{inquiry, seek, read, work, perform}
+use Rattle.target.specs.Packet.{steps, within, refusalOf, longAnswer, answer as replyTo}
+use Rattle.claims.specs.Telling.{anyPending}
+use Rattle.claims.specs.UnitLaws.{Kind, asks, frees, orders, isAsking, reply, meets, nextOf, loadingOf, Honest, gate-blind}
+use Rattle.claims.specs.Call.{closed, isRequestSense, isNeeding}
+
+abbrev isRequest : Command → Bool
+isRequest TestUnitReady = false
+isRequest RequestSense = true
+isRequest Inquiry = false
+isRequest StartStop = false
+isRequest Prevent = false
+isRequest ReadCapacity = false
+isRequest Read10 = false
+isRequest Seek = false
+isRequest ReadToc = false
+isRequest Read12 = false
+isRequest Unknown = false
+
+-- REQUEST SENSE, INQUIRY, or a command that meets the gate
+pub data Seen : Command → Type 0 where
+  asking : Seen RequestSense
+  freeing : Seen Inquiry
+  ordering : {c : Command} → isRequest c ≡ false → ((u : Unit) (m : Mechanics) (p t : List ℕ) → steps c u m p t ≡ gate u m (perform c p m t)) → Seen c
+
+pub seen : (c : Command) → Seen c
+seen TestUnitReady = ordering refl (λ u m p t. refl)
+seen RequestSense = asking
+seen Inquiry = freeing
+seen StartStop = ordering refl (λ u m p t. refl)
+seen Prevent = ordering refl (λ u m p t. refl)
+seen ReadCapacity = ordering refl (λ u m p t. refl)
+seen Read10 = ordering refl (λ u m p t. refl)
+seen Seek = ordering refl (λ u m p t. refl)
+seen ReadToc = ordering refl (λ u m p t. refl)
+seen Read12 = ordering refl (λ u m p t. refl)
+seen Unknown = ordering refl (λ u m p t. refl)
+
+abbrev pub kindOf : {c : Command} → Seen c → List ℕ → Result Mechanics → Kind Mechanics
+kindOf asking p r = asks (byte p 4)
+kindOf freeing p r = frees r
+kindOf (ordering n g) p r = orders r
+
+-- what the packet comes to
+abbrev pub kind : List ℕ → Mechanics → List ℕ → Kind Mechanics
+kind p m t = kindOf (seen (decode (codeOf p))) p (perform (decode (codeOf p)) p m t)
+
+kind-steps : {c : Command} (s : Seen c) (u : Unit) (m : Mechanics) (p t : List ℕ) → steps c u m p t ≡ reply (kindOf s p (perform c p m t)) u m
+kind-steps asking u m p t = refl
+kind-steps freeing u m p t = refl
+kind-steps (ordering n g) u m p t = g u m p t
+
+kind-request : {c : Command} (s : Seen c) (p : List ℕ) (r : Result Mechanics) → isAsking (kindOf s p r) ≡ isRequest c
+kind-request asking p r = refl
+kind-request freeing p r = refl
+kind-request (ordering n g) p r = sym n
+
+kind-needs : {c : Command} (s : Seen c) (p : List ℕ) (r : Result Mechanics) → needsDisc c p ≡ true → kindOf s p r ≡ orders r
+kind-needs asking p r h = absurd (false≢true h)
+kind-needs freeing p r h = absurd (false≢true h)
+kind-needs (ordering n g) p r h = refl
+
+-- while an attention is pending the lent table is not looked at
+kind-blind : {c : Command} (s : Seen c) (u : Unit) (m : Mechanics) (p t t′ : List ℕ) → anyPending u ≡ true
+    → reply (kindOf s p (perform c p m t)) u m ≡ reply (kindOf s p (perform c p m t′)) u m
+unfolding perform _and_ if_then_else_
+kind-blind asking u m p t t′ l = refl
+kind-blind freeing u m p t t′ l = refl
+kind-blind (ordering n g) u m p t t′ l = gate-blind u m _ _ l
+
+pub steps-blind : (c : Command) (u : Unit) (m : Mechanics) (p t t′ : List ℕ) → anyPending u ≡ true → steps c u m p t ≡ steps c u m p t′
+steps-blind c u m p t t′ l =
+    kind-steps (seen c) u m p t ∙ kind-blind (seen c) u m p t t′ l ∙ sym (kind-steps (seen c) u m p t′)
+
+-- ---- refused or not
+
+-- the packet's steps, as they are where it is not refused
+abbrev pub stepped : Drive → List ℕ → List ℕ → Reply Mechanics
+stepped d p t = steps (decode (codeOf p)) (d .unit) (d .mechanics) p t
+
+pub stepped-kind : (d : Drive) (p t : List ℕ) → stepped d p t ≡ reply (kind p (d .mechanics) t) (d .unit) (d .mechanics)
+stepped-kind d p t = kind-steps (seen (decode (codeOf p))) (d .unit) (d .mechanics) p t
+
+-- the answer is that of the packet's kind, or a refusal
+pub reply-kind : (d : Drive) (p t : List ℕ) (n : ℕ) → (j : ℕ) × (replyTo d p t n ≡ meets j (kind p (d .mechanics) t) (d .unit) (d .mechanics))
+unfolding replyTo within
+reply-kind d p t n = refused (refusalOf d p t n) refl
+  where
+    Found : Type 0
+    Found = (j : ℕ) × (replyTo d p t n ≡ meets j (kind p (d .mechanics) t) (d .unit) (d .mechanics))
+
+    long : (b : Bool) → refusalOf d p t n ≡ 0 → ltb bound (length (stepped d p t .full)) ≡ b → Found
+    long true e q = (longAnswer, when _ _ _ (ap (λ (x : ℕ). eqb x 0) e) ∙ when _ _ _ q)
+    long false e q = (0, when _ _ _ (ap (λ (x : ℕ). eqb x 0) e) ∙ unless _ _ _ q ∙ stepped-kind d p t)
+
+    refused : (j : ℕ) → refusalOf d p t n ≡ j → Found
+    refused zero e = long _ e refl
+    refused (suc j) e =
+        (suc j, unless _ _ _ (ap (λ (x : ℕ). eqb x 0) e ∙ eqb·suc-zero j) ∙ ap (λ (x : ℕ). refuse x (d .unit) (d .mechanics)) e)
+
+-- ---- no command but a closing is a loading
+
+pub closed-still : (m : Mechanics) → closed m m ≡ false
+unfolding _and_
+closed-still m = go (m .«tray_open») _
+  where
+    go : (b c : Bool) → b and not b and c ≡ false
+    go true c = refl
+    go false c = refl
+
+-- the result moves the tray only as it says
+abbrev Fair : Mechanics → Result Mechanics → Type 0
+Fair m r = closed m (nextOf m r) ≡ loadingOf r
+
+load-fair : (m : Mechanics) → Fair m (load m)
+unfolding load _and_
+load-fair m = either (Fair m) _ (λ h. rw h) (λ h. closed-still m)
+
+eject-fair : (m : Mechanics) → Fair m (eject m)
+unfolding eject _and_
+eject-fair m = either (Fair m) _ (λ h. closed-still m) (λ h. either (Fair m) _ (λ k. closed-still m) (λ k. rw h))
+
+startStop-fair : (b : ℕ) (m : Mechanics) → Fair m (startStop b m)
+unfolding startStop
+startStop-fair b m = either (Fair m) _ (λ h. either (Fair m) _ (λ k. load-fair m) (λ k. eject-fair m)) (λ h. closed-still m)
+
+work-fair : (c : Command) (p : List ℕ) (m : Mechanics) (t : List ℕ) → Fair m (work c p m t)
+unfolding inquiry seek read readToc
+work-fair TestUnitReady p m t = closed-still m
+work-fair RequestSense p m t = closed-still m
+work-fair Inquiry p m t = either (Fair m) _ (λ h. closed-still m) (λ h. closed-still m)
+work-fair StartStop p m t = startStop-fair (byte p 4) m
+work-fair Prevent p m t = closed-still m
+work-fair ReadCapacity p m t = closed-still m
+work-fair Read10 p m t = either (Fair m) _ (λ h. closed-still m) (λ h. either (Fair m) _ (λ k. closed-still m) (λ k. closed-still m))
+work-fair Seek p m t = either (Fair m) _ (λ h. closed-still m) (λ h. closed-still m)
+work-fair ReadToc p m t = either (Fair m) _ (λ h. closed-still m) (λ h. closed-still m)
+work-fair Read12 p m t = either (Fair m) _ (λ h. closed-still m) (λ h. either (Fair m) _ (λ k. closed-still m) (λ k. closed-still m))
+work-fair Unknown p m t = closed-still m
+
+perform-fair : (c : Command) (p : List ℕ) (m : Mechanics) (t : List ℕ) → Fair m (perform c p m t)
+unfolding perform
+perform-fair c p m t = either (Fair m) _ (λ h. closed-still m) (λ h. work-fair c p m t)
+
+kind-fair : {c : Command} (s : Seen c) (p : List ℕ) (m : Mechanics) (t : List ℕ) → Honest closed m (kindOf s p (perform c p m t))
+kind-fair asking p m t = closed-still m
+kind-fair freeing p m t = (perform-fair Inquiry p m t, closed-still m)
+kind-fair (ordering {c} n g) p m t = (perform-fair c p m t, closed-still m)
+
+pub packet-fair : (p : List ℕ) (m : Mechanics) (t : List ℕ) → Honest closed m (kind p m t)
+packet-fair p m t = kind-fair (seen (decode (codeOf p))) p m t
+
+-- ---- the packet's code
+
+-- REQUEST SENSE is the code 03h
+decode-request : (n : ℕ) → eqb n 0x03 ≡ isRequest (decode n)
+unfolding decode
+decode-request n =
+    either P _ (λ h. at 0x00 h) (λ h. either P _ (λ h. h) (λ h₃. either P _ (λ h. h₃) (λ h.
+    either P _ (λ h. h₃) (λ h. either P _ (λ h. h₃) (λ h. either P _ (λ h. h₃) (λ h. either P _ (λ h. h₃) (λ h.
+    either P _ (λ h. h₃) (λ h. either P _ (λ h. h₃) (λ h. either P _ (λ h. h₃) (λ h. h₃))))))))))
+  where
+    P : Command → Type 0
+    P c = eqb n 0x03 ≡ isRequest c
+
+    at : (k : ℕ) → eqb n k ≡ true → eqb n 0x03 ≡ eqb k 0x03
+    at k h = rw (eqb-true n k h)
+
+pub packet-request : (p : List ℕ) (m : Mechanics) (t : List ℕ) → isAsking (kind p m t) ≡ isRequestSense p
+packet-request p m t = kind-request (seen (decode (codeOf p))) p _ ∙ sym (decode-request (codeOf p))
+
+decode-needs : (n : ℕ) (b : Bool) (p : List ℕ) → b ≡ not (loEj p) and start p
+    → eqb n 0x00 or eqb n 0x25 or eqb n 0x28 or eqb n 0x2B or eqb n 0x43 or eqb n 0xA8 or eqb n 0x1B and b ≡ needsDisc (decode n) p
+unfolding decode _or_ _and_
+decode-needs n b p e =
+    either P _ (λ h. rw h) (λ h0. either P _ (λ h. rw (eqb-true n _ h)) (λ h3. either P _ (λ h. rw (eqb-true n _ h)) (λ h12.
+    either P _ (λ h. rw (eqb-true n _ h) e) (λ h1B. either P _ (λ h. rw (eqb-true n _ h)) (λ h1E. either P _ (λ h. rw (eqb-true n _ h)) (λ h25.
+    either P _ (λ h. rw (eqb-true n _ h)) (λ h28. either P _ (λ h. rw (eqb-true n _ h)) (λ h2B. either P _ (λ h. rw (eqb-true n _ h)) (λ h43.
+    either P _ (λ h. rw (eqb-true n _ h)) (λ hA8. rw (h0, h1B, h25, h28, h2B, h43, hA8)))))))))))
+  where
+    P : Command → Type 0
+    P c = eqb n 0x00 or eqb n 0x25 or eqb n 0x28 or eqb n 0x2B or eqb n 0x43 or eqb n 0xA8 or eqb n 0x1B and b ≡ needsDisc c p
+
+pub packet-needs : (p : List ℕ) → isNeeding p ≡ needsDisc (decode (codeOf p)) p
+unfolding isNeeding
+packet-needs p = decode-needs (codeOf p) _ p refl
+
+pub packet-orders : (p : List ℕ) (m : Mechanics) (t : List ℕ) → isNeeding p ≡ true → (r : Result Mechanics) × (kind p m t ≡ orders r)
+packet-orders p m t h = (_, kind-needs (seen (decode (codeOf p))) p _ (sym (packet-needs p) ∙ h))
+
+-- ---- the lent table
+
+-- while an attention is pending two fit tables give one answer
+pub packet-blind : (d : Drive) (p t t′ : List ℕ) (n : ℕ) → isFit t ≡ true → isFit t′ ≡ true → anyPending (d .unit) ≡ true → replyTo d p t n ≡ replyTo d p t′ n
+unfolding replyTo refusalOf
+packet-blind d p t t′ n f g l = rw (f, g, steps-blind (decode (codeOf p)) (d .unit) (d .mechanics) p t t′ l)

@@ -1,0 +1,127 @@
+-- "Unfit ones are refused by number; a refused call leaves state and memory as they were." Each number "given exactly when".
+use mathlib.Core.Path.{_≡_, refl}
+use mathlib.Core.Bool.{Bool, not}
+use mathlib.Core.List.{List, []}
+use Prim.Native.Nat.{ℕ, _+_, _*_}
+use lib.ListN.{length}
+use lib.Dec.{eqb, ltb, leb}
+use Rattle.ground.specs.Tests.{_and_, _or_}
+use Rattle.address.specs.Address.{toMsf, toBlock, isMsf}
+use Rattle.drive.specs.declared.state.Drive.{Drive}
+use Rattle.drive.specs.Sense.{isKnown}
+use Rattle.drive.specs.State.{isLoaded}
+use Rattle.disc.specs.Layout.{lastSession}
+use Rattle.disc.specs.Rules.{isFit}
+use Rattle.disc.specs.Part.{partRefusal}
+use Rattle.target.specs.Command.{decode, codeOf}
+use Rattle.target.specs.Packet.{steps}
+use Rattle.claims.specs.Call.{Call, powering, pressing, laying, lifting, packet, memoryOf, answer, next}
+use Rattle.claims.specs.RefusalLaws.{call-unchanged, reply-ordered, press-tested, press-locked, lay-tested, lift-tested, part-parted, toMsf-number, toBlock-number}
+
+-- a call with a number other than 0 leaves the state as it was, and answers "status 0, 0 bytes, start 0, count 0" with the memory as it was
+pub refused-unchanged : (c : Call) (d : Drive) → (answer c d .number ≡ 0 → ⊥)
+    → (next c d ≡ d) × (answer c d ≡ record { number = answer c d .number; status = 0; full = []; limit = 0; start = 0; count = 0; memory = memoryOf c })
+refused-unchanged = call-unchanged
+
+module _ (d : Drive) where
+  -- the call gives the number
+  abbrev gives : Call → ℕ → Bool
+  gives c n = eqb (answer c d .number) n
+
+  -- the held sense is one of the ten
+  abbrev isOfTen : Bool
+  isOfTen = isKnown (d .unit .sense)
+
+  -- ---- "Packets test 1, 2, 3, 4, then the steps below, and 9 once the full answer is known."
+
+  module _ (p t m : List ℕ) where
+    -- the packet is 12 bytes
+    abbrev isTwelve : Bool
+    isTwelve = eqb (length p) 12
+
+    -- "response memory is under 4,360 bytes"
+    abbrev isUnder : Bool
+    isUnder = ltb (length m) 4360
+
+    -- "loaded .. and the table is not fit"
+    abbrev isUnfit : Bool
+    isUnfit = isLoaded (d .mechanics) and not (isFit t)
+
+    -- "a full answer would pass 4,360 bytes"
+    abbrev isOver : Bool
+    isOver = ltb 4360 (length (steps (decode (codeOf p)) (d .unit) (d .mechanics) p t .full))
+
+    pub refused-1 : gives (packet p t m) 1 ≡ not isTwelve
+    refused-1 = reply-ordered d p t (length m) .one
+
+    pub refused-2 : gives (packet p t m) 2 ≡ isTwelve and not isOfTen
+    refused-2 = reply-ordered d p t (length m) .two
+
+    pub refused-3 : gives (packet p t m) 3 ≡ isTwelve and isOfTen and isUnder
+    refused-3 = reply-ordered d p t (length m) .three
+
+    pub refused-4 : gives (packet p t m) 4 ≡ isTwelve and isOfTen and not isUnder and isUnfit
+    refused-4 = reply-ordered d p t (length m) .four
+
+    pub refused-9 : gives (packet p t m) 9 ≡ isTwelve and isOfTen and not isUnder and not isUnfit and isOver
+    refused-9 = reply-ordered d p t (length m) .nine
+
+    -- and no other number but 0
+    pub refused-not : gives (packet p t m) 0 ≡ isTwelve and isOfTen and not isUnder and not isUnfit and not isOver
+    refused-not = reply-ordered d p t (length m) .zero
+
+  -- ---- "Button, laying and lifting test 2 before 5 to 7."
+
+  -- "Power-on .. is never refused"
+  pub refused-power : answer powering d .number ≡ 0
+  refused-power = refl
+
+  -- "an open tray closes; a closed one opens, unless locked (5)"
+  pub refused-button-2 : gives pressing 2 ≡ not isOfTen
+  refused-button-2 = press-tested d .two
+
+  pub refused-5 : gives pressing 5 ≡ isOfTen and not (d .mechanics .«tray_open») and d .mechanics .lock
+  refused-5 = press-locked d
+
+  pub refused-button-not : gives pressing 0 ≡ isOfTen and (d .mechanics .«tray_open» or not (d .mechanics .lock))
+  refused-button-not = press-tested d .zero
+
+  -- "Laying a disc needs an open tray without one (6)"
+  pub refused-lay-2 : gives laying 2 ≡ not isOfTen
+  refused-lay-2 = lay-tested d .two
+
+  pub refused-6 : gives laying 6 ≡ isOfTen and not (d .mechanics .«tray_open» and not (d .mechanics .«disc_in»))
+  refused-6 = lay-tested d .next
+
+  pub refused-lay-not : gives laying 0 ≡ isOfTen and d .mechanics .«tray_open» and not (d .mechanics .«disc_in»)
+  refused-lay-not = lay-tested d .zero
+
+  -- "lifting needs an open tray with one (7)"
+  pub refused-lift-2 : gives lifting 2 ≡ not isOfTen
+  refused-lift-2 = lift-tested d .two
+
+  pub refused-7 : gives lifting 7 ≡ isOfTen and not (d .mechanics .«tray_open» and d .mechanics .«disc_in»)
+  refused-7 = lift-tested d .next
+
+  pub refused-lift-not : gives lifting 0 ≡ isOfTen and d .mechanics .«tray_open» and d .mechanics .«disc_in»
+  refused-lift-not = lift-tested d .zero
+
+-- ---- "The session part tests fitness (4, empty part) before 10": "a session asked for is 0 or over S"
+
+pub refused-part-4 : (t : List ℕ) (k : ℕ) → eqb (partRefusal t k) 4 ≡ not (isFit t)
+refused-part-4 t k = part-parted t k .four
+
+pub refused-10 : (t : List ℕ) (k : ℕ) → eqb (partRefusal t k) 10 ≡ isFit t and not (leb 1 k and leb k (lastSession t))
+refused-10 t k = part-parted t k .ten
+
+pub refused-part-not : (t : List ℕ) (k : ℕ) → eqb (partRefusal t k) 0 ≡ isFit t and leb 1 k and leb k (lastSession t)
+refused-part-not t k = part-parted t k .zero
+
+-- ---- 8: "address over 449,849, or M:S:F outside rule 6"
+
+pub refused-8-address : (a : ℕ) → eqb (toMsf a .number) 8 ≡ ltb 449849 a
+refused-8-address = toMsf-number
+
+pub refused-8-msf : (m s f : ℕ) → eqb (toBlock m s f .number) 8 ≡ not (leb m 99 and leb s 59 and leb f 74 and leb 150 ((m * 60 + s) * 75 + f))
+unfolding isMsf
+refused-8-msf = toBlock-number

@@ -1,0 +1,36 @@
+-- "Two runs that differ only in the fit tables lent after a power-on or a loading agree in every answer, state and response byte
+-- up to and including the answer that leaves nothing pending."
+use mathlib.Core.Path.{_≡_}
+use mathlib.Core.Bool.{true}
+use mathlib.Core.List.{List, _∷_, _++_}
+use Prim.Native.Nat.{ℕ, _<_}
+use lib.ListN.{length}
+use Rattle.drive.specs.declared.state.Drive.{Drive}
+use Rattle.claims.specs.Telling.{Answer}
+use Rattle.claims.specs.History.{Event, At}
+use Rattle.claims.specs.Runs.{Pairwise}
+use Rattle.claims.specs.Carried.{Board, runs-carried}
+use Rattle.claims.specs.Call.{Call, Happening, event, history, final, isAttending, isCause, Alike, lend, left, historyOn, finalOn}
+use Rattle.claims.specs.Device.{runs}
+use Rattle.claims.specs.DriveDevice.{drive, cause-attends, lend-alike, left-alike}
+
+-- calls in common, then a power-on or a loading c, then calls that are alike, one by one, but for the fit tables lent:
+-- the events at place i have the same answer, with the memory that it leaves, and the same state after it,
+-- where each answer after c and before that place leaves an attention pending
+pub two-runs : (handed : Drive) (common : List Call) (c : Call) → isCause (event c (final handed common)) ≡ true
+    → {cs ds : List Call} → Pairwise Alike cs ds
+    → (i : ℕ) {e f : Happening} → At (history handed (common ++ c ∷ cs)) i e → At (history handed (common ++ c ∷ ds)) i f
+    → ((j : ℕ) (g : Happening) → length common < j → j < i → At (history handed (common ++ c ∷ cs)) j g → isAttending (g .new) ≡ true)
+    → (e .answer ≡ f .answer) × (e .new ≡ f .new)
+two-runs handed common c h = runs drive handed common c (cause-attends c (final handed common) h)
+
+-- the same with one response memory carried from call to call: each call is lent what the one before left
+pub two-runs-carried : (handed : Board Drive) (common : List Call) (c : Call)
+    → isCause (event (lend (finalOn handed common .memory) c) (finalOn handed common .state)) ≡ true
+    → {cs ds : List Call} → Pairwise Alike cs ds
+    → (i : ℕ) {e f : Event Call (Board Drive) Answer} → At (historyOn handed (common ++ c ∷ cs)) i e → At (historyOn handed (common ++ c ∷ ds)) i f
+    → ((j : ℕ) (g : Event Call (Board Drive) Answer) → length common < j → j < i → At (historyOn handed (common ++ c ∷ cs)) j g → isAttending (g .new .state) ≡ true)
+    → (e .answer ≡ f .answer) × (e .new ≡ f .new)
+two-runs-carried handed common c h =
+    runs-carried drive lend left lend-alike left-alike handed common c
+    (cause-attends (lend (finalOn handed common .memory) c) (finalOn handed common .state) h)

@@ -1,0 +1,204 @@
+-- The attention unit beside any mechanics: how each kind of packet turns the attentions, and what it may tell.
+use mathlib.Core.Path.{_≡_, refl}
+use mathlib.Core.Bool.{Bool, true, false, not, false≢true}
+use mathlib.Core.List.{List}
+use Prim.Native.Nat.{ℕ, zero, suc}
+use lib.Dec.{eqb·suc-zero}
+use Rattle.ground.specs.Tests.{_and_, _or_, if_then_else_}
+use Rattle.drive.specs.declared.sense.Sense.{Sense}
+use Rattle.drive.specs.declared.state.Unit.{Unit}
+use Rattle.drive.specs.Sense.{senseAt, noSense, changed, powered, sameSense}
+use Rattle.drive.specs.Unit.{attend}
+use Rattle.gate.specs.declared.fault.Fault.{Fault}
+use Rattle.gate.specs.declared.fault.Fault.the-variants.{NoMediumClosed, NoMediumOpen, UnknownCode, OutOfRange, BadField, RemovalPrevented, IllegalMode}
+use Rattle.gate.specs.Fault.{senseOf}
+use Rattle.gate.specs.Unit.{hold, pendingOf, attentionSense, told, give}
+use Rattle.gate.specs.Gate.{Result, fails, goes, Reply, refuse, good, gate, pass, requestSense}
+use Rattle.claims.specs.Telling.{Attention, power, change, pending, anyPending, tripleOf, answerOf, isGood, tellsTo}
+
+-- what a packet comes to, by the steps: REQUEST SENSE, INQUIRY, or any other
+pub data Kind (M : Type 0) : Type 0 where
+  asks : (limit : ℕ) → Kind M
+  frees : Result M → Kind M
+  orders : Result M → Kind M
+
+-- of the change attention alone
+abbrev pub only : Attention → Bool → Bool
+only power b = false
+only change b = b
+
+module _ {M : Type 0} where
+  abbrev pub isAsking : Kind M → Bool
+  isAsking (asks limit) = true
+  isAsking (frees r) = false
+  isAsking (orders r) = false
+
+  abbrev pub reply : Kind M → Unit → M → Reply M
+  reply (asks limit) u m = requestSense limit u m
+  reply (frees r) u m = pass u m r
+  reply (orders r) u m = gate u m r
+
+  -- the reply, or a refusal where the number is not 0
+  abbrev pub meets : ℕ → Kind M → Unit → M → Reply M
+  meets zero k u m = reply k u m
+  meets (suc n) k u m = refuse (suc n) u m
+
+  -- the mechanics after a result, and whether it was a loading
+  abbrev pub nextOf : M → Result M → M
+  nextOf m (fails f) = m
+  nextOf m (goes next loading full limit start count) = next
+
+  abbrev pub loadingOf : Result M → Bool
+  loadingOf (fails f) = false
+  loadingOf (goes next loading full limit start count) = loading
+
+  -- `loads` reads a loading off the mechanics before and after: the packet's result says the same, and where nothing moves there is none
+  abbrev pub Honest : (M → M → Bool) → M → Kind M → Type 0
+  Honest loads m (asks limit) = loads m m ≡ false
+  Honest loads m (frees r) = (loads m (nextOf m r) ≡ loadingOf r) × (loads m m ≡ false)
+  Honest loads m (orders r) = (loads m (nextOf m r) ≡ loadingOf r) × (loads m m ≡ false)
+
+or-none : (b : Bool) → b or false ≡ b
+unfolding _or_
+or-none true = refl
+or-none false = refl
+
+-- a fault's triple is no attention's
+fault-untold : (a : Attention) (f : Fault) → sameSense (senseOf f) (tripleOf a) ≡ false
+unfolding sameSense senseAt _and_
+fault-untold power NoMediumClosed = refl
+fault-untold power NoMediumOpen = refl
+fault-untold power UnknownCode = refl
+fault-untold power OutOfRange = refl
+fault-untold power BadField = refl
+fault-untold power RemovalPrevented = refl
+fault-untold power IllegalMode = refl
+fault-untold change NoMediumClosed = refl
+fault-untold change NoMediumOpen = refl
+fault-untold change UnknownCode = refl
+fault-untold change OutOfRange = refl
+fault-untold change BadField = refl
+fault-untold change RemovalPrevented = refl
+fault-untold change IllegalMode = refl
+
+-- what an answer does to the attention, where it told it or not and was a loading or not:
+-- pending after is caused by the loading, or was pending and is not told; only what is pending is told; what tells is no loading
+pub record Turn (a : Attention) (old : Unit) (tells loads : Bool) (new : Unit) : Type 0 where
+  pub turns : pending a new ≡ only a loads or (not tells and pending a old)
+  pub due : tells ≡ true → pending a old ≡ true
+  pub apart : tells ≡ true → loads ≡ false
+
+-- nothing told, no loading, the attentions as they were
+pub unmoved : (a : Attention) (u : Unit) (s : Sense) → Turn a u false false (record { power = u .power; change = u .change; sense = s })
+unfolding _and_ _or_
+unmoved power u s = record { turns = refl; due = λ h. absurd (false≢true h); apart = λ h. refl }
+unmoved change u s = record { turns = refl; due = λ h. absurd (false≢true h); apart = λ h. refl }
+
+-- nothing told, perhaps a loading
+pub attended : (a : Attention) (u : Unit) (s : Sense) (b : Bool) → Turn a u false b (attend b (record { power = u .power; change = u .change; sense = s }))
+unfolding _and_ _or_ attend if_then_else_
+attended power u s true = record { turns = refl; due = λ h. absurd (false≢true h); apart = λ h. absurd (false≢true h) }
+attended power u s false = record { turns = refl; due = λ h. absurd (false≢true h); apart = λ h. refl }
+attended change u s true = record { turns = refl; due = λ h. absurd (false≢true h); apart = λ h. absurd (false≢true h) }
+attended change u s false = record { turns = refl; due = λ h. absurd (false≢true h); apart = λ h. refl }
+
+-- the pending attention is told, power first, or none is pending
+tells-first : (a : Attention) (p c : Bool) (h s : Sense) →
+    let u : Unit = record { power = p; change = c; sense = h } in
+    Turn a u (sameSense (attentionSense (pendingOf u)) (tripleOf a)) false
+    (record { power = told (pendingOf u) u .power; change = told (pendingOf u) u .change; sense = s })
+unfolding _and_ _or_ if_then_else_ pendingOf sameSense senseAt
+tells-first power true c h s = record { turns = refl; due = λ q. refl; apart = λ q. refl }
+tells-first power false true h s = record { turns = refl; due = λ q. q; apart = λ q. refl }
+tells-first power false false h s = record { turns = refl; due = λ q. q; apart = λ q. refl }
+tells-first change true c h s = record { turns = refl; due = λ q. absurd (false≢true q); apart = λ q. refl }
+tells-first change false true h s = record { turns = refl; due = λ q. refl; apart = λ q. refl }
+tells-first change false false h s = record { turns = refl; due = λ q. q; apart = λ q. refl }
+
+-- REQUEST SENSE
+give-turn : (a : Attention) (u : Unit) (b : Bool) → sameSense (u .sense) noSense ≡ b
+    → Turn a u (sameSense (u .sense) noSense and sameSense (give u .sense) (tripleOf a)) false (give u .unit)
+unfolding _and_ if_then_else_ give
+give-turn a u true e = rw e (tells-first a (u .power) (u .change) (u .sense) noSense)
+give-turn a u false e = rw e (unmoved a u noSense)
+
+module _ {M : Type 0} (loads : M → M → Bool) (a : Attention) (memory : List ℕ) (m : M) where
+  -- how the answer r to a packet turns the attention
+  abbrev Turns : Bool → Unit → Reply M → Type 0
+  Turns asking u r = Turn a u (tellsTo a asking u (answerOf memory r) (r .unit)) (loads m (r .mechanics)) (r .unit)
+
+  asks-turn : (limit : ℕ) (u : Unit) → loads m m ≡ false → Turns true u (requestSense limit u m)
+  unfolding _and_ _or_ senseAt
+  asks-turn limit u q = rw q (give-turn a u _ refl)
+
+  -- CHECK CONDITION with a fault's triple
+  fails-turn : (f : Fault) (u : Unit) → loads m m ≡ false → Turns false u (pass u m (fails f))
+  unfolding _and_ _or_
+  fails-turn f u q = rw (q, fault-untold a f) (unmoved a u (senseOf f))
+
+  -- GOOD, the sense left or cleared
+  goes-turn : (s : Sense) (u : Unit) (next : M) (loading : Bool) (full : List ℕ) (limit start count : ℕ) → loads m next ≡ loading
+      → Turns false u (good full limit start count (attend loading (hold s u)) next)
+  unfolding _and_ _or_
+  goes-turn s u next loading full limit start count q = rw q (attended a u s loading)
+
+  -- step 2, and the steps after it where nothing is pending
+  meet-turn : (p c : Bool) (h : Sense) (r : Result M) → loads m (nextOf m r) ≡ loadingOf r → loads m m ≡ false →
+      let u : Unit = record { power = p; change = c; sense = h } in
+      Turns false u (gate u m r)
+  unfolding _and_ _or_ if_then_else_ gate pendingOf
+  meet-turn true c h r q z = rw (z, or-none) (tells-first a true c h powered)
+  meet-turn false true h r q z = rw (z, or-none) (tells-first a false true h changed)
+  meet-turn false false h (fails f) q z = fails-turn f _ z
+  meet-turn false false h (goes next loading full limit start count) q z = goes-turn noSense _ next loading full limit start count q
+
+  -- each kind of packet, refused or not
+  pub meets-turn : (n : ℕ) (k : Kind M) (u : Unit) → Honest loads m k → Turns (isAsking k) u (meets n k u m)
+  unfolding _and_ _or_
+  meets-turn zero (asks limit) u q = asks-turn limit u q
+  meets-turn zero (frees (fails f)) u q = fails-turn f u (q .1)
+  meets-turn zero (frees (goes next loading full limit start count)) u q = goes-turn (u .sense) u next loading full limit start count (q .0)
+  meets-turn zero (orders r) u q = meet-turn (u .power) (u .change) (u .sense) r (q .0) (q .1)
+  meets-turn (suc n) (asks limit) u q = rw (q, eqb·suc-zero n) (unmoved a u (u .sense))
+  meets-turn (suc n) (frees r) u q = rw (q .1, eqb·suc-zero n) (unmoved a u (u .sense))
+  meets-turn (suc n) (orders r) u q = rw (q .1, eqb·suc-zero n) (unmoved a u (u .sense))
+
+-- ---- while an attention is pending
+
+module _ {M : Type 0} where
+  -- what is met by an attention does not depend on what the packet comes to
+  meet-blind : (p c : Bool) (h : Sense) (m : M) (r s : Result M) → p or c ≡ true →
+      let u : Unit = record { power = p; change = c; sense = h } in
+      gate u m r ≡ gate u m s
+  unfolding _or_ if_then_else_ gate pendingOf
+  meet-blind true c h m r s l = refl
+  meet-blind false true h m r s l = refl
+  meet-blind false false h m r s l = absurd (false≢true l)
+
+  pub gate-blind : (u : Unit) (m : M) (r s : Result M) → anyPending u ≡ true → gate u m r ≡ gate u m s
+  gate-blind u m r s l = meet-blind (u .power) (u .change) (u .sense) m r s l
+
+  -- and is not GOOD
+  meet-blocks : (p c : Bool) (h : Sense) (m : M) (r : Result M) (memory : List ℕ) → p or c ≡ true →
+      let u : Unit = record { power = p; change = c; sense = h } in
+      isGood (answerOf memory (gate u m r)) ≡ false
+  unfolding _or_ _and_ if_then_else_ gate pendingOf
+  meet-blocks true c h m r memory l = refl
+  meet-blocks false true h m r memory l = refl
+  meet-blocks false false h m r memory l = absurd (false≢true l)
+
+  pub orders-blocks : (n : ℕ) (r : Result M) (u : Unit) (m : M) (memory : List ℕ) → anyPending u ≡ true
+      → isGood (answerOf memory (meets n (orders r) u m)) ≡ false
+  unfolding _and_
+  orders-blocks zero r u m memory l = meet-blocks (u .power) (u .change) (u .sense) m r memory l
+  orders-blocks (suc n) r u m memory l = rw (eqb·suc-zero n)
+
+-- one of the two is pending where one of them is
+pub any-pending : (a : Attention) (u : Unit) → pending a u ≡ true → anyPending u ≡ true
+unfolding _or_
+any-pending power u h = rw h
+any-pending change u h = either-way (u .power)
+  where
+    either-way : (b : Bool) → b or u .change ≡ true
+    either-way true = refl
+    either-way false = h

@@ -1,0 +1,1 @@
+// Theorems alone: what the drive promises, over the definitions that the contracts cite.

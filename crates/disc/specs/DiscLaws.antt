@@ -1,0 +1,31 @@
+-- What a reading tells: a fit table's disc, or that the table is not fit.
+use mathlib.Core.Path.{_≡_, refl, sym, _∙_}
+use mathlib.Core.Bool.{Bool, true, false}
+use mathlib.Core.List.{List}
+use Prim.Native.Nat.{ℕ}
+use native.Mathlib.Omega.{arith}
+use Rattle.ground.specs.Tests.{when, unless}
+use Rattle.disc.specs.Rules.{fault, isFit}
+use Rattle.disc.specs.Disc.{discOf, reading}
+use Rattle.disc.specs.declared.disc.Disc.{Disc}
+use Rattle.disc.specs.declared.disc.Reading.the-variants.{Fit, Unfit}
+
+pub reading-fit : (t : List ℕ) (disc : Disc) → reading t ≡ Fit disc → (isFit t ≡ true) × (disc ≡ discOf t)
+unfolding reading
+reading-fit t disc h = decided (isFit t) refl
+  where
+    decided : (b : Bool) → isFit t ≡ b → (isFit t ≡ true) × (disc ≡ discOf t)
+    decided true e = let k = sym (when _ (Fit (discOf t)) (Unfit (fault t)) e) ∙ h in (e, cc)
+    decided false e =
+        let k = sym (unless _ (Fit (discOf t)) (Unfit (fault t)) e) ∙ h in
+        let z : _≡_ {A = ℕ} 0 1 = cc in absurd (omega arith)
+
+pub reading-unfit : (t : List ℕ) (n : ℕ) → reading t ≡ Unfit n → isFit t ≡ false
+unfolding reading
+reading-unfit t n h = decided (isFit t) refl
+  where
+    decided : (b : Bool) → isFit t ≡ b → isFit t ≡ false
+    decided true e =
+        let k = sym (when _ (Fit (discOf t)) (Unfit (fault t)) e) ∙ h in
+        let z : _≡_ {A = ℕ} 0 1 = cc in absurd (omega arith)
+    decided false e = e

@@ -1,0 +1,158 @@
+-- Table E of 01 is fit, and each way to break one rule of it gives that rule's number: one statement over one list, closed by computation.
+use mathlib.Core.Path.{_≡_, refl}
+use mathlib.Core.Bool.{Bool, true, false}
+use mathlib.Core.List.{List, [], _∷_, _++_}
+use Prim.Native.Nat.{ℕ, zero, suc, _+_, _*_, _/_, _%_}
+use lib.ListN.{length, take, set, replicate}
+use lib.Dec.{eqb}
+use Rattle.ground.specs.Tests.{_and_, _or_, every, if_then_else_}
+use Rattle.address.specs.Address.{isMsf, minuteOf, secondOf, frameOf}
+use Rattle.disc.specs.Layout.{addressAt, isTrack, A0, A1, A2}
+use Rattle.disc.specs.Session.{size, names, listed, isSession, starts, before, follows, inPlace, inOrder}
+use Rattle.disc.specs.Rules.{rule1, rule2, plain, headA0, headed, addressed, rowTest, rises, outBefore, beginsAfter, rising, rule7, firstBroken, lateRules, rowRules, fault}
+
+-- ---- tables
+
+-- "Table E, 59 bytes"
+abbrev pub tableE : List ℕ
+tableE =
+    0x00 ∷ 0x39 ∷ 0x01 ∷ 0x01 ∷
+    0x01 ∷ 0x14 ∷ 0x00 ∷ 0xA0 ∷ 0x00 ∷ 0x00 ∷ 0x00 ∷ 0x00 ∷ 0x01 ∷ 0x00 ∷ 0x00 ∷
+    0x01 ∷ 0x10 ∷ 0x00 ∷ 0xA1 ∷ 0x00 ∷ 0x00 ∷ 0x00 ∷ 0x00 ∷ 0x02 ∷ 0x00 ∷ 0x00 ∷
+    0x01 ∷ 0x10 ∷ 0x00 ∷ 0xA2 ∷ 0x00 ∷ 0x00 ∷ 0x00 ∷ 0x00 ∷ 0x00 ∷ 0x06 ∷ 0x00 ∷
+    0x01 ∷ 0x14 ∷ 0x00 ∷ 0x01 ∷ 0x00 ∷ 0x00 ∷ 0x00 ∷ 0x00 ∷ 0x00 ∷ 0x02 ∷ 0x00 ∷
+    0x01 ∷ 0x10 ∷ 0x00 ∷ 0x02 ∷ 0x00 ∷ 0x00 ∷ 0x00 ∷ 0x00 ∷ 0x00 ∷ 0x04 ∷ 0x00 ∷ []
+
+-- table E with another byte for field x of descriptor j: 0 is A0, 1 is A1, 2 is A2, 3 and 4 are the tracks
+abbrev pub changed : ℕ → ℕ → ℕ → List ℕ
+changed j x b = set tableE (4 + 11 * j + x) b
+
+-- table E with another M:S:F in descriptor j
+abbrev pub moved : ℕ → ℕ → ℕ → ℕ → List ℕ
+moved j m s f = set (set (set tableE (4 + 11 * j + 8) m) (4 + 11 * j + 9) s) (4 + 11 * j + 10) f
+
+-- a descriptor of session k, with three bytes for PMIN, PSEC and PFRAME
+abbrev pub entry : ℕ → ℕ → ℕ → ℕ → ℕ → List ℕ
+entry k p m s f = k ∷ 0x10 ∷ 0 ∷ p ∷ 0 ∷ 0 ∷ 0 ∷ 0 ∷ m ∷ s ∷ f ∷ []
+
+-- a descriptor of session k, with a block's address
+abbrev pub entryAt : ℕ → ℕ → ℕ → List ℕ
+entryAt k p a = entry k p (minuteOf a) (secondOf a) (frameOf a)
+
+-- the table of S sessions with these descriptors, its data length put before them
+abbrev pub framed : ℕ → List ℕ → List ℕ
+framed s d = (length d + 2) / 256 ∷ (length d + 2) % 256 ∷ 1 ∷ s ∷ d
+
+-- session k, whose tracks are f to l, without the tracks
+abbrev pub heads : ℕ → ℕ → ℕ → ℕ → List ℕ
+heads k f l out = entry k A0 f 0 0 ++ (entry k A1 l 0 0 ++ entryAt k A2 out)
+
+-- tracks 1 and 2 in two sessions: the first from 0 to 150, the second from a to 450
+abbrev pub two : ℕ → List ℕ
+two a = framed 2 (heads 1 1 1 150 ++ (entryAt 1 1 0 ++ (heads 2 2 2 450 ++ entryAt 2 2 a)))
+
+-- the n tracks of one session
+unfoldable pub chain : ℕ → List ℕ
+chain zero = []
+chain (suc n) = chain n ++ entryAt 1 (suc n) n
+
+-- ---- the cases
+
+-- a table and the number of its first broken rule, 0 for fit
+pub record Case : Type 0 where
+  pub table : List ℕ
+  pub rule : ℕ
+
+infix 2 _gives_
+abbrev pub _gives_ : List ℕ → ℕ → Case
+t gives n = record { table = t; rule = n }
+
+abbrev pub cases : List Case
+cases =
+    (tableE gives 0)
+    -- 1: nothing, no header, a byte short of a descriptor, a data length that is wrong
+    ∷ ([] gives 1)
+    ∷ (take 3 tableE gives 1)
+    ∷ (set (take 58 tableE) 1 0x38 gives 1)
+    ∷ (tableE ++ 0 ∷ [] gives 1)
+    ∷ (set tableE 1 0x3A gives 1)
+    ∷ (set tableE 0 0x01 gives 1)
+    -- 2: S is 0 or 100, the first session not 1
+    ∷ (set tableE 3 0 gives 2)
+    ∷ (set tableE 3 100 gives 2)
+    ∷ (set tableE 2 0 gives 2)
+    ∷ (set tableE 2 2 gives 2)
+    -- 3: ADR, TNO and ZERO
+    ∷ (changed 0 1 0x24 gives 3)
+    ∷ (changed 4 1 0x04 gives 3)
+    ∷ (changed 1 2 1 gives 3)
+    ∷ (changed 3 2 255 gives 3)
+    ∷ (changed 2 7 1 gives 3)
+    ∷ (changed 4 7 128 gives 3)
+    -- 4: a session too few, none at all, a session number, a POINT, a gap in the tracks, f of 0, l < f, too short, too long, over 99
+    ∷ (set tableE 3 2 gives 4)
+    ∷ (framed 1 [] gives 4)
+    ∷ (changed 0 0 2 gives 4)
+    ∷ (changed 4 0 0 gives 4)
+    ∷ (changed 0 3 0xA1 gives 4)
+    ∷ (changed 2 3 0xA3 gives 4)
+    ∷ (changed 4 3 3 gives 4)
+    ∷ (changed 3 3 0 gives 4)
+    ∷ (changed 0 8 0 gives 4)
+    ∷ (changed 0 8 3 gives 4)
+    ∷ (changed 1 8 0 gives 4)
+    ∷ (changed 1 8 3 gives 4)
+    ∷ (changed 1 8 1 gives 4)
+    ∷ (framed 1 (heads 1 99 99 9 ++ entryAt 1 99 0) gives 0)
+    ∷ (framed 1 (heads 1 100 100 9 ++ entryAt 1 100 0) gives 4)
+    -- 4: the next session's f is not l + 1
+    ∷ (framed 2 (heads 1 1 1 150 ++ (entryAt 1 1 0 ++ (heads 2 3 3 450 ++ entryAt 2 3 151))) gives 4)
+    ∷ (framed 2 (heads 1 1 1 150 ++ (entryAt 1 1 0 ++ (heads 2 1 1 450 ++ entryAt 2 1 151))) gives 4)
+    -- 5: A0's PSEC and PFRAME, A1's
+    ∷ (changed 0 9 0x10 gives 0)
+    ∷ (changed 0 9 0x20 gives 0)
+    ∷ (changed 0 9 0x30 gives 5)
+    ∷ (changed 0 9 0x01 gives 5)
+    ∷ (changed 0 10 1 gives 5)
+    ∷ (changed 1 9 0x10 gives 5)
+    ∷ (changed 1 10 1 gives 5)
+    -- 6: 00:01:74 and 99:59:74 with their neighbours, seconds over 59, minutes over 99
+    ∷ (moved 3 0 2 0 gives 0)
+    ∷ (moved 3 0 1 74 gives 6)
+    ∷ (moved 3 0 0 0 gives 6)
+    ∷ (moved 2 99 59 74 gives 0)
+    ∷ (moved 2 99 59 75 gives 6)
+    ∷ (moved 2 99 60 0 gives 6)
+    ∷ (moved 2 100 0 0 gives 6)
+    ∷ (moved 4 0 3 75 gives 6)
+    ∷ (moved 4 0 60 0 gives 6)
+    -- 7: equal starts, falling ones, a lead-out at and before the last track, a session at and before the lead-out of the one before
+    ∷ (moved 4 0 2 0 gives 7)
+    ∷ (moved 3 0 4 1 gives 7)
+    ∷ (moved 2 0 4 0 gives 7)
+    ∷ (moved 2 0 3 74 gives 7)
+    ∷ (moved 2 0 4 1 gives 0)
+    ∷ (two 151 gives 0)
+    ∷ (two 150 gives 7)
+    ∷ (two 149 gives 7)
+    ∷ (two 0 gives 7)
+    -- the first session's f is free, and MIN, SEC and FRAME may hold anything
+    ∷ (framed 1 (heads 1 7 8 9 ++ (entryAt 1 7 0 ++ entryAt 1 8 1)) gives 0)
+    ∷ (set (changed 3 4 255) 20 99 gives 0)
+    -- two rules broken: the first is given
+    ∷ (set (changed 4 10 75) 14 1 gives 5)
+    ∷ (set (set tableE 3 100) 1 0 gives 1)
+    -- as many tracks as there can be
+    ∷ (framed 1 (heads 1 1 99 99 ++ chain 99) gives 0)
+    -- 4,360 bytes are not too many for rule 1, and a descriptor more is
+    ∷ (framed 1 (replicate 4356 0) gives 3)
+    ∷ (framed 1 (replicate 4367 0) gives 1)
+    ∷ []
+
+unfoldable pub tested : List Case → Bool
+tested [] = true
+tested (c ∷ cs) = eqb (fault (c .table)) (c .rule) and tested cs
+
+pub examples-tested : tested cases ≡ true
+unfolding tested _and_ _or_ every if_then_else_ isMsf addressAt isTrack size names listed isSession starts before follows inPlace inOrder rule1 rule2 plain headA0 headed addressed rowTest rises outBefore beginsAfter rising rule7 firstBroken lateRules rowRules fault chain
+examples-tested = refl
