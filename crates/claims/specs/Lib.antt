@@ -5,6 +5,8 @@ pub mod TwoRuns
 pub mod Refused
 pub mod Marked
 pub mod Addresses
+pub mod Block
+pub mod Unique
 -- their notions
 pub mod Call
 pub mod Telling

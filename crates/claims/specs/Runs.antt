@@ -1,16 +1,36 @@
 -- Two runs of any device whose answers, while it is live, do not tell alike calls apart.
-use mathlib.Core.Path.{_≡_, refl, sym}
+use mathlib.Core.Path.{_≡_, refl, sym, ap, _∙_}
 use mathlib.Core.Bool.{Bool, true}
 use mathlib.Core.List.{List, [], _∷_, _++_}
-use Prim.Native.Nat.{ℕ, zero, suc, _<_}
+use Prim.Native.Nat.{ℕ, zero, suc, _+_, _<_}
 use native.Mathlib.Omega.{arith}
-use lib.ListN.{length}
+use lib.ListN.{length, length-append}
 use Rattle.claims.specs.History.{Event, history, final, At, here, there}
 
 -- the calls of one list are like those of the other, one by one
 pub data Pairwise {C : Type 0} (Alike : C → C → Type 0) : List C → List C → Type 0 where
   nil : Pairwise Alike [] []
   cons : {c d : C} {cs ds : List C} → Alike c d → Pairwise Alike cs ds → Pairwise Alike (c ∷ cs) (d ∷ ds)
+
+-- so they are as many
+pairwise-length : {C : Type 0} {Alike : C → C → Type 0} {cs ds : List C} → Pairwise Alike cs ds → length cs ≡ length ds
+pairwise-length nil = refl
+pairwise-length (cons a p) = ap suc (pairwise-length p)
+
+history-length : {C S A : Type 0} (answer : C → S → A) (next : C → S → S) (s : S) (cs : List C) → length (history answer next s cs) ≡ length cs
+history-length answer next s [] = refl
+history-length answer next s (c ∷ cs) = ap suc (history-length answer next (next c s) cs)
+
+-- two runs have an event at the same places
+pub runs-long :
+    {C S A : Type 0} {Alike : C → C → Type 0} (answer : C → S → A) (next : C → S → S) (s : S) (common : List C) (c : C) {cs ds : List C}
+    → Pairwise Alike cs ds → length (history answer next s (common ++ c ∷ cs)) ≡ length (history answer next s (common ++ c ∷ ds))
+runs-long answer next s common c {cs} {ds} p =
+    history-length answer next s (common ++ c ∷ cs)
+    ∙ length-append common (c ∷ cs)
+    ∙ ap (λ (n : ℕ). length common + suc n) (pairwise-length p)
+    ∙ sym (length-append common (c ∷ ds))
+    ∙ sym (history-length answer next s (common ++ c ∷ ds))
 
 -- two events with the same answer and the same state after it
 abbrev pub Same : {C S A : Type 0} → Event C S A → Event C S A → Type 0

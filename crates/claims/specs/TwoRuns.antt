@@ -8,9 +8,9 @@ use lib.ListN.{length}
 use Rattle.drive.specs.declared.state.Drive.{Drive}
 use Rattle.claims.specs.Telling.{Answer}
 use Rattle.claims.specs.History.{Event, At}
-use Rattle.claims.specs.Runs.{Pairwise}
+use Rattle.claims.specs.Runs.{Pairwise, runs-long}
 use Rattle.claims.specs.Carried.{Board, runs-carried}
-use Rattle.claims.specs.Call.{Call, Happening, event, history, final, isAttending, isCause, Alike, lend, left, historyOn, finalOn}
+use Rattle.claims.specs.Call.{Call, Happening, answer, next, event, history, final, isAttending, isCause, Alike, lend, left, historyOn, finalOn}
 use Rattle.claims.specs.Device.{runs}
 use Rattle.claims.specs.DriveDevice.{drive, cause-attends, lend-alike, left-alike}
 
@@ -23,6 +23,11 @@ pub two-runs : (handed : Drive) (common : List Call) (c : Call) → isCause (eve
     → ((j : ℕ) (g : Happening) → length common < j → j < i → At (history handed (common ++ c ∷ cs)) j g → isAttending (g .new) ≡ true)
     → (e .answer ≡ f .answer) × (e .new ≡ f .new)
 two-runs handed common c h = runs drive handed common c (cause-attends c (final handed common) h)
+
+-- and the second run has an event at each place where the first has one
+pub two-runs-long : (handed : Drive) (common : List Call) (c : Call) {cs ds : List Call} → Pairwise Alike cs ds
+    → length (history handed (common ++ c ∷ cs)) ≡ length (history handed (common ++ c ∷ ds))
+two-runs-long handed common c p = runs-long answer next handed common c p
 
 -- the same with one response memory carried from call to call: each call is lent what the one before left
 pub two-runs-carried : (handed : Board Drive) (common : List Call) (c : Call)

@@ -1,0 +1,234 @@
+-- "For any input a public function's promise leaves one possible result, one next state and one content of each lent memory, refusals as well."
+-- A law for each public function, by its name: two results that meet its promise are equal.
+use mathlib.Core.Path.{_≡_, refl, sym, ap, _∙_}
+use mathlib.Core.Bool.{Bool}
+use mathlib.Core.List.{List}
+use Prim.Native.Nat.{ℕ, _<_}
+use native.Mathlib.Omega.{arith}
+use lib.ListN.{length, take}
+use denote.Ref.{RefT, ptr, now}
+use denote.Slice.{slice-vals}
+use Rattle.ground.specs.Number.{Byte, word16, word32, bytes16, bytes32}
+use Rattle.ground.specs.Memory.{Laid, laid-only}
+use Rattle.address.specs.declared.Msf.{Msf}
+use Rattle.address.specs.declared.Msf.the-variants as msf
+use Rattle.address.specs.declared.Block.{Block}
+use Rattle.address.specs.declared.Block.the-variants as block
+use Rattle.address.specs.Address.{MsfAnswer, BlockAnswer, msfMeaning, blockMeaning, toMsf, toBlock, addressOf, isMsf}
+use Rattle.drive.specs.declared.sense.Sense.{Sense}
+use Rattle.drive.specs.declared.state.Unit.{Unit}
+use Rattle.drive.specs.declared.state.Mechanics.{Mechanics}
+use Rattle.drive.specs.declared.state.Drive.{Drive}
+use Rattle.drive.specs.declared.state.Shifted.{Shifted}
+use Rattle.drive.specs.declared.state.Moved.{Moved}
+use Rattle.drive.specs.Sense.{senseAt, sameSense, isKnown}
+use Rattle.drive.specs.Unit.{poweredOn, attend}
+use Rattle.drive.specs.State.{isLoaded, opening, closing, withDisc, withLock, shift, powerOn, button, lay, lift}
+use Rattle.gate.specs.declared.fault.Fault.{Fault}
+use Rattle.gate.specs.declared.unit.Pending.{Pending}
+use Rattle.gate.specs.declared.unit.Giving.{Giving}
+use Rattle.gate.specs.Gate.{Reply}
+use Rattle.gate.specs.Fault.{senseOf}
+use Rattle.gate.specs.Unit.{hold, clear, pendingOf, told, attentionSense, give}
+use Rattle.disc.specs.declared.track.Track.{Track}
+use Rattle.disc.specs.declared.disc.Reading.{Reading}
+use Rattle.disc.specs.Layout.{descriptors}
+use Rattle.disc.specs.Session.{starts}
+use Rattle.disc.specs.Rules.{fault}
+use Rattle.disc.specs.Part.{PartOf, partRefusal, partStart, partSize}
+use Rattle.disc.specs.Track.{isData, trackOf, trackNumbered, runIsData}
+use Rattle.disc.specs.Disc.{reading}
+use Rattle.target.specs.declared.decode.Command.{Command}
+use Rattle.target.specs.declared.decode.Kind.{Kind}
+use Rattle.target.specs.declared.packet.Outcome.{Outcome}
+use Rattle.target.specs.Command.{decode, kindOf}
+use Rattle.target.specs.Packet.{Answered, answer}
+
+-- ---- the shapes of a promise, a law each
+
+-- a value: the result is what the definition gives
+pub value-once : {A : Type 0} {x r s : A} → r ≡ x → s ≡ x → r ≡ s
+value-once p q = p ∙ sym q
+
+-- bytes laid into lent memory: how many went in, and what the memory holds then
+pub laying-once : {m b m₁ m₂ : List ℕ} {r s : ℕ} → Laid m b r m₁ → Laid m b s m₂ → (r ≡ s) × (m₁ ≡ m₂)
+laying-once = laid-only
+
+-- a part of a slice: the same machine value, place and length
+pub part-once : {s r q : RefT (List ℕ)} {at n : ℕ} → PartOf s r at n → PartOf s q at n → slice-vals r ≡ slice-vals q
+part-once {s} {r} {q} a b =
+    let e : ptr r .0 ≡ ptr q .0 = a .block ∙ sym (b .block) in
+    let o : ptr r .1 ≡ ptr q .1 = a .offset ∙ sym (b .offset) in
+    let l : length (now r) ≡ length (now q) = ap length (a .shows ∙ sym (b .shows)) in
+    rw (e, o, l)
+
+-- an answer with memory
+pub answer-once : {a : Reply Mechanics} {m m₁ m₂ : List ℕ} {r s : Outcome} → Answered a m r m₁ → Answered a m s m₂ → (r ≡ s) × (m₁ ≡ m₂)
+answer-once a b = (a .outcome ∙ sym (b .outcome), a .memory ∙ sym (b .memory))
+
+-- an enum through its meaning: the two conversions' answers
+msf-injective : (r s : Msf) → msfMeaning r ≡ msfMeaning s → r ≡ s
+msf-injective (msf.At m n f) (msf.At k l g) e =
+    let a = ap (λ (x : MsfAnswer). x .minute) e in
+    let b = ap (λ (x : MsfAnswer). x .second) e in
+    let c = ap (λ (x : MsfAnswer). x .frame) e in
+    rw (a, b, c)
+msf-injective (msf.At m n f) msf.Refused e = let z : _≡_ {A = ℕ} 0 8 = ap (λ (x : MsfAnswer). x .number) e in absurd (omega arith)
+msf-injective msf.Refused (msf.At k l g) e = let z : _≡_ {A = ℕ} 8 0 = ap (λ (x : MsfAnswer). x .number) e in absurd (omega arith)
+msf-injective msf.Refused msf.Refused e = refl
+
+block-injective : (r s : Block) → blockMeaning r ≡ blockMeaning s → r ≡ s
+block-injective (block.At a) (block.At b) e = rw (ap (λ (x : BlockAnswer). x .address) e)
+block-injective (block.At a) block.Refused e = let z : _≡_ {A = ℕ} 0 8 = ap (λ (x : BlockAnswer). x .number) e in absurd (omega arith)
+block-injective block.Refused (block.At b) e = let z : _≡_ {A = ℕ} 8 0 = ap (λ (x : BlockAnswer). x .number) e in absurd (omega arith)
+block-injective block.Refused block.Refused e = refl
+
+-- ---- ground
+
+pub unique-wide : (b r s : ℕ) → Byte b r → Byte b s → r ≡ s
+unique-wide b r s p q = value-once (p .same) (q .same)
+
+pub unique-word16 : (a b r s : ℕ) → r ≡ word16 a b → s ≡ word16 a b → r ≡ s
+unique-word16 a b r s = value-once
+
+pub unique-word32 : (a b c d r s : ℕ) → (r ≡ word32 a b c d) × (r < 4294967296) → (s ≡ word32 a b c d) × (s < 4294967296) → r ≡ s
+unique-word32 a b c d r s p q = value-once (p .0) (q .0)
+
+pub unique-bytes16 : (n : ℕ) (r s : List ℕ) → r ≡ bytes16 n → s ≡ bytes16 n → r ≡ s
+unique-bytes16 n r s = value-once
+
+pub unique-bytes32 : (n : ℕ) (r s : List ℕ) → r ≡ bytes32 n → s ≡ bytes32 n → r ≡ s
+unique-bytes32 n r s = value-once
+
+pub unique-copy-front : (m b m₁ m₂ : List ℕ) (r s : ℕ) → Laid m b r m₁ → Laid m b s m₂ → (r ≡ s) × (m₁ ≡ m₂)
+unique-copy-front m b m₁ m₂ r s = laying-once
+
+pub unique-put-cut : (room : ℕ) (m b m₁ m₂ : List ℕ) (r s : ℕ) → Laid m (take room b) r m₁ → Laid m (take room b) s m₂ → (r ≡ s) × (m₁ ≡ m₂)
+unique-put-cut room m b m₁ m₂ r s = laying-once
+
+-- ---- address
+
+pub unique-to-msf : (a : ℕ) (r s : Msf) → msfMeaning r ≡ toMsf a → msfMeaning s ≡ toMsf a → r ≡ s
+unique-to-msf a r s p q = msf-injective r s (value-once p q)
+
+pub unique-to-block : (m n f : ℕ) (r s : Block) → blockMeaning r ≡ toBlock m n f → blockMeaning s ≡ toBlock m n f → r ≡ s
+unique-to-block m n f r s p q = block-injective r s (value-once p q)
+
+pub unique-address-of : (m n f r s : ℕ) → r ≡ addressOf m n f → s ≡ addressOf m n f → r ≡ s
+unique-address-of m n f r s = value-once
+
+pub unique-is-msf : (m n f : ℕ) (r s : Bool) → r ≡ isMsf m n f → s ≡ isMsf m n f → r ≡ s
+unique-is-msf m n f r s = value-once
+
+-- ---- drive
+
+pub unique-sense-at : (i : ℕ) (r s : Sense) → r ≡ senseAt i → s ≡ senseAt i → r ≡ s
+unique-sense-at i r s = value-once
+
+pub unique-same : (a b : Sense) (r s : Bool) → r ≡ sameSense a b → s ≡ sameSense a b → r ≡ s
+unique-same a b r s = value-once
+
+pub unique-is-known : (a : Sense) (r s : Bool) → r ≡ isKnown a → s ≡ isKnown a → r ≡ s
+unique-is-known a r s = value-once
+
+pub unique-powered-on : (r s : Unit) → r ≡ poweredOn → s ≡ poweredOn → r ≡ s
+unique-powered-on r s = value-once
+
+pub unique-attend : (u : Unit) (b : Bool) (r s : Unit) → r ≡ attend b u → s ≡ attend b u → r ≡ s
+unique-attend u b r s = value-once
+
+pub unique-is-loaded : (m : Mechanics) (r s : Bool) → r ≡ isLoaded m → s ≡ isLoaded m → r ≡ s
+unique-is-loaded m r s = value-once
+
+pub unique-opening : (m : Mechanics) (r s : Shifted) → r ≡ opening m → s ≡ opening m → r ≡ s
+unique-opening m r s = value-once
+
+pub unique-closing : (m : Mechanics) (r s : Shifted) → r ≡ closing m → s ≡ closing m → r ≡ s
+unique-closing m r s = value-once
+
+pub unique-with-disc : (m : Mechanics) (b : Bool) (r s : Mechanics) → r ≡ withDisc m b → s ≡ withDisc m b → r ≡ s
+unique-with-disc m b r s = value-once
+
+pub unique-with-lock : (m : Mechanics) (b : Bool) (r s : Mechanics) → r ≡ withLock m b → s ≡ withLock m b → r ≡ s
+unique-with-lock m b r s = value-once
+
+pub unique-shift : (d : Drive) (m : Shifted) (r s : Drive) → r ≡ shift d m → s ≡ shift d m → r ≡ s
+unique-shift d m r s = value-once
+
+pub unique-power-on : (d r s : Drive) → r ≡ powerOn d → s ≡ powerOn d → r ≡ s
+unique-power-on d r s = value-once
+
+pub unique-button : (d : Drive) (r s : Moved) → r ≡ button d → s ≡ button d → r ≡ s
+unique-button d r s = value-once
+
+pub unique-lay : (d : Drive) (r s : Moved) → r ≡ lay d → s ≡ lay d → r ≡ s
+unique-lay d r s = value-once
+
+pub unique-lift : (d : Drive) (r s : Moved) → r ≡ lift d → s ≡ lift d → r ≡ s
+unique-lift d r s = value-once
+
+-- ---- gate
+
+pub unique-sense-of : (f : Fault) (r s : Sense) → r ≡ senseOf f → s ≡ senseOf f → r ≡ s
+unique-sense-of f r s = value-once
+
+pub unique-hold : (u : Unit) (a : Sense) (r s : Unit) → r ≡ hold a u → s ≡ hold a u → r ≡ s
+unique-hold u a r s = value-once
+
+pub unique-clear : (u r s : Unit) → r ≡ clear u → s ≡ clear u → r ≡ s
+unique-clear u r s = value-once
+
+pub unique-first-pending : (u : Unit) (r s : Pending) → r ≡ pendingOf u → s ≡ pendingOf u → r ≡ s
+unique-first-pending u r s = value-once
+
+pub unique-told : (u : Unit) (a : Pending) (r s : Unit) → r ≡ told a u → s ≡ told a u → r ≡ s
+unique-told u a r s = value-once
+
+pub unique-sense-of-pending : (a : Pending) (r s : Sense) → r ≡ attentionSense a → s ≡ attentionSense a → r ≡ s
+unique-sense-of-pending a r s = value-once
+
+pub unique-give : (u : Unit) (r s : Giving) → r ≡ give u → s ≡ give u → r ≡ s
+unique-give u r s = value-once
+
+-- ---- disc
+
+pub unique-fault : (t : List ℕ) (r s : ℕ) → r ≡ fault t → s ≡ fault t → r ≡ s
+unique-fault t r s = value-once
+
+pub unique-session-refusal : (t : List ℕ) (k r s : ℕ) → r ≡ partRefusal t k → s ≡ partRefusal t k → r ≡ s
+unique-session-refusal t k r s = value-once
+
+pub unique-session-part :
+    (t r s : RefT (List ℕ)) (k : ℕ)
+    → PartOf t r (partStart (now t) k) (partSize (now t) k) → PartOf t s (partStart (now t) k) (partSize (now t) k) → slice-vals r ≡ slice-vals s
+unique-session-part t r s k = part-once
+
+pub unique-starts-after : (d : List ℕ) (n r s : ℕ) → r ≡ starts d n → s ≡ starts d n → r ≡ s
+unique-starts-after d n r s = value-once
+
+pub unique-is-data : (flags : ℕ) (r s : Bool) → r ≡ isData flags → s ≡ isData flags → r ≡ s
+unique-is-data flags r s = value-once
+
+pub unique-track-of : (t : List ℕ) (b : ℕ) (r s : Track) → r ≡ trackOf (descriptors t) b → s ≡ trackOf (descriptors t) b → r ≡ s
+unique-track-of t b r s = value-once
+
+pub unique-track-numbered : (t : List ℕ) (n : ℕ) (r s : Track) → r ≡ trackNumbered (descriptors t) n → s ≡ trackNumbered (descriptors t) n → r ≡ s
+unique-track-numbered t n r s = value-once
+
+pub unique-run-is-data : (t : List ℕ) (a n : ℕ) (r s : Bool) → r ≡ runIsData (descriptors t) a n → s ≡ runIsData (descriptors t) a n → r ≡ s
+unique-run-is-data t a n r s = value-once
+
+pub unique-read : (t : List ℕ) (r s : Reading) → r ≡ reading t → s ≡ reading t → r ≡ s
+unique-read t r s = value-once
+
+-- ---- target
+
+pub unique-decode : (c : ℕ) (r s : Command) → r ≡ decode c → s ≡ decode c → r ≡ s
+unique-decode c r s = value-once
+
+pub unique-kind-of : (c : Command) (r s : Kind) → r ≡ kindOf c → s ≡ kindOf c → r ≡ s
+unique-kind-of c r s = value-once
+
+pub unique-packet : (d : Drive) (p t m m₁ m₂ : List ℕ) (r s : Outcome)
+    → Answered (answer d p t (length m)) m r m₁ → Answered (answer d p t (length m)) m s m₂ → (r ≡ s) × (m₁ ≡ m₂)
+unique-packet d p t m m₁ m₂ r s = answer-once
