@@ -5,6 +5,7 @@ use Prim.Native.Nat.{ℕ}
 use Rattle.ground.specs.Tests.{_and_, if_then_else_, when, unless, either}
 use Rattle.drive.specs.declared.state.Drive.{Drive}
 use Rattle.drive.specs.declared.state.Unit.{Unit}
+use Rattle.drive.specs.declared.state.Mechanics.{Mechanics}
 use Rattle.drive.specs.declared.state.Shifted.{Shifted}
 use Rattle.drive.specs.declared.state.Moved.{Moved}
 use Rattle.drive.specs.Sense.{isKnown}
@@ -42,6 +43,14 @@ pub attend-change : (b : Bool) (u : Unit) → attend b u .change ≡ (b || u .ch
 unfolding attend if_then_else_
 attend-change true u = refl
 attend-change false u = refl
+
+-- ---- a moving tray: what it leaves, and whether that is a loading
+
+pub closing-closes : (m : Mechanics) → (closing m .mechanics .«tray_open» ≡ false) × (closing m .loading ≡ m .«disc_in»)
+closing-closes m = (refl, refl)
+
+pub opening-opens : (m : Mechanics) → (opening m .mechanics .«tray_open» ≡ true) × (opening m .loading ≡ false)
+opening-opens m = (refl, refl)
 
 -- ---- the two ways in which a call ends
 
