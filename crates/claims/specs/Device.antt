@@ -6,7 +6,7 @@ use mathlib.Core.Logic.{_⊎_, inl, inr, ⊎-elim, _↔_}
 use Prim.Native.Nat.{ℕ, _<_}
 use lib.ListN.{length}
 use borrow.Author.Tests.{not-true}
-use Rattle.ground.specs.Tests.{_and_, _or_, and-head, and-tail, and-both}
+use Rattle.ground.specs.Tests.{_and_, _or_, and-head, and-tail, and-both, or-left, or-right}
 use Rattle.claims.specs.Telling.{Attention, power, change}
 use Rattle.claims.specs.History.{Event, event, history, final, history-append, At, None, end, but, Standing, standing-here, standing-later, standing-cases, standing-none, standing-told}
 use Rattle.claims.specs.Runs.{Pairwise, Same, agree-after}
@@ -35,15 +35,6 @@ pub or-cases : (a b : Bool) → a or b ≡ true → (a ≡ true) ⊎ (b ≡ true
 unfolding _or_
 or-cases true b h = inl refl
 or-cases false b h = inr h
-
-or-right : (a b : Bool) → b ≡ true → a or b ≡ true
-unfolding _or_
-or-right true b h = refl
-or-right false b h = h
-
-pub or-left : (a b : Bool) → a ≡ true → a or b ≡ true
-unfolding _or_
-or-left a b h = rw h
 
 module _ {C S A : Type 0} (D : Device C S A) where
   abbrev made : C → S → Event C S A

@@ -11,7 +11,7 @@ use borrow.Author.Tests.{le-leb, ltb-true, eq-eqb, eqb-true, ne-eqb}
 use lib.ListN.{getD}
 use lib.Seq.{getD-drop}
 use lib.Dec.{ltb, eqb}
-use Rattle.ground.specs.Tests.{_or_, if_then_else_, and-head, and-tail, and-both, when, every-at}
+use Rattle.ground.specs.Tests.{_or_, if_then_else_, and-head, and-tail, and-both, when, every-at, or-left, or-right, or-else}
 use Rattle.address.specs.Laws.{InRange, isMsf-range, toBlock-range}
 use Rattle.disc.specs.Layout.{row, lastSession, descriptors, rows, sessionAt, flagsAt, pointAt, pminAt, psecAt, pframeAt, addressAt, A0, A1, A2, isTrack}
 use Rattle.disc.specs.Session.{first, last, tracks, starts, session, follows}
@@ -19,21 +19,6 @@ use Rattle.disc.specs.SessionLaws.{starts-none, Listed, listed-parts, in
 use Rattle.disc.specs.Rules.{rowTest, addressed, leadOut, trackStart, rises, outBefore, beginsAfter, rising, rule7}
 use Rattle.disc.specs.RulesLaws.{Fit, outBefore-next, fit-numbered, fit-places, fit-end-rows, fit-session, fit-last}
 use Rattle.disc.specs.Disc.{lastPart}
-
--- ---- or
-
-pub or-left : (a b : Bool) → a ≡ true → a or b ≡ true
-unfolding _or_
-or-left a b h = rw h
-
-pub or-right : (a b : Bool) → b ≡ true → a or b ≡ true
-unfolding _or_
-or-right true b h = refl
-or-right false b h = h
-
-pub or-else : (a b : Bool) → a ≡ false → a or b ≡ true → b ≡ true
-unfolding _or_
-or-else a b h e = rw h at e
 
 -- ---- where the descriptors of a session stand among all
 
@@ -221,7 +206,7 @@ module _ {t : List ℕ} (f : Fit t) where
   unfolding follows
   fit-next k h =
       let o = inPlace-follows (descriptors t) (k + 1) (every-at _ _ (fit-places f) (k + 1) h) in
-      eqb-true _ _ (or-else _ _ (ne-eqb (k + 1) 0 (λ e. omega arith)) o) ∙ ap (λ (x : ℕ). x + 1) (before-next (descriptors t) k)
+      eqb-true _ _ (sym (or-else _ _ (ne-eqb (k + 1) 0 (λ e. omega arith))) ∙ o) ∙ ap (λ (x : ℕ). x + 1) (before-next (descriptors t) k)
 
   -- the tracks of a later session come after those of an earlier one
   pub fit-tracks-rise : (k n : ℕ) → k < n → n < lastSession t → last (session (descriptors t) k) < first (session (descriptors t) n)
@@ -351,7 +336,7 @@ module _ {t : List ℕ} (f : Fit t) where
   unfolding rule7 rising beginsAfter
   fit-begins k h =
       let b : outBefore (descriptors t) (k + 1) < trackStart (session (descriptors t) (k + 1)) 0 =
-      ltb-true _ _ (or-else _ _ (ne-eqb (k + 1) 0 (λ e. omega arith)) (and-tail _ _ (every-at _ _ (f .rule7) (k + 1) h))) in
+      ltb-true _ _ (sym (or-else _ _ (ne-eqb (k + 1) 0 (λ e. omega arith))) ∙ and-tail _ _ (every-at _ _ (f .rule7) (k + 1) h)) in
       rw (outBefore-next (descriptors t) k) at b
 
   -- so every track starts after the lead-out of every session before its own

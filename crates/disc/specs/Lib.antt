@@ -12,4 +12,8 @@ pub mod RunLaws
 pub mod SpreadLaws
 pub mod Disc
 pub mod DiscLaws
+pub mod Walk
+pub mod WalkLaws
+pub mod WalkFit
+pub mod WalkSteps
 pub mod Examples

@@ -41,6 +41,14 @@ byte-is v w e = eq-eqb _ _ (sym (v .same) ∙ e ∙ w .same)
 pub byte-is-not : {p q r s : ℕ} → Byte p q → Byte r s → (q ≡ s → ⊥) → eqb p r ≡ false
 byte-is-not v w n = ne-eqb _ _ (λ e. n (v .same ∙ e ∙ sym (w .same)))
 
+-- ---- two tests
+
+-- two tests of which each holds where the other does are one
+pub same-test : (x y : Bool) → (x ≡ true → y ≡ true) → (y ≡ true → x ≡ true) → x ≡ y
+same-test true y f g = sym (f refl)
+same-test false true f g = g refl
+same-test false false f g = refl
+
 -- ---- rule 7, session by session
 
 -- the tracks of a session, off its size

@@ -11,6 +11,7 @@ use borrow.Author.Tests.{le-leb, lt-leb, lt-ltb, le-ltb, eq-eqb, ne-eqb}
 use Rattle.ground.specs.Tests.{_and_, _or_, every, and-on, and-off, and-late, and-head, and-tail, and-both, when, unless, every-at, every-all}
 use Rattle.disc.specs.Layout.{rows, flagsAt, pointAt, addressAt, A2, isTrack}
 use Rattle.disc.specs.Track.{isData, outAt, found, trackOf, inData, allInData, passes, runIsData}
+use Rattle.disc.specs.RulesLaws.{same-test}
 use Rattle.disc.specs.TrackLaws.{nextOut-here, nextOut-on, Greatest, Found, here, none, only-greatest, found-greatest, Belongs, below, past, outside, trackOf-belongs, trackOf-of}
 use Rattle.disc.specs.declared.track.Ask.the-variants.{Block}
 
@@ -192,12 +193,6 @@ module _ (d : List ℕ) (s : Spread d) (a e : ℕ) where
             let q = t .below in absurd (omega arith)
         | no c ↦ rw (ne-eqb _ _ c)
       ]
-
--- two tests of which each holds where the other does are one
-same-test : (x y : Bool) → (x ≡ true → y ≡ true) → (y ≡ true → x ≡ true) → x ≡ y
-same-test true y f g = sym (f refl)
-same-test false true f g = g refl
-same-test false false f g = refl
 
 -- the run test is that every one of the n blocks from a on lies in a data track
 pub run-agrees : (d : List ℕ) → Spread d → (a n : ℕ) → runIsData d a n ≡ allInData d a n

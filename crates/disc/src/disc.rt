@@ -5,12 +5,11 @@ use crate::layout::PMIN;
 use crate::layout::ROW;
 use crate::layout::address_at;
 use crate::rules::fault;
-use crate::session::starts_at;
-use ground::number::wide;
+use crate::walk::judge;
 ghost use mathlib.Core.Path.{_≡_};
 ghost use mathlib.Core.Bool.{true};
 ghost use Rattle.disc.specs.Rules.{isFit};
-ghost use Rattle.disc.specs.Disc.{discOf, reading};
+ghost use Rattle.disc.specs.Disc.{lastAt, discOf, reading};
 
 // The first and the last track, S, the last lead-out and its ADR/control, and where the last session begins.
 pub struct Disc {
@@ -31,27 +30,26 @@ pub enum Reading {
 pub fn read(t: &[u8]) -> Reading
     ensures { λ r. ⌜ r ≡ reading (now (t .entry)) ⌝ }
 {
-    let rule = fault(t);
-    if rule == 0 {
-        return Reading::Fit(disc_of(t));
+    let v = judge(t);
+    if v.fit {
+        return Reading::Fit(disc_of(t, v.last_at));
     }
-    Reading::Unfit(rule)
+    Reading::Unfit(fault(t))
 }
 
-fn disc_of(t: &[u8]) -> Disc
-    requires { ⌜ isFit (now t) ≡ true ⌝ }
+fn disc_of(t: &[u8], at: usize) -> Disc
+    requires { ⌜ (isFit (now t) ≡ true) × (at ≡ lastAt (now t)) ⌝ }
     ensures { λ r. ⌜ r ≡ discOf (now (t .entry)) ⌝ }
 {
     let sessions = t[3];
     let d = &t[HEADER..];
-    let last_at = starts_at(d, wide(sessions) - 1);
-    let s = &d[last_at..];
+    let s = &d[at..];
     Disc {
         first: d[PMIN],
         last: s[ROW + PMIN],
         sessions,
         lead_out: address_at(s, 2),
         lead_flags: s[2 * ROW + FLAGS],
-        last_at,
+        last_at: at,
     }
 }

@@ -5,3 +5,4 @@ pub mod part;
 pub mod rules;
 pub mod session;
 pub mod track;
+pub mod walk;

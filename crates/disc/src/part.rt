@@ -1,8 +1,8 @@
 // A session's part of the lent table itself, and the refusal's number asked apart.
 use crate::layout::HEADER;
-use crate::rules::fault;
 use crate::session::session_bytes;
 use crate::session::starts_at;
+use crate::walk::is_fit;
 use ground::number::wide;
 ghost use mathlib.Core.Path.{_≡_};
 ghost use Rattle.disc.specs.Part.{PartOf, partRefusal, partStart, partSize};
@@ -16,7 +16,7 @@ pub const NO_SESSION: u8 = 10;
 pub fn session_refusal(t: &[u8], k: u8) -> u8
     ensures { λ r. ⌜ r ≡ partRefusal (now (t .entry)) k ⌝ }
 {
-    if fault(t) == 0 {
+    if is_fit(t) {
         let n = wide(k);
         if 1 <= n {
             if n <= wide(t[3]) {

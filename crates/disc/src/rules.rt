@@ -61,7 +61,7 @@ pub(crate) fn rule2(t: &[u8]) -> bool
 }
 
 // Rule 3 of descriptor j: ADR 1, TNO 0 and ZERO 0.
-fn plain(d: &[u8], j: usize) -> bool
+pub(crate) fn plain(d: &[u8], j: usize) -> bool
     requires { ⌜ row * j + row ≤ length (now d) ⌝ }
     ensures { λ r. ⌜ r ≡ plain (now (d .entry)) j ⌝ }
 {
@@ -97,7 +97,7 @@ fn headed(d: &[u8], j: usize) -> bool
 }
 
 // A0's PSEC is 00h, 10h or 20h and its PFRAME 0.
-fn head_a0(s: usize, f: usize) -> bool
+pub(crate) fn head_a0(s: usize, f: usize) -> bool
     ensures { λ r. ⌜ r ≡ headA0 s f ⌝ }
 {
     if f == 0 {

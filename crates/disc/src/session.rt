@@ -98,7 +98,7 @@ pub(crate) fn read_session(d: &[u8], k: usize) -> Session
 }
 
 // Session k stands in its place: it is the first, or begins with the track after the last one.
-fn follows(k: usize, first: u8, last: u8) -> bool
+pub(crate) fn follows(k: usize, first: u8, last: u8) -> bool
     ensures { λ r. ⌜ r ≡ follows k first last ⌝ }
 {
     if k == 0 {

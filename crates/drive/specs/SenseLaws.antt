@@ -11,7 +11,7 @@ use borrow.Author.Tests.{eq-eqb, ne-eqb, eqb-true}
 use lib.Dec.{eqb}
 use lib.ListN.{length, drop, getD, List·getD-eq-default, drop-of-length-le}
 use lib.Seq.{drop-cons}
-use Rattle.ground.specs.Tests.{_and_, _or_, and-head, and-tail, and-both}
+use Rattle.ground.specs.Tests.{_and_, _or_, and-head, and-tail, and-both, or-right}
 use Rattle.drive.specs.declared.sense.Sense.{Sense}
 use Rattle.drive.specs.Sense.{triple, senses, senseAt, sameSense, among, isKnown}
 
@@ -54,11 +54,7 @@ among-at : (rows : List Sense) (i : ℕ) (d : Sense) → i < length rows → amo
 unfolding among _or_
 among-at [] i d h = absurd (omega arith)
 among-at (r ∷ rows) zero d h = rw (sameSense-refl r)
-among-at (r ∷ rows) (suc i) d h = or-late (sameSense r (getD rows i d)) _ (among-at rows i d (omega arith))
-  where
-    or-late : (a b : Bool) → b ≡ true → a or b ≡ true
-    or-late true b k = refl
-    or-late false b k = k
+among-at (r ∷ rows) (suc i) d h = or-right (sameSense r (getD rows i d)) _ (among-at rows i d (omega arith))
 
 -- each row of the table is known, and so is 00/00/00 past its end
 pub isKnown-at : (i : ℕ) → isKnown (senseAt i) ≡ true

@@ -1,11 +1,9 @@
--- `disc::disc::read` meets its contract: a table with no broken rule is fit.
+-- `disc::disc::read` meets its contract: the walk tells whether the table is fit, and the walks by rule name the broken one.
 use mathlib.Core.Path.{sym, ap, _∙_}
-use borrow.Author.Tests.{ne-eqb}
 use Rattle.ground.specs.Tests.{when, unless}
 use Rattle.disc.specs.declared.disc.Reading.the-variants.{Fit, Unfit}
-use Rattle.disc.specs.Rules.{isFit}
-use Rattle.disc.specs.RulesLaws.{fault-fit, fit-isFit}
 use Rattle.disc.specs.Disc.{reading}
+use Rattle.disc.specs.WalkSteps.{verdict-told, verdict-at}
 use borrow.Author.Needs.{needs}
 use Rattle.disc.proofs.disc.read.Statement.{statement}
 use Rattle.disc.proofs.disc.read.Tie as tie
@@ -13,20 +11,24 @@ use Rattle.disc.proofs.disc.read.Reads as reads
 use Rattle.disc.proofs.disc.read.Lts as lts
 use Rattle.disc.proofs.disc.disc_of.Reads as disc-of-reads
 use Rattle.disc.proofs.rules.fault.Reads as fault-reads
+use Rattle.disc.proofs.walk.judge.Reads as judge-reads
+
+judge-requires : tie.Need-judge-requires
+judge-requires c κs = search needs
+
+disc-of-requires : tie.Need-disc-of-requires
+disc-of-requires c κs = (verdict-told _ (c .before .judge .ensures) (c .if1 .taken), verdict-at (c .before .judge .ensures) (c .if1 .taken))
+
+returns : tie.Need-returns
+unfolding reading
+returns c = ap Fit (c .disc-of .ensures) ∙ sym (when _ _ _ (verdict-told _ (c .before .before .judge .ensures) (c .before .if1 .taken)))
 
 fault-requires : tie.Need-fault-requires
 fault-requires c κs = search needs
 
-disc-of-requires : tie.Need-disc-of-requires
-disc-of-requires c κs = fit-isFit (fault-fit (sym (c .before .fault .ensures) ∙ c .if1 .taken))
-
-returns : tie.Need-returns
-unfolding reading
-returns c = ap Fit (c .disc-of .ensures) ∙ sym (when _ _ _ (fit-isFit (fault-fit (sym (c .before .before .fault .ensures) ∙ c .before .if1 .taken))))
-
 returns-2 : tie.Need-returns-2
-unfolding reading isFit
-returns-2 c = ap Unfit (c .before .fault .ensures) ∙ sym (unless _ _ _ (ne-eqb _ _ (λ e. c .if1 .left (c .before .fault .ensures ∙ e))))
+unfolding reading
+returns-2 c = ap Unfit (c .fault .ensures) ∙ sym (unless _ _ _ (verdict-told _ (c .before .before .judge .ensures) (c .before .if1 .left)))
 
 pub read-spec : {M : Type 1} → statement M
-read-spec = tie.close (tie.spec fault-requires disc-of-requires returns returns-2)
+read-spec = tie.close (tie.spec judge-requires disc-of-requires returns fault-requires returns-2)

@@ -1,9 +1,8 @@
 -- `disc::part::session_refusal` meets its contract: fitness is tested first, then that the table has the session.
 use mathlib.Core.Path.{sym, _∙_}
-use borrow.Author.Tests.{lt-leb, eq-eqb, ne-eqb}
+use borrow.Author.Tests.{lt-leb}
 use Rattle.ground.specs.Tests.{and-off, and-late, when, unless}
-use Rattle.disc.specs.Rules.{isFit}
-use Rattle.disc.specs.RulesLaws.{fault-fit, fit-sized}
+use Rattle.disc.specs.RulesLaws.{isFit-true, fit-sized}
 use Rattle.disc.specs.Part.{partRefusal}
 use Rattle.disc.specs.PartLaws.{given-partRefusal}
 use borrow.Author.Needs.{needs}
@@ -11,18 +10,18 @@ use Rattle.disc.proofs.part.session_refusal.Statement.{statement}
 use Rattle.disc.proofs.part.session_refusal.Tie as tie
 use Rattle.disc.proofs.part.session_refusal.Reads as reads
 use Rattle.disc.proofs.part.session_refusal.Lts as lts
-use Rattle.disc.proofs.rules.fault.Reads as fault-reads
+use Rattle.disc.proofs.walk.is_fit.Reads as is-fit-reads
 use Rattle.ground.proofs.number.wide.Reads as wide-reads
 
-fault-requires : tie.Need-fault-requires
-fault-requires c κs = search needs
+is-fit-requires : tie.Need-is-fit-requires
+is-fit-requires c κs = search needs
 
 wide-requires : tie.Need-wide-requires
 wide-requires c κs = search needs
 
 shared-slice-read-wide : tie.Need-shared-slice-read-wide
 shared-slice-read-wide c =
-    let s = fit-sized (fault-fit (sym (c .before .before .before .before .fault .ensures) ∙ c .before .before .before .if1 .taken)) in
+    let s = fit-sized (isFit-true (sym (c .before .before .before .before .is-fit .ensures) ∙ c .before .before .before .if1 .taken)) in
     search needs
 
 wide-requires-2 : tie.Need-wide-requires-2
@@ -31,8 +30,8 @@ wide-requires-2 c κs = search needs
 returns : tie.Need-returns
 returns c =
     given-partRefusal (record {
-      fit = fault-fit
-          (sym (c .before .before .before .before .before .before .fault .ensures) ∙ c .before .before .before .before .before .if1 .taken);
+      fit = isFit-true
+          (sym (c .before .before .before .before .before .before .is-fit .ensures) ∙ c .before .before .before .before .before .if1 .taken);
       low = rw
           (c .before .before .before .before .wide .ensures .same) at (c .before .before .before .if2 .taken);
       high = rw
@@ -40,28 +39,28 @@ returns c =
     })
 
 returns-2 : tie.Need-returns-2
-unfolding partRefusal isFit
+unfolding partRefusal
 returns-2 c =
-    sym (when _ _ _ (eq-eqb _ _
-    (sym (c .before .before .before .before .before .before .fault .ensures) ∙ c .before .before .before .before .before .if1 .taken))
+    sym (when _ _ _
+    ((sym (c .before .before .before .before .before .before .is-fit .ensures) ∙ c .before .before .before .before .before .if1 .taken))
     ∙ unless _ _ _ (sym (and-late _ _
     (sym (lt-leb _ _ (rw (c .before .before .before .before .wide .ensures .same, c .before .wide2 .ensures .same) at (c .if3 .left)))))))
 
 returns-3 : tie.Need-returns-3
-unfolding partRefusal isFit
+unfolding partRefusal
 returns-3 c =
-    sym (when _ _ _ (eq-eqb _ _ (sym (c .before .before .before .fault .ensures) ∙ c .before .before .if1 .taken))
+    sym (when _ _ _ ((sym (c .before .before .before .is-fit .ensures) ∙ c .before .before .if1 .taken))
     ∙ unless _ _ _ (sym (and-off _ _ (lt-leb _ _ (rw (c .before .wide .ensures .same) at (c .if2 .left))))))
 
 returns-4 : tie.Need-returns-4
-unfolding partRefusal isFit
-returns-4 c = sym (unless _ _ _ (ne-eqb _ _ (λ e. c .if1 .left (c .before .fault .ensures ∙ e))))
+unfolding partRefusal
+returns-4 c = sym (unless _ _ _ (sym (c .before .is-fit .ensures) ∙ c .if1 .left))
 
 pub session-refusal-spec : {M : Type 1} → statement M
 session-refusal-spec =
     tie.close
     (tie.spec
-    fault-requires
+    is-fit-requires
     wide-requires
     shared-slice-read-wide
     wide-requires-2

@@ -1,0 +1,48 @@
+/* table SESSIONS TRACKS [ROWS [late]]: writes a fit table of 3 * SESSIONS + TRACKS descriptors; the first session has the tracks that are over.
+   ROWS keeps that many descriptors; `late` puts the last lead-out at block 0, which breaks rule 7 as late as can be. */
+#include <stdio.h>
+#include <stdlib.h>
+
+static unsigned char d[8192];
+static unsigned n;
+
+static void put(unsigned session, unsigned point, unsigned a, unsigned b, unsigned c)
+{
+    unsigned char *e = d + 11 * n++;
+    e[0] = session;
+    e[1] = 0x14;
+    e[3] = point;
+    e[8] = a;
+    e[9] = b;
+    e[10] = c;
+}
+
+static void put_at(unsigned session, unsigned point, unsigned address)
+{
+    put(session, point, (address + 150) / 75 / 60, (address + 150) / 75 % 60, (address + 150) % 75);
+}
+
+int main(int argc, char **argv)
+{
+    if (argc < 3 || argc > 5)
+        return 2;
+    unsigned sessions = atoi(argv[1]), tracks = atoi(argv[2]), track = 1, at = 0;
+    for (unsigned k = 1; k <= sessions; k++) {
+        unsigned count = k == 1 ? tracks - (sessions - 1) : 1;
+        put(k, 0xA0, track, 0, 0);
+        put(k, 0xA1, track + count - 1, 0, 0);
+        put_at(k, 0xA2, argc == 5 && k == sessions ? 0 : at + 1000 * count);
+        for (unsigned i = 0; i < count; i++, at += 1000)
+            put_at(k, track++, at);
+        at += 1000;
+    }
+    if (argc >= 4 && atoi(argv[3]) < (int)n)
+        n = atoi(argv[3]);
+    unsigned length = 11 * n + 2;
+    putchar(length / 256);
+    putchar(length % 256);
+    putchar(1);
+    putchar(sessions);
+    fwrite(d, 11, n, stdout);
+    return 0;
+}

@@ -1,0 +1,52 @@
+-- `disc::walk::heads_kept` meets its contract: the four tests are the definition's, in its order.
+use mathlib.Core.Path.{sym, _∙_}
+use Rattle.ground.specs.Tests.{and-on, and-off, and-late}
+use Rattle.disc.specs.Walk.{headsKept}
+use borrow.Author.Needs.{needs}
+use Rattle.disc.proofs.walk.heads_kept.Statement.{statement}
+use Rattle.disc.proofs.walk.heads_kept.Tie as tie
+use Rattle.disc.proofs.walk.heads_kept.Reads as reads
+use Rattle.disc.proofs.walk.heads_kept.Lts as lts
+use Rattle.disc.proofs.walk.heads_hold.Reads as heads-hold-reads
+use Rattle.disc.proofs.walk.kept.Reads as kept-reads
+
+kept-requires : tie.Need-kept-requires
+kept-requires c κs = search needs
+
+kept-requires-2 : tie.Need-kept-requires-2
+kept-requires-2 c κs = search needs
+
+kept-requires-3 : tie.Need-kept-requires-3
+kept-requires-3 c κs = search needs
+
+heads-hold-requires : tie.Need-heads-hold-requires
+heads-hold-requires c κs = search needs
+
+returns : tie.Need-returns
+unfolding headsKept
+returns c = and-on _ _ (sym (c .before .before .before .before .before .before .kept .ensures) ∙ c .before .before .before .before .before .if1 .taken) (and-on _ _ (sym (c .before .before .before .before .kept2 .ensures) ∙ c .before .before .before .if2 .taken) (and-on _ _ (sym (c .before .before .kept3 .ensures) ∙ c .before .if3 .taken) (c .heads-hold .ensures)))
+
+returns-2 : tie.Need-returns-2
+unfolding headsKept
+returns-2 c = and-late _ _ (and-late _ _ (and-off _ _ (sym (c .before .kept3 .ensures) ∙ c .if3 .left)))
+
+returns-3 : tie.Need-returns-3
+unfolding headsKept
+returns-3 c = and-late _ _ (and-off _ _ (sym (c .before .kept2 .ensures) ∙ c .if2 .left))
+
+returns-4 : tie.Need-returns-4
+unfolding headsKept
+returns-4 c = and-off _ _ (sym (c .before .kept .ensures) ∙ c .if1 .left)
+
+pub heads-kept-spec : {M : Type 1} → statement M
+heads-kept-spec =
+    tie.close
+    (tie.spec
+    kept-requires
+    kept-requires-2
+    kept-requires-3
+    heads-hold-requires
+    returns
+    returns-2
+    returns-3
+    returns-4)

@@ -1,0 +1,67 @@
+-- `disc::walk::holds` meets its contract: the four tests are the definition's, in its order.
+use borrow.Author.Tests.{le-leb, lt-leb}
+use Rattle.ground.specs.Tests.{and-on, and-off, and-late}
+use Rattle.disc.specs.Walk.{holds}
+use borrow.Author.Needs.{needs}
+use Rattle.disc.proofs.walk.holds.Statement.{statement}
+use Rattle.disc.proofs.walk.holds.Tie as tie
+use Rattle.disc.proofs.walk.holds.Reads as reads
+use Rattle.disc.proofs.walk.holds.Lts as lts
+use Rattle.disc.proofs.walk.frames_at.Reads as frames-at-reads
+
+mul-at : tie.Need-mul-at
+mul-at c = search needs
+
+add-if1 : tie.Need-add-if1
+add-if1 c = search needs
+
+shared-slice-read-if1 : tie.Need-shared-slice-read-if1
+shared-slice-read-if1 c = search needs
+
+returns : tie.Need-returns
+unfolding holds
+returns c = and-off _ _ (lt-leb _ _ (c .if1 .taken))
+
+add-if2 : tie.Need-add-if2
+add-if2 c = search needs
+
+shared-slice-read-if2 : tie.Need-shared-slice-read-if2
+shared-slice-read-if2 c = search needs
+
+returns-2 : tie.Need-returns-2
+unfolding holds
+returns-2 c = and-late _ _ (and-off _ _ (lt-leb _ _ (c .if2 .taken)))
+
+add-if3 : tie.Need-add-if3
+add-if3 c = search needs
+
+shared-slice-read-if3 : tie.Need-shared-slice-read-if3
+shared-slice-read-if3 c = search needs
+
+returns-3 : tie.Need-returns-3
+unfolding holds
+returns-3 c = and-late _ _ (and-late _ _ (and-off _ _ (lt-leb _ _ (c .if3 .taken))))
+
+frames-at-requires : tie.Need-frames-at-requires
+frames-at-requires c κs = search needs
+
+returns-4 : tie.Need-returns-4
+unfolding holds
+returns-4 c = and-on _ _ (le-leb _ _ (c .before .before .before .before .before .if1 .left)) (and-on _ _ (le-leb _ _ (c .before .before .before .if2 .left)) (and-on _ _ (le-leb _ _ (c .before .if3 .left)) (rw (c .frames-at .ensures .0))))
+
+pub holds-spec : {M : Type 1} → statement M
+holds-spec =
+    tie.close
+    (tie.spec
+    mul-at
+    add-if1
+    shared-slice-read-if1
+    returns
+    add-if2
+    shared-slice-read-if2
+    returns-2
+    add-if3
+    shared-slice-read-if3
+    returns-3
+    frames-at-requires
+    returns-4)

@@ -1,0 +1,97 @@
+-- `disc::walk::session_kept` meets its contract: the first test that fails decides, and then the heads and the tracks.
+use mathlib.Core.Path.{sym, _∙_}
+use native.Mathlib.Omega.{arith}
+use Rattle.disc.specs.Session.{size}
+use Rattle.disc.specs.SessionLaws.{size-least}
+use Rattle.disc.specs.WalkSteps.{sessionKept-not, sessionKept-off, sessionKept-on}
+use borrow.Author.Needs.{needs}
+use Rattle.disc.proofs.walk.session_kept.Statement.{statement}
+use Rattle.disc.proofs.walk.session_kept.Tie as tie
+use Rattle.disc.proofs.walk.session_kept.Reads as reads
+use Rattle.disc.proofs.walk.session_kept.Lts as lts
+use Rattle.disc.proofs.walk.heads_kept.Reads as heads-kept-reads
+use Rattle.disc.proofs.walk.tracks_kept.Reads as tracks-kept-reads
+use Rattle.ground.proofs.number.wide.Reads as wide-reads
+
+mul-if1 : tie.Need-mul-if1
+mul-if1 c = search needs
+
+returns : tie.Need-returns
+returns c = sessionKept-not _ _ _ (λ s. let e = size-least (s .is) in let f = s .is .fits in omega arith)
+
+shared-slice-read-f : tie.Need-shared-slice-read-f
+shared-slice-read-f c = search needs
+
+add-l : tie.Need-add-l
+add-l c = search needs
+
+shared-slice-read-l : tie.Need-shared-slice-read-l
+shared-slice-read-l c = search needs
+
+returns-2 : tie.Need-returns-2
+returns-2 c = sessionKept-not _ _ _ (λ s. let i = s .is in omega arith)
+
+returns-3 : tie.Need-returns-3
+returns-3 c = sessionKept-not _ _ _ (λ s. let i = s .is in omega arith)
+
+returns-4 : tie.Need-returns-4
+returns-4 c = sessionKept-not _ _ _ (λ s. let i = s .is in omega arith)
+
+wide-requires : tie.Need-wide-requires
+wide-requires c κs = search needs
+
+add-n : tie.Need-add-n
+add-n c = search needs
+
+wide-requires-2 : tie.Need-wide-requires-2
+wide-requires-2 c κs = search needs
+
+sub-n : tie.Need-sub-n
+sub-n c = search needs
+
+add-if5 : tie.Need-add-if5
+add-if5 c = search needs
+
+mul-if5 : tie.Need-mul-if5
+mul-if5 c = search needs
+
+returns-5 : tie.Need-returns-5
+unfolding size
+returns-5 c = sessionKept-not _ _ _ (λ s. let i = s .is .fits in omega arith)
+
+heads-kept-requires : tie.Need-heads-kept-requires
+heads-kept-requires c κs = search needs
+
+tracks-kept-requires : tie.Need-tracks-kept-requires
+tracks-kept-requires c κs = search needs
+
+returns-6 : tie.Need-returns-6
+unfolding size
+returns-6 c = rw (c .before .before .before .before .before .wide .ensures .same, c .before .before .before .before .wide2 .ensures .same) at (c .tracks-kept .ensures) ∙ sessionKept-on _ _ _ (c .before .before .before .before .before .before .before .before .before .before .before .if1 .left) (omega arith) (omega arith) (omega arith) (omega arith) (sym (c .before .before .heads-kept .ensures) ∙ c .before .if6 .taken)
+
+returns-7 : tie.Need-returns-7
+returns-7 c = sessionKept-off _ _ _ (sym (c .before .heads-kept .ensures) ∙ c .if6 .left)
+
+pub session-kept-spec : {M : Type 1} → statement M
+session-kept-spec =
+    tie.close
+    (tie.spec
+    mul-if1
+    returns
+    shared-slice-read-f
+    add-l
+    shared-slice-read-l
+    returns-2
+    returns-3
+    returns-4
+    wide-requires
+    add-n
+    wide-requires-2
+    sub-n
+    add-if5
+    mul-if5
+    returns-5
+    heads-kept-requires
+    tracks-kept-requires
+    returns-6
+    returns-7)
