@@ -1,0 +1,46 @@
+-- `target::packet::finish` meets its contract: each arm builds the outcome that the definition gives for it.
+use mathlib.Core.Path.{sym, ap, _∙_}
+use Rattle.drive.specs.declared.sense.Sense.{Sense}
+use Rattle.target.specs.PacketLaws.{checked, finished}
+use borrow.Author.Needs.{needs}
+use Rattle.target.proofs.packet.finish.Statement.{statement}
+use Rattle.target.proofs.packet.finish.Tie as tie
+use Rattle.target.proofs.packet.finish.Reads as reads
+use Rattle.target.proofs.packet.finish.Lts as lts
+use Rattle.drive.proofs.state.Unit.attend.Reads as attend-reads
+use Rattle.gate.proofs.fault.sense_of.Reads as sense-of-reads
+use Rattle.target.proofs.packet.check.Reads as check-reads
+
+enum-known-done : tie.Need-enum-known-done
+enum-known-done c = search needs
+
+sense-of-requires : tie.Need-sense-of-requires
+sense-of-requires c κs = search needs
+
+check-requires : tie.Need-check-requires
+check-requires c κs = search needs
+
+enum-known-done-2 : tie.Need-enum-known-done-2
+enum-known-done-2 c = search needs
+
+attend-requires : tie.Need-attend-requires
+attend-requires c κs = search needs
+
+returns : tie.Need-returns
+returns c = let x = c .before .before .before .before .before .args in
+    c .check .ensures ∙ ap (λ (s : Sense). checked s (x .u) (x .mechanics)) (c .before .sense-of .ensures) ∙ sym (ap (finished (x .u) (x .v) (x .mechanics)) (c .before .before .before .done .given .1))
+
+returns-2 : tie.Need-returns-2
+returns-2 c = let x = c .before .before .before .before .before .args in rw (c .attend .ensures) (sym (ap (finished (x .u) (x .v) (x .mechanics)) (c .before .before .before .done2 .given .1)))
+
+pub finish-spec : {M : Type 1} → statement M
+finish-spec =
+    tie.close
+    (tie.spec
+    enum-known-done
+    sense-of-requires
+    check-requires
+    enum-known-done-2
+    attend-requires
+    returns
+    returns-2)

@@ -1,0 +1,85 @@
+-- `target::packet::gated` meets its contract: a pending attention is told and nothing written; with none the command is settled.
+use mathlib.Core.Path.{_≡_, sym, ap, _∙_}
+use Prim.Native.Nat.{ℕ}
+use native.Mathlib.Omega.{arith}
+use Rattle.drive.specs.declared.state.Unit.{Unit}
+use Rattle.gate.specs.declared.unit.Pending.{Pending}
+use Rattle.gate.specs.declared.unit.Pending.the-variants.{Power, Change}
+use Rattle.gate.specs.Unit.{attentionSense, told}
+use Rattle.target.specs.PacketLaws.{checked, finished, answered-check, answered-settle, gate-tells, gate-settles}
+use borrow.Author.Needs.{needs}
+use Rattle.target.proofs.packet.gated.Statement.{statement}
+use Rattle.target.proofs.packet.gated.Tie as tie
+use Rattle.target.proofs.packet.gated.Reads as reads
+use Rattle.target.proofs.packet.gated.Lts as lts
+use Rattle.gate.proofs.unit.clear.Reads as clear-reads
+use Rattle.gate.proofs.unit.first_pending.Reads as first-pending-reads
+use Rattle.target.proofs.packet.finish.Reads as finish-reads
+use Rattle.target.proofs.packet.tell.Reads as tell-reads
+use Rattle.target.proofs.perform.perform.Reads as perform-reads
+
+first-pending-requires : tie.Need-first-pending-requires
+first-pending-requires c κs = search needs
+
+enum-told : tie.Need-enum-told
+enum-told c = search needs
+
+tell-requires : tie.Need-tell-requires
+tell-requires c κs = search needs
+
+enum-told-2 : tie.Need-enum-told-2
+enum-told-2 c = search needs
+
+tell-requires-2 : tie.Need-tell-requires-2
+tell-requires-2 c κs = search needs
+
+enum-told-3 : tie.Need-enum-told-3
+enum-told-3 c = search needs
+
+perform-requires : tie.Need-perform-requires
+perform-requires c κs = search needs
+
+clear-requires : tie.Need-clear-requires
+clear-requires c κs = search needs
+
+finish-requires : tie.Need-finish-requires
+finish-requires c κs = search needs
+
+returns : tie.Need-returns
+returns c = let x = c .before .before .before .before .before .before .before .before .before .args in
+    let e = sym (c .before .before .before .first-pending .ensures) ∙ c .before .enum-told .given .1 in
+    let a = c .tell .ensures ∙ ap (λ (a : Pending). checked (attentionSense a) (told a (x .d .unit)) (x .d .mechanics)) (c .before .enum-told .given .1) in
+    rw (gate-tells _ _ _ _ e (λ h. let z : _≡_ {A = ℕ} 0 1 = cc in omega arith)) (answered-check _ (told Power (x .d .unit)) _ _ a)
+
+returns-2 : tie.Need-returns-2
+returns-2 c = let x = c .before .before .before .before .before .before .before .before .before .args in
+    let e = sym (c .before .before .before .first-pending .ensures) ∙ c .before .enum-told2 .given .1 in
+    let a = c .tell2 .ensures ∙ ap (λ (a : Pending). checked (attentionSense a) (told a (x .d .unit)) (x .d .mechanics)) (c .before .enum-told2 .given .1) in
+    rw (gate-tells _ _ _ _ e (λ h. let z : _≡_ {A = ℕ} 0 1 = cc in omega arith)) (answered-check _ (told Change (x .d .unit)) _ _ a)
+
+same-length : tie.Need-same-length
+same-length c = search needs
+
+returns-3 : tie.Need-returns-3
+returns-3 c = let x = c .before .before .before .before .before .before .before .before .before .before .before .before .before .before .args in
+    let e = sym (c .before .before .before .before .before .before .before .before .first-pending .ensures) ∙ c .before .before .before .before .before .before .enum-told3 .given .1 in
+    let f = c .finish .ensures ∙ ap (λ (v : Unit). finished (x .d .unit) v (x .d .mechanics) (c .before .before .before .before .perform .result)) (c .before .clear .ensures) in
+    rw (gate-settles _ _ _ e) (answered-settle _ _ _ (c .before .before .before .before .perform .ensures) f)
+
+pub gated-spec : {M : Type 1} → statement M
+gated-spec =
+    tie.close
+    (tie.spec
+    first-pending-requires
+    enum-told
+    tell-requires
+    enum-told-2
+    tell-requires-2
+    enum-told-3
+    perform-requires
+    clear-requires
+    finish-requires
+    returns
+    returns-2
+    same-length
+    returns-3)

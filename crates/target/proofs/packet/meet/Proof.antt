@@ -1,0 +1,90 @@
+-- `target::packet::meet` meets its contract: a loaded drive's table is fit or the call is refused, and no full answer passes the bound.
+use mathlib.Core.Path.{sym, _∙_}
+use mathlib.Core.Bool.{true≢false}
+use denote.Ref.{now}
+use Rattle.disc.specs.DiscLaws.{reading-fit, reading-unfit}
+use Rattle.target.specs.FitFacts.{read-off}
+use Rattle.target.specs.PacketLaws.{unread, steps-within, answer-4, answer-steps, answered-refused}
+use borrow.Author.Needs.{needs}
+use Rattle.target.proofs.packet.meet.Statement.{statement}
+use Rattle.target.proofs.packet.meet.Tie as tie
+use Rattle.target.proofs.packet.meet.Reads as reads
+use Rattle.target.proofs.packet.meet.Lts as lts
+use Rattle.disc.proofs.disc.read.Reads as read-reads
+use Rattle.drive.proofs.state.Mechanics.is_loaded.Reads as is-loaded-reads
+use Rattle.target.proofs.packet.refuse.Reads as refuse-reads
+use Rattle.target.proofs.packet.steps.Reads as steps-reads
+use Rattle.target.proofs.packet.unread.Reads as unread-reads
+
+is-loaded-requires : tie.Need-is-loaded-requires
+is-loaded-requires c κs = search needs
+
+read-requires : tie.Need-read-requires
+read-requires c κs = search needs
+
+enum-known-disc : tie.Need-enum-known-disc
+enum-known-disc c = search needs
+
+steps-requires : tie.Need-steps-requires
+steps-requires c κs = let q = c .before .before .before .before .before .before .before .before .before .before .pre in
+    let r = read-off _ _ (sym (c .before .before .before .before .read .ensures) ∙ c .before .before .disc .given .1) in
+    record { twelve = q .0; room = q .2; ready = λ h. r }
+
+enum-told : tie.Need-enum-told
+enum-told c = search needs
+
+refuse-requires : tie.Need-refuse-requires
+refuse-requires c κs = search needs
+
+same-length : tie.Need-same-length
+same-length c = search needs
+
+returns : tie.Need-returns
+returns c = let x = c .before .before .before .before .before .before .before .before .before .before .before .before .before .args in
+    let q = c .before .before .before .before .before .before .before .before .before .before .before .before .before .pre in
+    let r = sym (c .before .before .before .before .before .before .before .read .ensures) ∙ c .before .before .before .before .before .disc .given .1 in
+    let w = steps-within (x .d) (now (x .p)) (now (x .t)) _ (λ h. read-off _ _ r) in
+    rw (answer-steps (x .d) (now (x .p)) (now (x .t)) _ (q .0) (q .1) (q .2) (λ h. reading-fit _ _ r .0) w) (c .before .before .steps .ensures)
+
+returns-2 : tie.Need-returns-2
+returns-2 c = let x = c .before .before .before .before .before .before .before .before .before .args in
+    let q = c .before .before .before .before .before .before .before .before .before .pre in
+    let r = reading-unfit _ _ (sym (c .before .before .before .read .ensures) ∙ c .before .enum-told .given .1) in
+    let l = sym (c .before .before .before .before .before .is-loaded .ensures) ∙ c .before .before .before .before .if1 .taken in
+    rw (answer-4 (x .d) (now (x .p)) (now (x .t)) _ (q .0) (q .1) (q .2) l r, c .refuse .ensures) (answered-refused _ _ _)
+
+unread-requires : tie.Need-unread-requires
+unread-requires c κs = search needs
+
+steps-requires-2 : tie.Need-steps-requires-2
+steps-requires-2 c κs = let q = c .before .before .before .before .before .before .before .pre in
+    let l = sym (c .before .before .before .is-loaded .ensures) ∙ c .before .before .if1 .left in
+    record { twelve = q .0; room = q .2; ready = λ h. absurd (true≢false (sym h ∙ l)) }
+
+same-length-2 : tie.Need-same-length-2
+same-length-2 c = search needs
+
+returns-3 : tie.Need-returns-3
+returns-3 c = let x = c .before .before .before .before .before .before .before .before .before .before .args in
+    let q = c .before .before .before .before .before .before .before .before .before .before .pre in
+    let l = sym (c .before .before .before .before .before .before .is-loaded .ensures) ∙ c .before .before .before .before .before .if1 .left in
+    let w = steps-within (x .d) (now (x .p)) (now (x .t)) unread (λ h. absurd (true≢false (sym h ∙ l))) in
+    rw (answer-steps (x .d) (now (x .p)) (now (x .t)) _ (q .0) (q .1) (q .2) (λ h. absurd (true≢false (sym h ∙ l))) w) (c .before .before .steps2 .ensures)
+
+pub meet-spec : {M : Type 1} → statement M
+meet-spec =
+    tie.close
+    (tie.spec
+    is-loaded-requires
+    read-requires
+    enum-known-disc
+    steps-requires
+    enum-told
+    refuse-requires
+    same-length
+    returns
+    returns-2
+    unread-requires
+    steps-requires-2
+    same-length-2
+    returns-3)

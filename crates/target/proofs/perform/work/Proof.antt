@@ -1,0 +1,210 @@
+-- `target::perform::work` meets its contract: each arm's function performs what the definition says of its command, and a command
+-- that needs a disc has one read off a fit table.
+use mathlib.Core.Path.{refl, ap, _∙_}
+use denote.Ref.{now}
+use Rattle.drive.specs.declared.state.Mechanics.{Mechanics}
+use Rattle.drive.specs.State.{withLock}
+use Rattle.target.specs.declared.decode.Command.{Command}
+use Rattle.target.specs.Command.{needsDisc}
+use Rattle.target.specs.Tray.{done}
+use Rattle.target.specs.Perform.{doneOf}
+use Rattle.target.specs.PerformLaws.{readOff-leads, readOff-least, performed-fails, performed-quiet, startStop-quiet, seek-quiet, read-quiet}
+use borrow.Author.Needs.{needs}
+use Rattle.target.proofs.perform.work.Statement.{statement}
+use Rattle.target.proofs.perform.work.Tie as tie
+use Rattle.target.proofs.perform.work.Reads as reads
+use Rattle.target.proofs.perform.work.Lts as lts
+use Rattle.drive.proofs.state.Mechanics.with_lock.Reads as with-lock-reads
+use Rattle.ground.proofs.number.word32.Reads as word32-reads
+use Rattle.target.proofs.perform.bit0.Reads as bit0-reads
+use Rattle.target.proofs.perform.done.Reads as done-reads
+use Rattle.target.proofs.perform.inquiry.Reads as inquiry-reads
+use Rattle.target.proofs.perform.read10.Reads as read10-reads
+use Rattle.target.proofs.perform.read12.Reads as read12-reads
+use Rattle.target.proofs.perform.read_capacity.Reads as read-capacity-reads
+use Rattle.target.proofs.perform.seek.Reads as seek-reads
+use Rattle.target.proofs.perform.start_stop.Reads as start-stop-reads
+use Rattle.target.proofs.toc.read_toc.Reads as read-toc-reads
+
+enum-told : tie.Need-enum-told
+enum-told c = search needs
+
+done-requires : tie.Need-done-requires
+done-requires c κs = search needs
+
+enum-told-2 : tie.Need-enum-told-2
+enum-told-2 c = search needs
+
+done-requires-2 : tie.Need-done-requires-2
+done-requires-2 c κs = search needs
+
+enum-told-3 : tie.Need-enum-told-3
+enum-told-3 c = search needs
+
+inquiry-requires : tie.Need-inquiry-requires
+inquiry-requires c κs = (c .before .before .before .before .before .before .pre .twelve, c .before .before .before .before .before .before .pre .room)
+
+enum-told-4 : tie.Need-enum-told-4
+enum-told-4 c = search needs
+
+shared-slice-read-start-stop : tie.Need-shared-slice-read-start-stop
+shared-slice-read-start-stop c = search needs
+
+start-stop-requires : tie.Need-start-stop-requires
+start-stop-requires c κs = search needs
+
+enum-told-5 : tie.Need-enum-told-5
+enum-told-5 c = search needs
+
+shared-slice-read-bit0 : tie.Need-shared-slice-read-bit0
+shared-slice-read-bit0 c = search needs
+
+bit0-requires : tie.Need-bit0-requires
+bit0-requires c κs = search needs
+
+with-lock-requires : tie.Need-with-lock-requires
+with-lock-requires c κs = search needs
+
+done-requires-3 : tie.Need-done-requires-3
+done-requires-3 c κs = search needs
+
+enum-told-6 : tie.Need-enum-told-6
+enum-told-6 c = search needs
+
+read-capacity-requires : tie.Need-read-capacity-requires
+read-capacity-requires c κs = (readOff-least (c .before .before .before .before .before .before .pre .ready (ap (λ (k : Command). needsDisc k (now (c .before .before .before .before .before .before .args .p))) (c .before .enum-told6 .given .1))), c .before .before .before .before .before .before .pre .room)
+
+enum-told-7 : tie.Need-enum-told-7
+enum-told-7 c = search needs
+
+read10-requires : tie.Need-read10-requires
+read10-requires c κs = (c .before .before .before .before .before .pre .ready (ap (λ (k : Command). needsDisc k (now (c .before .before .before .before .before .args .p))) (c .enum-told7 .given .1)), c .before .before .before .before .before .pre .twelve)
+
+enum-told-8 : tie.Need-enum-told-8
+enum-told-8 c = search needs
+
+shared-slice-read-word32 : tie.Need-shared-slice-read-word32
+shared-slice-read-word32 c = search needs
+
+shared-slice-read-word32-2 : tie.Need-shared-slice-read-word32-2
+shared-slice-read-word32-2 c = search needs
+
+shared-slice-read-word32-3 : tie.Need-shared-slice-read-word32-3
+shared-slice-read-word32-3 c = search needs
+
+shared-slice-read-word32-4 : tie.Need-shared-slice-read-word32-4
+shared-slice-read-word32-4 c = search needs
+
+word32-requires : tie.Need-word32-requires
+word32-requires c κs = search needs
+
+seek-requires : tie.Need-seek-requires
+seek-requires c κs = readOff-least (c .before .before .before .before .before .before .before .before .before .before .pre .ready (ap (λ (k : Command). needsDisc k (now (c .before .before .before .before .before .before .before .before .before .before .args .p))) (c .before .before .before .before .before .enum-told8 .given .1)))
+
+enum-told-9 : tie.Need-enum-told-9
+enum-told-9 c = search needs
+
+read-toc-requires : tie.Need-read-toc-requires
+read-toc-requires c κs = (c .before .before .before .before .before .before .pre .ready (ap (λ (k : Command). needsDisc k (now (c .before .before .before .before .before .before .args .p))) (c .before .enum-told9 .given .1)), c .before .before .before .before .before .before .pre .twelve, c .before .before .before .before .before .before .pre .room)
+
+enum-told-10 : tie.Need-enum-told-10
+enum-told-10 c = search needs
+
+read12-requires : tie.Need-read12-requires
+read12-requires c κs = (c .before .before .before .before .before .pre .ready (ap (λ (k : Command). needsDisc k (now (c .before .before .before .before .before .args .p))) (c .enum-told10 .given .1)), c .before .before .before .before .before .pre .twelve)
+
+enum-told-11 : tie.Need-enum-told-11
+enum-told-11 c = search needs
+
+returns : tie.Need-returns
+returns c = rw (c .before .enum-told .given .1) (performed-quiet _ refl (c .done .ensures))
+
+returns-2 : tie.Need-returns-2
+returns-2 c = rw (c .before .enum-told2 .given .1) (performed-quiet _ refl (c .done2 .ensures))
+
+same-length : tie.Need-same-length
+same-length c = search needs
+
+returns-3 : tie.Need-returns-3
+returns-3 c = rw (c .before .before .before .before .enum-told3 .given .1) (c .before .before .inquiry .ensures)
+
+returns-4 : tie.Need-returns-4
+returns-4 c = rw (c .before .before .enum-told4 .given .1) (performed-quiet _ (startStop-quiet _ _) (c .start-stop .ensures))
+
+returns-5 : tie.Need-returns-5
+returns-5 c = let l = c .before .with-lock .ensures ∙ ap (withLock (c .before .before .before .before .before .before .before .before .before .args .m)) (c .before .before .bit0 .ensures) in
+    rw (c .before .before .before .before .enum-told5 .given .1) (performed-quiet _ refl (c .done3 .ensures ∙ ap (λ (k : Mechanics). doneOf (done k)) l))
+
+same-length-2 : tie.Need-same-length-2
+same-length-2 c = search needs
+
+returns-6 : tie.Need-returns-6
+returns-6 c = rw (c .before .before .before .before .enum-told6 .given .1) (rw (readOff-leads (c .before .before .before .before .before .before .before .before .before .pre .ready (ap (λ (k : Command). needsDisc k (now (c .before .before .before .before .before .before .before .before .before .args .p))) (c .before .before .before .before .enum-told6 .given .1)))) at (c .before .before .read-capacity .ensures))
+
+returns-7 : tie.Need-returns-7
+returns-7 c = rw (c .before .enum-told7 .given .1) (performed-quiet _ (read-quiet _ _ _ _) (c .read10 .ensures))
+
+returns-8 : tie.Need-returns-8
+returns-8 c = let e = rw (c .before .word32 .ensures .0, readOff-leads (c .before .before .before .before .before .before .before .before .before .before .before .pre .ready (ap (λ (k : Command). needsDisc k (now (c .before .before .before .before .before .before .before .before .before .before .before .args .p))) (c .before .before .before .before .before .before .enum-told8 .given .1)))) at (c .seek .ensures) in
+    rw (c .before .before .before .before .before .before .enum-told8 .given .1) (performed-quiet _ (seek-quiet _ _ _) e)
+
+same-length-3 : tie.Need-same-length-3
+same-length-3 c = search needs
+
+returns-9 : tie.Need-returns-9
+returns-9 c = rw (c .before .before .before .before .enum-told9 .given .1) (c .before .before .read-toc .ensures)
+
+returns-10 : tie.Need-returns-10
+returns-10 c = rw (c .before .enum-told10 .given .1) (performed-quiet _ (read-quiet _ _ _ _) (c .read12 .ensures))
+
+returns-11 : tie.Need-returns-11
+returns-11 c = rw (c .enum-told11 .given .1) (performed-fails _ refl)
+
+pub work-spec : {M : Type 1} → statement M
+work-spec =
+    tie.close
+    (tie.spec
+    enum-told
+    done-requires
+    enum-told-2
+    done-requires-2
+    enum-told-3
+    inquiry-requires
+    enum-told-4
+    shared-slice-read-start-stop
+    start-stop-requires
+    enum-told-5
+    shared-slice-read-bit0
+    bit0-requires
+    with-lock-requires
+    done-requires-3
+    enum-told-6
+    read-capacity-requires
+    enum-told-7
+    read10-requires
+    enum-told-8
+    shared-slice-read-word32
+    shared-slice-read-word32-2
+    shared-slice-read-word32-3
+    shared-slice-read-word32-4
+    word32-requires
+    seek-requires
+    enum-told-9
+    read-toc-requires
+    enum-told-10
+    read12-requires
+    enum-told-11
+    returns
+    returns-2
+    same-length
+    returns-3
+    returns-4
+    returns-5
+    same-length-2
+    returns-6
+    returns-7
+    returns-8
+    same-length-3
+    returns-9
+    returns-10
+    returns-11)

@@ -1,0 +1,9 @@
+pub mod Command
+pub mod Tray
+pub mod Toc
+pub mod TocLaws
+pub mod FitFacts
+pub mod Perform
+pub mod PerformLaws
+pub mod Packet
+pub mod PacketLaws

@@ -1,0 +1,86 @@
+-- A packet met by the drive: "Numbers of refusal", then "Steps for a packet".
+use Prim.Native.Nat.{ℕ, min}
+use mathlib.Core.Path.{_≡_}
+use mathlib.Core.Bool.{Bool, true, false, not}
+use mathlib.Core.List.{List}
+use lib.ListN.{length, take}
+use lib.Dec.{eqb, ltb}
+use Rattle.ground.specs.Tests.{_and_, if_then_else_}
+use Rattle.ground.specs.Memory.{fill}
+use Rattle.drive.specs.declared.state.Unit.{Unit}
+use Rattle.drive.specs.declared.state.Mechanics.{Mechanics}
+use Rattle.drive.specs.declared.state.Drive.{Drive}
+use Rattle.drive.specs.Sense.{isKnown}
+use Rattle.drive.specs.State.{isLoaded, unknownSense}
+use Rattle.disc.specs.Layout.{bound}
+use Rattle.disc.specs.Rules.{isFit}
+use Rattle.disc.specs.Part.{unfit}
+use Rattle.gate.specs.Gate.{Result, Reply, refuse, gate, pass, requestSense}
+use Rattle.target.specs.declared.decode.Command.{Command}
+use Rattle.target.specs.declared.decode.Kind.{Kind}
+use Rattle.target.specs.declared.decode.Kind.the-variants.{Asks, Passes, Gates}
+use Rattle.target.specs.declared.packet.Outcome.{Outcome}
+use Rattle.target.specs.Command.{byte, codeOf, decode, kindOf}
+use Rattle.target.specs.Perform.{perform}
+
+-- the refusals that only packets give
+abbrev pub notTwelve : ℕ
+notTwelve = 1
+
+abbrev pub shortMemory : ℕ
+shortMemory = 3
+
+abbrev pub longAnswer : ℕ
+longAnswer = 9
+
+-- steps 1 and 2, by how the command meets a pending attention
+abbrev pub stepsBy : Kind → Command → Unit → Mechanics → List ℕ → List ℕ → Reply Mechanics
+stepsBy Asks c u m p t = requestSense (byte p 4) u m
+stepsBy Passes c u m p t = pass u m (perform c p m t)
+stepsBy Gates c u m p t = gate u m (perform c p m t)
+
+abbrev pub steps : Command → Unit → Mechanics → List ℕ → List ℕ → Reply Mechanics
+steps c u m p t = stepsBy (kindOf c) c u m p t
+
+-- "9: a full answer would pass 4,360 bytes", "once the full answer is known"
+unfoldable pub within : Unit → Mechanics → Reply Mechanics → Reply Mechanics
+within u m r = if ltb bound (length (r .full)) then refuse longAnswer u m else r
+
+-- "Packets test 1, 2, 3, 4, then the steps below, and 9": n is the length of the response memory.
+-- "When not loaded, the table isn't looked at."
+unfoldable pub refusalOf : Drive → List ℕ → List ℕ → ℕ → ℕ
+refusalOf d p t n =
+    if not (eqb (length p) 12) then notTwelve
+    else (if not (isKnown (d .unit .sense)) then unknownSense
+    else (if ltb n bound then shortMemory
+    else (if isLoaded (d .mechanics) and not (isFit t) then unfit else 0)))
+
+unfoldable pub answer : Drive → List ℕ → List ℕ → ℕ → Reply Mechanics
+answer d p t n =
+    if eqb (refusalOf d p t n) 0 then within (d .unit) (d .mechanics) (steps (decode (codeOf p)) (d .unit) (d .mechanics) p t)
+    else refuse (refusalOf d p t n) (d .unit) (d .mechanics)
+
+-- ---- what the code hands back
+
+-- the state after the answer
+abbrev pub stateOf : Reply Mechanics → Drive
+stateOf a = record { unit = a .unit; mechanics = a .mechanics }
+
+-- "the bytes are the first n of the full answer, n the smaller of the two lengths"
+abbrev pub bytesOf : Reply Mechanics → List ℕ
+bytesOf a = take (a .limit) (a .full)
+
+abbrev pub outcomeOf : Reply Mechanics → Outcome
+outcomeOf a = record {
+  number = a .number;
+  status = a .status;
+  len = min (a .limit) (length (a .full));
+  start = a .start;
+  count = a .count;
+  state = stateOf a;
+}
+
+-- the outcome r and the memory m′ are what the answer says, of the memory m
+pub record Answered (a : Reply Mechanics) (m : List ℕ) (r : Outcome) (m′ : List ℕ) : Type 0 where
+  pub outcome : r ≡ outcomeOf a
+  pub memory : m′ ≡ fill m (bytesOf a)

@@ -1,0 +1,201 @@
+-- How the code's outcomes meet an answer.
+use mathlib.Core.Path.{_≡_, refl, sym, ap, _∙_}
+use mathlib.Core.Bool.{Bool, true, false, not}
+use mathlib.Core.List.{List, []}
+use Prim.Native.Nat.{ℕ, _≤_, _<_, min}
+use native.Mathlib.Omega.{arith}
+use lib.ListN.{length, take, length-take}
+use lib.Dec.{eqb}
+use borrow.Author.Tests.{eq-eqb, ne-eqb, lt-ltb, le-ltb}
+use Rattle.ground.specs.Tests.{_and_, when, unless, and-both, and-off, and-late}
+use Rattle.ground.specs.Memory.{Laid, fill, fill-none}
+use Rattle.drive.specs.declared.sense.Sense.{Sense}
+use Rattle.drive.specs.declared.state.Unit.{Unit}
+use Rattle.drive.specs.declared.state.Mechanics.{Mechanics}
+use Rattle.drive.specs.declared.state.Drive.{Drive}
+use Rattle.drive.specs.Sense.{isKnown}
+use Rattle.drive.specs.Unit.{attend}
+use Rattle.drive.specs.State.{isLoaded, unknownSense}
+use Rattle.disc.specs.Layout.{bound}
+use Rattle.disc.specs.Rules.{isFit}
+use Rattle.disc.specs.Part.{unfit}
+use Rattle.disc.specs.declared.disc.Disc.{Disc}
+use Rattle.gate.specs.Fault.{senseOf}
+use Rattle.gate.specs.declared.unit.Pending.{Pending}
+use Rattle.gate.specs.declared.unit.Pending.the-variants.{Power, Change, Nothing}
+use Rattle.gate.specs.Unit.{hold, clear, pendingOf, attentionSense, told}
+use Rattle.gate.specs.Gate.{Result, fails, goes, Reply, refuse, check, good, settle, pass, meet, gate, requestSense}
+use Rattle.target.specs.declared.decode.Command.{Command}
+use Rattle.target.specs.declared.decode.Kind.{Kind}
+use Rattle.target.specs.declared.decode.Kind.the-variants.{Asks, Passes, Gates}
+use Rattle.target.specs.declared.done.Done.{Done}
+use Rattle.target.specs.declared.done.Done.the-variants.{Fails, Goes}
+use Rattle.target.specs.declared.packet.Outcome.{Outcome}
+use Rattle.target.specs.Perform.{doneOf, written, Performed, perform}
+use Rattle.target.specs.TocLaws.{ReadOff}
+use Rattle.target.specs.PerformLaws.{fullOf, perform-within}
+use Rattle.target.specs.Command.{codeOf, decode, kindOf}
+use Rattle.target.specs.Packet.{outcomeOf, bytesOf, steps, stepsBy, Answered, answer, refusalOf, within, notTwelve, shortMemory}
+
+-- a refusal's outcome
+abbrev pub refused : ℕ → Drive → Outcome
+refused n d = record { number = n; status = 0; len = 0; start = 0; count = 0; state = d }
+
+-- a CHECK CONDITION's outcome
+abbrev pub checked : Sense → Unit → Mechanics → Outcome
+checked s u m = record { number = 0; status = 0x02; len = 0; start = 0; count = 0; state = record { unit = hold s u; mechanics = m } }
+
+-- a command's outcome: failing over the unit u, good over the unit v
+abbrev pub finished : Unit → Unit → Mechanics → Done → Outcome
+finished u v m (Fails f) = checked (senseOf f) u m
+finished u v m (Goes w) =
+    record {
+      number = 0;
+      status = 0x00;
+      len = w .len;
+      start = w .start;
+      count = w .count;
+      state = record { unit = attend (w .loading) v; mechanics = w .next };
+    }
+
+-- no disc was read
+abbrev pub unread : Disc
+unread = record { first = 0; last = 0; sessions = 0; «lead_out» = 0; «lead_flags» = 0; «last_at» = 0 }
+
+-- the steps for the drive's packet
+abbrev pub stepsOf : Drive → List ℕ → List ℕ → Reply Mechanics
+stepsOf d p t = steps (decode (codeOf p)) (d .unit) (d .mechanics) p t
+
+-- what is finished is what is settled, or passed
+pub finished-settle : (u : Unit) (m : Mechanics) (r : Result Mechanics) → finished u (clear u) m (doneOf r) ≡ outcomeOf (settle u m r)
+finished-settle u m (fails f) = refl
+finished-settle u m (goes next loading full limit start count) = refl
+
+pub finished-pass : (u : Unit) (m : Mechanics) (r : Result Mechanics) → finished u u m (doneOf r) ≡ outcomeOf (pass u m r)
+finished-pass u m (fails f) = refl
+finished-pass u m (goes next loading full limit start count) = refl
+
+-- what is written is the answer's bytes
+pub written-settle : (u : Unit) (m : Mechanics) (r : Result Mechanics) → written r ≡ bytesOf (settle u m r)
+written-settle u m (fails f) = refl
+written-settle u m (goes next loading full limit start count) = refl
+
+pub written-pass : (u : Unit) (m : Mechanics) (r : Result Mechanics) → written r ≡ bytesOf (pass u m r)
+written-pass u m (fails f) = refl
+written-pass u m (goes next loading full limit start count) = refl
+
+-- ---- Answered
+
+pub answered-refused : (n : ℕ) (d : Drive) (m : List ℕ) → Answered (refuse n (d .unit) (d .mechanics)) m (refused n d) m
+answered-refused n d m = record { outcome = refl; memory = sym (fill-none m) }
+
+pub answered-check : (s : Sense) (u : Unit) (k : Mechanics) {o : Outcome} (m : List ℕ) → o ≡ checked s u k → Answered (check s u k) m o m
+answered-check s u k m e = record { outcome = e; memory = sym (fill-none m) }
+
+pub answered-settle :
+    (u : Unit) (k : Mechanics) (r : Result Mechanics) {done : Done} {o : Outcome} {m m′ : List ℕ}
+    → Performed r m done m′ → o ≡ finished u (clear u) k done → Answered (settle u k r) m o m′
+answered-settle u k r {m = m} f e = record {
+  outcome = e ∙ ap (finished u (clear u) k) (f .outcome) ∙ finished-settle u k r;
+  memory = f .memory ∙ ap (fill m) (written-settle u k r);
+}
+
+pub answered-pass :
+    (u : Unit) (k : Mechanics) (r : Result Mechanics) {done : Done} {o : Outcome} {m m′ : List ℕ}
+    → Performed r m done m′ → o ≡ finished u u k done → Answered (pass u k r) m o m′
+answered-pass u k r {m = m} f e = record {
+  outcome = e ∙ ap (finished u u k) (f .outcome) ∙ finished-pass u k r;
+  memory = f .memory ∙ ap (fill m) (written-pass u k r);
+}
+
+-- an answer with an allocation length, laid into a memory that holds it whole
+pub answered-good :
+    (full : List ℕ) (u : Unit) (k : Mechanics) {limit n : ℕ} {m m′ : List ℕ} → length full ≤ length m → Laid m (take limit full) n m′
+    → Answered (good full limit 0 0 u k) m
+    (record { number = 0; status = 0x00; len = n; start = 0; count = 0; state = record { unit = u; mechanics = k } }) m′
+answered-good full u k {limit} {n} h l =
+    let e : n ≡ min limit (length full) = let a = l .count in let b = length-take limit full in omega arith in
+    record { outcome = rw e; memory = l .bytes }
+
+-- ---- the refusals in order
+
+module _ (d : Drive) (p t : List ℕ) (n : ℕ) where
+  refused-by : (k : ℕ) → refusalOf d p t n ≡ k → (k ≡ 0 → ⊥) → answer d p t n ≡ refuse k (d .unit) (d .mechanics)
+  unfolding answer
+  refused-by k e z = unless _ _ _ (ne-eqb _ 0 (λ h. z (sym e ∙ h))) ∙ ap (λ (x : ℕ). refuse x (d .unit) (d .mechanics)) e
+
+  pub answer-1 : (length p ≡ 12 → ⊥) → answer d p t n ≡ refuse notTwelve (d .unit) (d .mechanics)
+  unfolding refusalOf
+  answer-1 h = refused-by notTwelve (when _ _ _ (ap not (ne-eqb _ _ h))) (λ z. omega arith)
+
+  module _ (a : length p ≡ 12) where
+    pub answer-2 : isKnown (d .unit .sense) ≡ false → answer d p t n ≡ refuse unknownSense (d .unit) (d .mechanics)
+    unfolding refusalOf
+    answer-2 h = refused-by unknownSense (unless _ _ _ (ap not (eq-eqb _ _ a)) ∙ when _ _ _ (ap not h)) (λ z. omega arith)
+
+    module _ (b : isKnown (d .unit .sense) ≡ true) where
+      pub answer-3 : n < bound → answer d p t n ≡ refuse shortMemory (d .unit) (d .mechanics)
+      unfolding refusalOf
+      answer-3 h =
+          refused-by shortMemory (unless _ _ _ (ap not (eq-eqb _ _ a)) ∙ unless _ _ _ (ap not b) ∙ when _ _ _ (lt-ltb _ _ h)) (λ z. omega arith)
+
+      module _ (c : bound ≤ n) where
+        pub answer-4 : isLoaded (d .mechanics) ≡ true → isFit t ≡ false → answer d p t n ≡ refuse unfit (d .unit) (d .mechanics)
+        unfolding refusalOf
+        answer-4 h k =
+            refused-by unfit
+            (unless _ _ _ (ap not (eq-eqb _ _ a)) ∙ unless _ _ _ (ap not b) ∙ unless _ _ _ (le-ltb _ _ c) ∙ when _ _ _ (and-both _ _ h (ap not k)))
+            (λ z. omega arith)
+
+        -- none of them: the steps, if no full answer passes the bound
+        pub answer-steps :
+            (isLoaded (d .mechanics) ≡ true → isFit t ≡ true) → length (stepsOf d p t .full) ≤ bound → answer d p t n ≡ stepsOf d p t
+        unfolding answer refusalOf within
+        answer-steps f h =
+            when _ _ _ (eq-eqb _ _
+            (unless _ _ _ (ap not (eq-eqb _ _ a)) ∙ unless _ _ _ (ap not b) ∙ unless _ _ _ (le-ltb _ _ c) ∙ unless _ _ _ (fits (isLoaded (d .mechanics)) refl)))
+            ∙ unless _ _ _ (le-ltb _ _ h)
+          where
+            fits : (l : Bool) → isLoaded (d .mechanics) ≡ l → isLoaded (d .mechanics) and not (isFit t) ≡ false
+            fits true e = sym (and-late _ _ (sym (ap not (f e))))
+            fits false e = sym (and-off _ _ e)
+
+-- ---- no full answer passes the bound
+
+settle-within : (u : Unit) (m : Mechanics) (r : Result Mechanics) → length (fullOf r) ≤ bound → length (settle u m r .full) ≤ bound
+settle-within u m (fails f) h = omega arith
+settle-within u m (goes next loading full limit start count) h = h
+
+pass-within : (u : Unit) (m : Mechanics) (r : Result Mechanics) → length (fullOf r) ≤ bound → length (pass u m r .full) ≤ bound
+pass-within u m (fails f) h = omega arith
+pass-within u m (goes next loading full limit start count) h = h
+
+meet-within : (a : Pending) (u : Unit) (m : Mechanics) (r : Result Mechanics) → length (fullOf r) ≤ bound → length (meet a u m r .full) ≤ bound
+meet-within Power u m r h = omega arith
+meet-within Change u m r h = omega arith
+meet-within Nothing u m r h = settle-within u m r h
+
+steps-by :
+    (k : Kind) (c : Command) (u : Unit) (m : Mechanics) (p t : List ℕ) → length (fullOf (perform c p m t)) ≤ bound
+    → length (stepsBy k c u m p t .full) ≤ bound
+unfolding gate
+steps-by Asks c u m p t h = omega arith
+steps-by Passes c u m p t h = pass-within u m (perform c p m t) h
+steps-by Gates c u m p t h = meet-within (pendingOf u) u m (perform c p m t) h
+
+pub steps-within : (d : Drive) (p t : List ℕ) (disc : Disc) → (isLoaded (d .mechanics) ≡ true → ReadOff t disc) → length (stepsOf d p t .full) ≤ bound
+steps-within d p t disc r =
+    let c = decode (codeOf p) in
+    steps-by (kindOf c) c (d .unit) (d .mechanics) p t (perform-within c p (d .mechanics) t disc r)
+
+-- ---- step 2
+
+pub gate-tells : (a : Pending) (u : Unit) (m : Mechanics) (r : Result Mechanics) → pendingOf u ≡ a → (a ≡ Nothing → ⊥) → gate u m r ≡ check (attentionSense a) (told a u) m
+unfolding gate
+gate-tells Power u m r e n = ap (λ (a : Pending). meet a u m r) e
+gate-tells Change u m r e n = ap (λ (a : Pending). meet a u m r) e
+gate-tells Nothing u m r e n = absurd (n refl)
+
+pub gate-settles : (u : Unit) (m : Mechanics) (r : Result Mechanics) → pendingOf u ≡ Nothing → gate u m r ≡ settle u m r
+unfolding gate
+gate-settles u m r e = ap (λ (a : Pending). meet a u m r) e

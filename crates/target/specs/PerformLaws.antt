@@ -1,0 +1,181 @@
+-- How the code's answers meet a result: a failure writes nothing, and what went well was laid.
+use mathlib.Core.Path.{_≡_, refl, sym, ap, _∙_}
+use mathlib.Core.Bool.{Bool, true, false, not, true≢false}
+use mathlib.Core.List.{List, []}
+use Prim.Native.Nat.{ℕ, _+_, _-_, _≤_, _<_, min}
+use native.Mathlib.Omega.{arith}
+use lib.ListN.{length, take, length-take}
+use lib.Seq.{take-nil}
+use borrow.Author.Tests.{lt-ltb, le-ltb}
+use Rattle.ground.specs.Tests.{when, unless, either, and-both, and-off, and-late, or-left, or-right, or-else}
+use Rattle.disc.specs.declared.disc.Disc.{Disc}
+use Rattle.disc.specs.Layout.{bound, descriptors}
+use Rattle.disc.specs.Track.{allInData}
+use Rattle.ground.specs.Memory.{Laid, fill, fill-none, laid-none}
+use Rattle.drive.specs.declared.state.Mechanics.{Mechanics}
+use Rattle.drive.specs.State.{isLoaded}
+use Rattle.gate.specs.declared.fault.Fault.{Fault}
+use Rattle.gate.specs.declared.fault.Fault.the-variants.{OutOfRange, BadField, IllegalMode}
+use Rattle.gate.specs.Gate.{Result, fails, goes}
+use Rattle.target.specs.declared.decode.Command.{Command}
+use Rattle.target.specs.declared.decode.Command.the-variants.{TestUnitReady, RequestSense, Inquiry, StartStop, Prevent, ReadCapacity, Read10, Seek, ReadToc, Read12, Unknown}
+use Rattle.target.specs.declared.done.Done.{Done}
+use Rattle.target.specs.declared.done.Done.the-variants.{Fails, Goes}
+use Rattle.target.specs.Command.{byte, bit0, needsDisc, addressIn, count10, count12}
+use Rattle.target.specs.Tray.{eject, load, startStop}
+use Rattle.target.specs.Toc.{tocBad, readToc, formatIn, msfIn, numberIn}
+use Rattle.target.specs.TocLaws.{ReadOff, tocBytes-within}
+use Rattle.target.specs.Perform.{doneOf, written, Performed, inquiryBytes, inquiry, L, seek, read, work, noMedium, perform}
+
+-- ---- what the code has in hand
+
+-- the packet is twelve bytes, the memory is long enough, and a command that needs a disc has one read off a fit table
+pub record Met (c : Command) (p t : List ℕ) (disc : Disc) (mem : List ℕ) : Type 0 where
+  pub twelve : length p ≡ 12
+  pub room : bound ≤ length mem
+  pub ready : needsDisc c p ≡ true → ReadOff t disc
+
+-- the same before the disc is asked for: a loaded drive's table was read
+pub record Ready (m : Mechanics) (p t : List ℕ) (disc : Disc) (mem : List ℕ) : Type 0 where
+  pub twelve : length p ≡ 12
+  pub room : bound ≤ length mem
+  pub ready : isLoaded m ≡ true → ReadOff t disc
+
+-- the lead-out that was read off is the table's
+pub readOff-leads : {t : List ℕ} {disc : Disc} → ReadOff t disc → disc .«lead_out» ≡ L t
+readOff-leads r = ap (λ (d : Disc). d .«lead_out») (r .same)
+
+pub readOff-least : {t : List ℕ} {disc : Disc} → ReadOff t disc → 1 ≤ disc .«lead_out»
+readOff-least r = rw (readOff-leads r) (r .fits .leads)
+
+-- ---- Performed
+
+pub performed-fails : {r : Result Mechanics} {f : Fault} (m : List ℕ) → r ≡ fails f → Performed r m (Fails f) m
+performed-fails m e = record { outcome = ap doneOf (sym e); memory = sym (fill-none m) ∙ ap (λ (x : Result Mechanics). fill m (written x)) (sym e) }
+
+pub performed-goes :
+    {r : Result Mechanics} {next : Mechanics} {loading : Bool} {limit start count n : ℕ} (full : List ℕ) {m m′ : List ℕ}
+    → r ≡ goes next loading full limit start count → length full ≤ length m → Laid m (take limit full) n m′
+    → Performed r m (Goes (record { next = next; loading = loading; len = n; start = start; count = count })) m′
+performed-goes {r} {next} {loading} {limit} {start} {count} {n} full {m} {m′} e h l =
+    let k : n ≡ min limit (length full) = let a = l .count in let b = length-take limit full in omega arith in
+    record {
+      outcome = rw k (ap doneOf (sym e));
+      memory = l .bytes ∙ ap (λ (x : Result Mechanics). fill m (written x)) (sym e);
+    }
+
+-- a command with no answer writes nothing
+pub performed-none :
+    {r : Result Mechanics} {next : Mechanics} {loading : Bool} {start count : ℕ} (m : List ℕ)
+    → r ≡ goes next loading [] 0 start count
+    → Performed r m (Goes (record { next = next; loading = loading; len = 0; start = start; count = count })) m
+performed-none m e = performed-goes [] e (omega arith) (laid-none m)
+
+-- ---- INQUIRY
+
+pub inquiry-fails : (p : List ℕ) (m : Mechanics) → bit0 (byte p 1) ≡ true → inquiry p m ≡ fails BadField
+unfolding inquiry
+inquiry-fails p m h = when _ _ _ h
+
+pub inquiry-goes : (p : List ℕ) (m : Mechanics) → bit0 (byte p 1) ≡ false → inquiry p m ≡ goes m false inquiryBytes (byte p 4) 0 0
+unfolding inquiry
+inquiry-goes p m h = unless _ _ _ h
+
+-- ---- READ
+
+module _ (a n : ℕ) (m : Mechanics) (t : List ℕ) where
+  pub read-over : L t - 1 < a → read a n m t ≡ fails OutOfRange
+  unfolding read
+  read-over h = when _ _ _ (or-left _ _ (lt-ltb _ _ h))
+
+  pub read-past : L t < a + n → read a n m t ≡ fails OutOfRange
+  unfolding read
+  read-past h = when _ _ _ (or-right _ _ (lt-ltb _ _ h))
+
+  pub read-goes : a ≤ L t - 1 → a + n ≤ L t → allInData (descriptors t) a n ≡ true → read a n m t ≡ goes m false [] 0 a n
+  unfolding read
+  read-goes h k d = unless _ _ _ (or-else _ _ (le-ltb _ _ h) ∙ le-ltb _ _ k) ∙ when _ _ _ d
+
+  pub read-mode : a ≤ L t - 1 → a + n ≤ L t → allInData (descriptors t) a n ≡ false → read a n m t ≡ fails IllegalMode
+  unfolding read
+  read-mode h k d = unless _ _ _ (or-else _ _ (le-ltb _ _ h) ∙ le-ltb _ _ k) ∙ unless _ _ _ d
+
+-- ---- commands that write nothing
+
+-- a result's full answer
+abbrev pub fullOf : Result Mechanics → List ℕ
+fullOf (fails f) = []
+fullOf (goes next loading full limit start count) = full
+
+abbrev pub Quiet : Result Mechanics → Type 0
+Quiet r = fullOf r ≡ []
+
+written-quiet : (r : Result Mechanics) → Quiet r → written r ≡ []
+written-quiet (fails f) q = refl
+written-quiet (goes next loading full limit start count) q = ap (take limit) q ∙ take-nil limit
+
+pub performed-quiet : {r : Result Mechanics} {o : Done} (m : List ℕ) → Quiet r → o ≡ doneOf r → Performed r m o m
+performed-quiet {r} m q e = record { outcome = e; memory = sym (fill-none m) ∙ ap (fill m) (sym (written-quiet r q)) }
+
+pub startStop-quiet : (b : ℕ) (m : Mechanics) → Quiet (startStop b m)
+unfolding startStop load eject
+startStop-quiet b m =
+    either Quiet _ (λ h. either Quiet _ (λ k. either Quiet _ (λ o. refl) (λ o. refl)) (λ k. either Quiet _ (λ o. refl) (λ o. either Quiet _ (λ l. refl) (λ l. refl)))) (λ h. refl)
+
+pub seek-quiet : (a : ℕ) (m : Mechanics) (l : ℕ) → Quiet (seek a m l)
+unfolding seek
+seek-quiet a m l = either Quiet _ (λ h. refl) (λ h. refl)
+
+pub read-quiet : (a n : ℕ) (m : Mechanics) (t : List ℕ) → Quiet (read a n m t)
+unfolding read
+read-quiet a n m t = either Quiet _ (λ h. refl) (λ h. either Quiet _ (λ k. refl) (λ k. refl))
+
+-- ---- steps 3 and 4
+
+pub perform-empty : (c : Command) (p : List ℕ) (m : Mechanics) (t : List ℕ) → needsDisc c p ≡ true → isLoaded m ≡ false → perform c p m t ≡ fails (noMedium m)
+unfolding perform
+perform-empty c p m t h k = when _ _ _ (and-both _ _ h (ap not k))
+
+pub perform-loaded : (c : Command) (p : List ℕ) (m : Mechanics) (t : List ℕ) → isLoaded m ≡ true → perform c p m t ≡ work c p m t
+unfolding perform
+perform-loaded c p m t k = unless _ _ _ (sym (and-late _ _ (sym (ap not k))))
+
+pub perform-free : (c : Command) (p : List ℕ) (m : Mechanics) (t : List ℕ) → needsDisc c p ≡ false → perform c p m t ≡ work c p m t
+unfolding perform
+perform-free c p m t h = unless _ _ _ (sym (and-off _ _ h))
+
+-- ---- no full answer passes the bound
+
+inquiry-within : (p : List ℕ) (m : Mechanics) → length (fullOf (inquiry p m)) ≤ bound
+unfolding inquiry
+inquiry-within p m = either (λ (r : Result Mechanics). length (fullOf r) ≤ bound) (bit0 (byte p 1)) (λ h. omega arith) (λ h. omega arith)
+
+readToc-within : (p : List ℕ) (m : Mechanics) {t : List ℕ} {disc : Disc} → ReadOff t disc → length (fullOf (readToc p m t)) ≤ bound
+unfolding readToc
+readToc-within p m {t} r =
+    either (λ (x : Result Mechanics). length (fullOf x) ≤ bound) (tocBad (formatIn p) (numberIn p) t) (λ h. omega arith)
+    (λ h. tocBytes-within r (formatIn p) (msfIn p) (numberIn p) h)
+
+-- of a command that has what it needs
+work-within : (c : Command) (p : List ℕ) (m : Mechanics) (t : List ℕ) (disc : Disc) → (needsDisc c p ≡ true → ReadOff t disc)
+    → length (fullOf (work c p m t)) ≤ bound
+work-within TestUnitReady p m t disc r = omega arith
+work-within RequestSense p m t disc r = omega arith
+work-within Inquiry p m t disc r = inquiry-within p m
+work-within StartStop p m t disc r = rw (startStop-quiet (byte p 4) m) (omega arith)
+work-within Prevent p m t disc r = omega arith
+work-within ReadCapacity p m t disc r = omega arith
+work-within Read10 p m t disc r = rw (read-quiet (addressIn p) (count10 p) m t) (omega arith)
+work-within Seek p m t disc r = rw (seek-quiet (addressIn p) m (L t)) (omega arith)
+work-within ReadToc p m t disc r = readToc-within p m (r refl)
+work-within Read12 p m t disc r = rw (read-quiet (addressIn p) (count12 p) m t) (omega arith)
+work-within Unknown p m t disc r = omega arith
+
+pub perform-within : (c : Command) (p : List ℕ) (m : Mechanics) (t : List ℕ) (disc : Disc) → (isLoaded m ≡ true → ReadOff t disc)
+    → length (fullOf (perform c p m t)) ≤ bound
+perform-within c p m t disc r = decided (needsDisc c p) refl (isLoaded m) refl
+  where
+    decided : (n : Bool) → needsDisc c p ≡ n → (l : Bool) → isLoaded m ≡ l → length (fullOf (perform c p m t)) ≤ bound
+    decided true h true k = rw (perform-loaded c p m t k) (work-within c p m t disc (λ z. r k))
+    decided true h false k = rw (perform-empty c p m t h k) (omega arith)
+    decided false h l k = rw (perform-free c p m t h) (work-within c p m t disc (λ z. absurd (true≢false (sym z ∙ h))))

@@ -1,0 +1,242 @@
+// One packet met by the drive, its lent table and its response memory.
+use crate::decode::Command;
+use crate::decode::Kind;
+use crate::decode::decode;
+use crate::decode::kind_of;
+use crate::done::Done;
+use crate::perform::perform;
+use disc::disc::Disc;
+use disc::disc::Reading;
+use disc::disc::read;
+use disc::layout::BOUND;
+use disc::part::UNFIT;
+use drive::sense::Sense;
+use drive::sense::is_known;
+use drive::state::Drive;
+use drive::state::Mechanics;
+use drive::state::UNKNOWN_SENSE;
+use drive::state::Unit;
+use gate::fault::sense_of;
+use gate::unit::Pending;
+use gate::unit::clear;
+use gate::unit::first_pending;
+use gate::unit::give;
+use gate::unit::hold;
+use gate::unit::sense_of_pending;
+use gate::unit::told;
+use ground::memory::put_cut;
+use ground::number::wide;
+ghost use mathlib.Core.Path.{_≡_};
+ghost use mathlib.Core.Bool.{true};
+ghost use Prim.Native.Nat.{_≤_};
+ghost use lib.ListN.{length};
+ghost use Rattle.drive.specs.Sense.{isKnown};
+ghost use Rattle.disc.specs.Layout.{bound};
+ghost use Rattle.gate.specs.Unit.{attentionSense, told};
+ghost use Rattle.gate.specs.Gate.{requestSense, pass, gate};
+ghost use Rattle.target.specs.Perform.{perform};
+ghost use Rattle.target.specs.Packet.{Answered, answer};
+ghost use Rattle.target.specs.PerformLaws.{Ready};
+ghost use Rattle.target.specs.PacketLaws.{refused, checked, finished, unread, stepsOf};
+
+// The refusals that only packets give.
+pub const NOT_TWELVE: u8 = 1;
+
+pub const SHORT_MEMORY: u8 = 3;
+
+// The refusal's number or 0, the status, how many bytes were written, the blocks that a READ names, and the next state.
+pub struct Outcome {
+    pub number: u8,
+    pub status: u8,
+    pub len: usize,
+    pub start: usize,
+    pub count: usize,
+    pub state: Drive,
+}
+
+// A refusal: nothing done, the state as it was handed in.
+fn refuse(number: u8, state: Drive) -> Outcome
+    ensures { λ r. ⌜ r ≡ refused number state ⌝ }
+{
+    Outcome {
+        number,
+        status: 0,
+        len: 0,
+        start: 0,
+        count: 0,
+        state,
+    }
+}
+
+// CHECK CONDITION: the triple held as sense.
+fn check(sense: Sense, unit: Unit, mechanics: Mechanics) -> Outcome
+    ensures { λ r. ⌜ r ≡ checked sense unit mechanics ⌝ }
+{
+    Outcome {
+        number: 0,
+        status: 0x02,
+        len: 0,
+        start: 0,
+        count: 0,
+        state: Drive {
+            unit: hold(unit, sense),
+            mechanics,
+        },
+    }
+}
+
+// A command's end: CHECK CONDITION over the unit u, or GOOD over the unit v, attending to a loading.
+fn finish(u: Unit, v: Unit, mechanics: Mechanics, done: Done) -> Outcome
+    ensures { λ r. ⌜ r ≡ finished u v mechanics done ⌝ }
+{
+    match done {
+        Done::Fails(f) => check(sense_of(f), u, mechanics),
+        Done::Goes(w) => {
+            let next = w.next;
+            Outcome {
+                number: 0,
+                status: 0x00,
+                len: w.len,
+                start: w.start,
+                count: w.count,
+                state: Drive {
+                    unit: v.attend(w.loading),
+                    mechanics: next,
+                },
+            }
+        }
+    }
+}
+
+// A telling: CHECK CONDITION with the attention's triple, and it stops being pending.
+fn tell(a: Pending, unit: Unit, mechanics: Mechanics) -> Outcome
+    ensures { λ r. ⌜ r ≡ checked (attentionSense a) (told a unit) mechanics ⌝ }
+{
+    check(sense_of_pending(a), told(unit, a), mechanics)
+}
+
+// REQUEST SENSE: the 18 bytes, cut to the length asked for.
+fn ask_sense(d: Drive, limit: usize, mem: &mut [u8]) -> Outcome
+    requires { ⌜ bound ≤ length (now mem) ⌝ }
+    ensures { λ r. ⌜ Answered (requestSense limit (d .unit) (d .mechanics)) (now (mem .entry)) r (now (mem .exit)) ⌝ }
+{
+    let mechanics = d.mechanics;
+    let g = give(d.unit);
+    let s = g.sense;
+    let unit = g.unit;
+    let full = [
+        0x70,
+        0,
+        s.key,
+        0,
+        0,
+        0,
+        0,
+        0x0A,
+        0,
+        0,
+        0,
+        0,
+        s.asc,
+        s.ascq,
+        0,
+        0,
+        0,
+        0,
+    ];
+    let len = put_cut(&full, limit, mem);
+    Outcome {
+        number: 0,
+        status: 0x00,
+        len,
+        start: 0,
+        count: 0,
+        state: Drive { unit, mechanics },
+    }
+}
+
+// Step 1: performed even with an attention pending; GOOD leaves the sense.
+fn passed(d: Drive, c: Command, p: &[u8], t: &[u8], disc: Disc, mem: &mut [u8]) -> Outcome
+    requires { ⌜ Ready (d .mechanics) (now p) (now t) disc (now mem) ⌝ }
+    ensures { λ r. ⌜ Answered (pass (d .unit) (d .mechanics) (perform c (now (p .entry)) (d .mechanics) (now (t .entry)))) (now (mem .entry)) r (now (mem .exit)) ⌝ }
+{
+    let unit = d.unit;
+    let mechanics = d.mechanics;
+    let done = perform(c, p, mechanics, t, disc, mem);
+    finish(unit, unit, mechanics, done)
+}
+
+// Step 2: a pending attention is told, power first; with none the command is performed.
+fn gated(d: Drive, c: Command, p: &[u8], t: &[u8], disc: Disc, mem: &mut [u8]) -> Outcome
+    requires { ⌜ Ready (d .mechanics) (now p) (now t) disc (now mem) ⌝ }
+    ensures { λ r. ⌜ Answered (gate (d .unit) (d .mechanics) (perform c (now (p .entry)) (d .mechanics) (now (t .entry)))) (now (mem .entry)) r (now (mem .exit)) ⌝ }
+{
+    let unit = d.unit;
+    let mechanics = d.mechanics;
+    let a = first_pending(unit);
+    match a {
+        Pending::Power => tell(a, unit, mechanics),
+        Pending::Change => tell(a, unit, mechanics),
+        Pending::Nothing => {
+            let done = perform(c, p, mechanics, t, disc, mem);
+            finish(unit, clear(unit), mechanics, done)
+        }
+    }
+}
+
+// The steps, by how the command meets a pending attention.
+fn steps(d: Drive, p: &[u8], t: &[u8], disc: Disc, mem: &mut [u8]) -> Outcome
+    requires { ⌜ Ready (d .mechanics) (now p) (now t) disc (now mem) ⌝ }
+    ensures { λ r. ⌜ Answered (stepsOf d (now (p .entry)) (now (t .entry))) (now (mem .entry)) r (now (mem .exit)) ⌝ }
+{
+    let c = decode(p[0]);
+    match kind_of(c) {
+        Kind::Asks => ask_sense(d, wide(p[4]), mem),
+        Kind::Passes => passed(d, c, p, t, disc, mem),
+        Kind::Gates => gated(d, c, p, t, disc, mem),
+    }
+}
+
+// No disc was read.
+fn unread() -> Disc
+    ensures { λ r. ⌜ r ≡ unread ⌝ }
+{
+    Disc {
+        first: 0,
+        last: 0,
+        sessions: 0,
+        lead_out: 0,
+        lead_flags: 0,
+        last_at: 0,
+    }
+}
+
+// Refusal 4: a loaded drive's table is read first.
+fn meet(d: Drive, p: &[u8], t: &[u8], mem: &mut [u8]) -> Outcome
+    requires { ⌜ (length (now p) ≡ 12) × (isKnown (d .unit .sense) ≡ true) × (bound ≤ length (now mem)) ⌝ }
+    ensures { λ r. ⌜ Answered (answer d (now (p .entry)) (now (t .entry)) (length (now (mem .entry)))) (now (mem .entry)) r (now (mem .exit)) ⌝ }
+{
+    if d.mechanics.is_loaded() {
+        return match read(t) {
+            Reading::Fit(disc) => steps(d, p, t, disc, mem),
+            Reading::Unfit(_) => refuse(UNFIT, d),
+        };
+    }
+    steps(d, p, t, unread(), mem)
+}
+
+// A packet met by the drive: the refusals 1, 2, 3, 4 in order, then the steps.
+pub fn packet(d: Drive, p: &[u8], t: &[u8], mem: &mut [u8]) -> Outcome
+    ensures { λ r. ⌜ Answered (answer d (now (p .entry)) (now (t .entry)) (length (now (mem .entry)))) (now (mem .entry)) r (now (mem .exit)) ⌝ }
+{
+    if p.len() == 12 {
+        if is_known(d.unit.sense) {
+            if mem.len() < BOUND {
+                return refuse(SHORT_MEMORY, d);
+            }
+            return meet(d, p, t, mem);
+        }
+        return refuse(UNKNOWN_SENSE, d);
+    }
+    refuse(NOT_TWELVE, d)
+}

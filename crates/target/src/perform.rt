@@ -1,0 +1,308 @@
+// Steps 3 to 5: what each command does once no attention stands before it.
+use crate::decode::Command;
+use crate::done::Done;
+use crate::done::Went;
+use crate::toc::read_toc;
+use disc::disc::Disc;
+use disc::track::run_is_data;
+use drive::state::Mechanics;
+use drive::state::Shifted;
+use gate::fault::Fault;
+use ground::memory::put_cut;
+use ground::number::bytes32;
+use ground::number::wide;
+use ground::number::word32;
+ghost use mathlib.Core.Path.{_≡_};
+ghost use Prim.Native.Nat.{_≤_, _<_};
+ghost use lib.ListN.{length};
+ghost use Rattle.disc.specs.Layout.{bound};
+ghost use Rattle.target.specs.Command.{bit0, bit1, starting, needsDisc, addressIn, count10, count12};
+ghost use Rattle.target.specs.Tray.{done, moving, eject, load, startStop};
+ghost use Rattle.target.specs.TocLaws.{ReadOff};
+ghost use Rattle.target.specs.PerformLaws.{Met, Ready};
+ghost use Rattle.target.specs.Perform.{doneOf, Performed, inquiry, readCapacity, seek, read, work, noMedium, perform};
+
+// It went well, with nothing written and no blocks named.
+fn done(m: Mechanics) -> Done
+    ensures { λ r. ⌜ r ≡ doneOf (done m) ⌝ }
+{
+    Done::Goes(Went {
+        next: m,
+        loading: false,
+        len: 0,
+        start: 0,
+        count: 0,
+    })
+}
+
+// The tray moved.
+fn moving(s: Shifted) -> Done
+    ensures { λ r. ⌜ r ≡ doneOf (moving s) ⌝ }
+{
+    let next = s.mechanics;
+    Done::Goes(Went {
+        next,
+        loading: s.loading,
+        len: 0,
+        start: 0,
+        count: 0,
+    })
+}
+
+// Bit 0 of a packet's byte.
+fn bit0(b: u8) -> bool
+    ensures { λ r. ⌜ r ≡ bit0 b ⌝ }
+{
+    wide(b) % 2 == 1
+}
+
+// Bit 1 of a packet's byte.
+fn bit1(b: u8) -> bool
+    ensures { λ r. ⌜ r ≡ bit1 b ⌝ }
+{
+    wide(b) / 2 % 2 == 1
+}
+
+// Eject: an open tray is GOOD; a closed one opens, unless locked.
+fn eject(m: Mechanics) -> Done
+    ensures { λ r. ⌜ r ≡ doneOf (eject m) ⌝ }
+{
+    if m.tray_open {
+        return done(m);
+    }
+    if m.lock {
+        return Done::Fails(Fault::RemovalPrevented);
+    }
+    moving(m.opening())
+}
+
+// Load: closes an open tray; a closed one is GOOD.
+fn load(m: Mechanics) -> Done
+    ensures { λ r. ⌜ r ≡ doneOf (load m) ⌝ }
+{
+    if m.tray_open {
+        return moving(m.closing());
+    }
+    done(m)
+}
+
+// START/STOP UNIT: with LoEj the tray moves, else nothing does.
+fn start_stop(b: u8, m: Mechanics) -> Done
+    ensures { λ r. ⌜ r ≡ doneOf (startStop b m) ⌝ }
+{
+    if bit1(b) {
+        if bit0(b) {
+            return load(m);
+        }
+        return eject(m);
+    }
+    done(m)
+}
+
+// INQUIRY: the 36 bytes, cut to the allocation length.
+fn inquiry(p: &[u8], m: Mechanics, mem: &mut [u8]) -> Done
+    requires { ⌜ (length (now p) ≡ 12) × (bound ≤ length (now mem)) ⌝ }
+    ensures { λ r. ⌜ Performed (inquiry (now (p .entry)) m) (now (mem .entry)) r (now (mem .exit)) ⌝ }
+{
+    if bit0(p[1]) {
+        return Done::Fails(Fault::BadField);
+    }
+    let full = [
+        0x05,
+        0x80,
+        0x00,
+        0x21,
+        0x1F,
+        0x00,
+        0x00,
+        0x00,
+        0x4C,
+        0x45,
+        0x43,
+        0x54,
+        0x45,
+        0x52,
+        0x4E,
+        0x20,
+        0x50,
+        0x41,
+        0x43,
+        0x4B,
+        0x45,
+        0x54,
+        0x20,
+        0x54,
+        0x41,
+        0x52,
+        0x47,
+        0x45,
+        0x54,
+        0x20,
+        0x20,
+        0x20,
+        0x30,
+        0x31,
+        0x30,
+        0x30,
+    ];
+    let len = put_cut(&full, wide(p[4]), mem);
+    Done::Goes(Went {
+        next: m,
+        loading: false,
+        len,
+        start: 0,
+        count: 0,
+    })
+}
+
+// READ CAPACITY: the last block's address and 2,048.
+fn read_capacity(m: Mechanics, disc: Disc, mem: &mut [u8]) -> Done
+    requires { ⌜ (1 ≤ disc .«lead_out») × (bound ≤ length (now mem)) ⌝ }
+    ensures { λ r. ⌜ Performed (readCapacity m (disc .«lead_out»)) (now (mem .entry)) r (now (mem .exit)) ⌝ }
+{
+    let a = bytes32(disc.lead_out - 1);
+    let full = [a[0], a[1], a[2], a[3], 0, 0, 8, 0];
+    let len = put_cut(&full, 8, mem);
+    Done::Goes(Went {
+        next: m,
+        loading: false,
+        len,
+        start: 0,
+        count: 0,
+    })
+}
+
+// SEEK: an address in range.
+fn seek(a: usize, m: Mechanics, disc: Disc) -> Done
+    requires { ⌜ 1 ≤ disc .«lead_out» ⌝ }
+    ensures { λ r. ⌜ r ≡ doneOf (seek a m (disc .«lead_out»)) ⌝ }
+{
+    if disc.lead_out - 1 < a {
+        return Done::Fails(Fault::OutOfRange);
+    }
+    done(m)
+}
+
+// READ: range first, then track mode; it names its blocks.
+fn read(a: usize, n: usize, m: Mechanics, t: &[u8], disc: Disc) -> Done
+    requires { ⌜ ReadOff (now t) disc × (a < 4294967296) × (n < 4294967296) ⌝ }
+    ensures { λ r. ⌜ r ≡ doneOf (read a n m (now (t .entry))) ⌝ }
+{
+    if disc.lead_out - 1 < a {
+        return Done::Fails(Fault::OutOfRange);
+    }
+    if disc.lead_out < a + n {
+        return Done::Fails(Fault::OutOfRange);
+    }
+    if run_is_data(t, a, n) {
+        return Done::Goes(Went {
+            next: m,
+            loading: false,
+            len: 0,
+            start: a,
+            count: n,
+        });
+    }
+    Done::Fails(Fault::IllegalMode)
+}
+
+// LoEj 0 and Start 1.
+fn starting(p: &[u8]) -> bool
+    requires { ⌜ length (now p) ≡ 12 ⌝ }
+    ensures { λ r. ⌜ r ≡ starting (now (p .entry)) ⌝ }
+{
+    let b = p[4];
+    if bit1(b) {
+        return false;
+    }
+    bit0(b)
+}
+
+// The command needs a disc.
+fn needs_disc(c: Command, p: &[u8]) -> bool
+    requires { ⌜ length (now p) ≡ 12 ⌝ }
+    ensures { λ r. ⌜ r ≡ needsDisc c (now (p .entry)) ⌝ }
+{
+    match c {
+        Command::TestUnitReady => true,
+        Command::RequestSense => false,
+        Command::Inquiry => false,
+        Command::StartStop => starting(p),
+        Command::Prevent => false,
+        Command::ReadCapacity => true,
+        Command::Read10 => true,
+        Command::Seek => true,
+        Command::ReadToc => true,
+        Command::Read12 => true,
+        Command::Unknown => false,
+    }
+}
+
+// No medium: the tray tells which.
+fn no_medium(m: Mechanics) -> Fault
+    ensures { λ r. ⌜ r ≡ noMedium m ⌝ }
+{
+    if m.tray_open {
+        return Fault::NoMediumOpen;
+    }
+    Fault::NoMediumClosed
+}
+
+// READ(10).
+fn read10(p: &[u8], m: Mechanics, t: &[u8], disc: Disc) -> Done
+    requires { ⌜ ReadOff (now t) disc × (length (now p) ≡ 12) ⌝ }
+    ensures { λ r. ⌜ r ≡ doneOf (read (addressIn (now (p .entry))) (count10 (now (p .entry))) m (now (t .entry))) ⌝ }
+{
+    let a = word32(p[2], p[3], p[4], p[5]);
+    read(a, word32(0, 0, p[7], p[8]), m, t, disc)
+}
+
+// READ(12).
+fn read12(p: &[u8], m: Mechanics, t: &[u8], disc: Disc) -> Done
+    requires { ⌜ ReadOff (now t) disc × (length (now p) ≡ 12) ⌝ }
+    ensures { λ r. ⌜ r ≡ doneOf (read (addressIn (now (p .entry))) (count12 (now (p .entry))) m (now (t .entry))) ⌝ }
+{
+    let a = word32(p[2], p[3], p[4], p[5]);
+    read(a, word32(p[6], p[7], p[8], p[9]), m, t, disc)
+}
+
+// Step 5: each command's own work.
+fn work(c: Command, p: &[u8], m: Mechanics, t: &[u8], disc: Disc, mem: &mut [u8]) -> Done
+    requires { ⌜ Met c (now p) (now t) disc (now mem) ⌝ }
+    ensures { λ r. ⌜ Performed (work c (now (p .entry)) m (now (t .entry))) (now (mem .entry)) r (now (mem .exit)) ⌝ }
+{
+    match c {
+        Command::TestUnitReady => done(m),
+        Command::RequestSense => done(m),
+        Command::Inquiry => inquiry(p, m, mem),
+        Command::StartStop => start_stop(p[4], m),
+        Command::Prevent => done(m.with_lock(bit0(p[4]))),
+        Command::ReadCapacity => read_capacity(m, disc, mem),
+        Command::Read10 => read10(p, m, t, disc),
+        Command::Seek => seek(word32(p[2], p[3], p[4], p[5]), m, disc),
+        Command::ReadToc => read_toc(p, m, t, disc, mem),
+        Command::Read12 => read12(p, m, t, disc),
+        Command::Unknown => Done::Fails(Fault::UnknownCode),
+    }
+}
+
+// Steps 3 to 5: an unknown code, then a disc that is needed, then the work.
+pub(crate) fn perform(
+    c: Command,
+    p: &[u8],
+    m: Mechanics,
+    t: &[u8],
+    disc: Disc,
+    mem: &mut [u8],
+) -> Done
+    requires { ⌜ Ready m (now p) (now t) disc (now mem) ⌝ }
+    ensures { λ r. ⌜ Performed (perform c (now (p .entry)) m (now (t .entry))) (now (mem .entry)) r (now (mem .exit)) ⌝ }
+{
+    if needs_disc(c, p) {
+        if m.is_loaded() {
+            return work(c, p, m, t, disc, mem);
+        }
+        return Done::Fails(no_medium(m));
+    }
+    work(c, p, m, t, disc, mem)
+}
