@@ -71,10 +71,10 @@ pub fn address_of(minute: u8, second: u8, frame: u8) -> usize
     ensures { λ r. ⌜ r ≡ addressOf minute second frame ⌝ }
 {
     let frames = frames_of(minute, second, frame);
-    if frames < LEAD {
-        return 0;
+    if LEAD <= frames {
+        return frames - LEAD;
     }
-    frames - LEAD
+    0
 }
 
 // The M:S:F is one that rule 6 allows.

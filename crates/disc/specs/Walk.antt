@@ -1,4 +1,4 @@
--- What one walk over the descriptors asks of each, in the order in which it passes them: WalkLaws shows that this is fitness.
+-- What one walk over the descriptors asks of each, in the order in which it passes them: WalkFit shows that this is fitness.
 use Prim.Native.Nat.{ℕ, zero, suc, _+_}
 use mathlib.Core.Bool.{Bool}
 use mathlib.Core.List.{List}

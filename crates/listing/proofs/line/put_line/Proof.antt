@@ -1,0 +1,41 @@
+use borrow.Author.Tests.{eq-eqb, ne-eqb}
+use Rattle.ground.specs.Tests.{when, unless}
+use Rattle.listing.specs.Line.{lineOf}
+use borrow.Author.Needs.{needs}
+use Rattle.listing.proofs.line.put_line.Statement.{statement}
+use Rattle.listing.proofs.line.put_line.Tie as tie
+use Rattle.listing.proofs.line.put_line.Reads as reads
+use Rattle.listing.proofs.line.put_line.Lts as lts
+use Rattle.listing.proofs.line.put_answered.Reads as put-answered-reads
+use Rattle.listing.proofs.line.put_refused.Reads as put-refused-reads
+
+put-answered-requires : tie.Need-put-answered-requires
+put-answered-requires c κs = search needs
+
+same-length : tie.Need-same-length
+same-length c = search needs
+
+returns : tie.Need-returns
+unfolding lineOf
+returns c = rw (when _ _ _ (eq-eqb _ _ (c .before .before .before .before .if1 .taken))) (c .before .before .put-answered .ensures)
+
+put-refused-requires : tie.Need-put-refused-requires
+put-refused-requires c κs = search needs
+
+same-length-2 : tie.Need-same-length-2
+same-length-2 c = search needs
+
+returns-2 : tie.Need-returns-2
+unfolding lineOf
+returns-2 c = rw (unless _ _ _ (ne-eqb _ _ (c .before .before .before .before .if1 .left))) (c .before .before .put-refused .ensures)
+
+pub put-line-spec : {M : Type 1} → statement M
+put-line-spec =
+    tie.close
+    (tie.spec
+    put-answered-requires
+    same-length
+    returns
+    put-refused-requires
+    same-length-2
+    returns-2)

@@ -1,0 +1,80 @@
+// A packet's line.
+use ground::memory::copy_front;
+use ground::number::wide;
+use print::decimal::next_decimal;
+use print::decimal::put_decimal;
+use print::hex::next_hex;
+use print::hex::next_shown;
+use print::hex::next_three;
+use target::packet::Outcome;
+ghost use Rattle.ground.specs.Memory.{Laid};
+ghost use Rattle.listing.specs.Line.{blocks, yielded, started, answered, refusal, refused, lineOf};
+
+// The blocks that an answer names: start and count.
+fn next_blocks(o: Outcome, out: &mut [u8]) -> usize
+    ensures { λ r. ⌜ Laid (now (out .entry)) (blocks o) r (now (out .exit)) ⌝ }
+{
+    let mut at = next_decimal(o.start, out);
+    at += next_decimal(o.count, &mut out[at..]);
+    at
+}
+
+// What an answer yields: byte count, bytes, start and count.
+fn next_yield(o: Outcome, bytes: &[u8], out: &mut [u8]) -> usize
+    ensures { λ r. ⌜ Laid (now (out .entry)) (yielded o (now (bytes .entry))) r (now (out .exit)) ⌝ }
+{
+    let mut at = next_decimal(o.len, out);
+    at += next_shown(bytes, &mut out[at..]);
+    at += next_blocks(o, &mut out[at..]);
+    at
+}
+
+// The packet's number, its status and the sense held afterwards.
+fn put_start(n: usize, o: Outcome, out: &mut [u8]) -> usize
+    ensures { λ r. ⌜ Laid (now (out .entry)) (started n o) r (now (out .exit)) ⌝ }
+{
+    let s = o.state.unit.sense;
+    let mut at = put_decimal(n, out);
+    at += next_hex(o.status, &mut out[at..]);
+    at += next_three(s.key, s.asc, s.ascq, &mut out[at..]);
+    at
+}
+
+// Packet n's answer.
+fn put_answered(n: usize, o: Outcome, bytes: &[u8], out: &mut [u8]) -> usize
+    ensures { λ r. ⌜ Laid (now (out .entry)) (answered n o (now (bytes .entry))) r (now (out .exit)) ⌝ }
+{
+    let mut at = put_start(n, o, out);
+    at += next_yield(o, bytes, &mut out[at..]);
+    at += copy_front(b"\n", &mut out[at..]);
+    at
+}
+
+// That the packet was refused, and by which number.
+fn next_refusal(number: u8, out: &mut [u8]) -> usize
+    ensures { λ r. ⌜ Laid (now (out .entry)) (refusal number) r (now (out .exit)) ⌝ }
+{
+    let mut at = copy_front(b" refused", out);
+    at += next_decimal(wide(number), &mut out[at..]);
+    at
+}
+
+// Packet n's refusal.
+fn put_refused(n: usize, number: u8, out: &mut [u8]) -> usize
+    ensures { λ r. ⌜ Laid (now (out .entry)) (refused n number) r (now (out .exit)) ⌝ }
+{
+    let mut at = put_decimal(n, out);
+    at += next_refusal(number, &mut out[at..]);
+    at += copy_front(b"\n", &mut out[at..]);
+    at
+}
+
+// Packet n's line, with the bytes that it wrote.
+pub fn put_line(n: usize, o: Outcome, bytes: &[u8], out: &mut [u8]) -> usize
+    ensures { λ r. ⌜ Laid (now (out .entry)) (lineOf n o (now (bytes .entry))) r (now (out .exit)) ⌝ }
+{
+    if o.number == 0 {
+        return put_answered(n, o, bytes, out);
+    }
+    put_refused(n, o.number, out)
+}

@@ -1,0 +1,89 @@
+// The listing program: meets a file of packets with a file that holds a disc table, and prints a line for each packet.
+mod file;
+mod line;
+
+use disc::layout::BOUND;
+use drive::sense::NO_SENSE;
+use drive::sense::sense_at;
+use drive::state::Drive;
+use drive::state::Mechanics;
+use drive::state::Unit;
+use file::load;
+use libc::STDERR_FILENO;
+use libc::STDOUT_FILENO;
+use line::put_line;
+use print::front::front;
+use target::packet::packet;
+ghost use Prim.Native.Nat.{_≤_};
+ghost use lib.ListN.{length};
+
+// The bytes of a packet.
+const PACKET: usize = 12;
+
+// The most bytes of a packet file.
+const MOST: usize = 49152;
+
+// The drive after power-on, tray closed and a disc in.
+fn loaded() -> Drive {
+    let unit = Unit {
+        power: false,
+        change: false,
+        sense: sense_at(NO_SENSE),
+    };
+    let mechanics = Mechanics {
+        tray_open: false,
+        disc_in: true,
+        lock: false,
+    };
+    Drive { unit, mechanics }.power_on()
+}
+
+// Meets the packets one after the other, each with the state that the one before left, and writes their lines.
+fn list(table: &[u8], packets: &[u8], mem: &mut [u8], line: &mut [u8])
+    requires { ⌜ length (now packets) ≤ 49152 ⌝ }
+{
+    let mut state = loaded();
+    let mut n = 0;
+    let mut at = 0;
+    while at < packets.len() {
+        let o = packet(state, front(&packets[at..], PACKET), table, mem);
+        n += 1;
+        let k = put_line(n, o, front(mem, o.len), line);
+        if !io::write_all(STDOUT_FILENO, front(line, k)) {
+            os::fail(b"standard output");
+            return;
+        }
+        state = o.state;
+        at += PACKET;
+    }
+}
+
+fn main() {
+    if os::arg_count() != 3 {
+        io::write_all(STDERR_FILENO, b"usage: listing TABLE PACKETS\n");
+        return;
+    }
+    let mut table = [0u8; BOUND + 1];
+    let t = load(1, &mut table);
+    if !t.whole {
+        return;
+    }
+    let mut packets = [0u8; MOST + 1];
+    let p = load(2, &mut packets);
+    if !p.whole {
+        return;
+    }
+    if MOST < p.count {
+        io::write_all(STDOUT_FILENO, b"too long\n");
+        return;
+    }
+    io::write_all(STDOUT_FILENO, b"n st key asc ascq len data start count\n");
+    let mut mem = [0u8; BOUND];
+    let mut line = [0u8; 9000];
+    list(
+        front(&table, t.count),
+        front(&packets, p.count),
+        &mut mem,
+        &mut line,
+    );
+}

@@ -1,0 +1,83 @@
+-- The lines that a call prints.
+use Prim.Native.Nat.{ℕ}
+use mathlib.Core.Path.{_≡_}
+use mathlib.Core.Bool.{Bool}
+use mathlib.Core.List.{List, [], _∷_}
+use lib.ListN.{length, take}
+use Rattle.ground.specs.Tests.{if_then_else_}
+use Rattle.ground.specs.Number.{bytes32}
+use Rattle.print.specs.Joined.{_next_, spaced}
+use Rattle.print.specs.Hex.{hexByte, shown}
+use Rattle.print.specs.Decimal.{decimal}
+use Rattle.print.specs.Sum.{adler32}
+use Rattle.drive.specs.declared.sense.Sense.{Sense}
+use Rattle.drive.specs.declared.state.Drive.{Drive}
+use Rattle.target.specs.declared.packet.Outcome.{Outcome}
+
+abbrev pub lineEnd : List ℕ
+lineEnd = 10 ∷ []
+
+-- `0` or `1`
+unfoldable pub digit : Bool → ℕ
+digit b = if b then 49 else 48
+
+-- three bytes, each after a space
+abbrev pub triple : Sense → List ℕ
+triple s = spaced (hexByte (s .key)) next spaced (hexByte (s .asc)) next spaced (hexByte (s .ascq))
+
+-- tray, disc, lock, power and change, as `0` or `1`
+abbrev pub flags : Drive → List ℕ
+flags d =
+    digit (d .mechanics .tray_open)
+    ∷ digit (d .mechanics .disc_in)
+    ∷ digit (d .mechanics .lock)
+    ∷ digit (d .unit .power)
+    ∷ digit (d .unit .change)
+    ∷ []
+
+-- "STATE is five digits 0 or 1 and three hex bytes"
+unfoldable pub stateText : Drive → List ℕ
+stateText d = spaced (flags d) next triple (d .unit .sense)
+
+-- the call's letter, and "N .. the refusal's number or 0"
+unfoldable pub call : ℕ → ℕ → List ℕ
+call letter number = (letter ∷ []) next spaced (decimal number)
+
+-- "SUM the Adler-32 .., as eight capital hex digits"
+abbrev pub sumText : List ℕ → List ℕ
+sumText s = spaced (shown (bytes32 (adler32 s)))
+
+unfoldable pub decimals : ℕ → ℕ → ℕ → List ℕ
+decimals a b c = spaced (decimal a) next spaced (decimal b) next spaced (decimal c)
+
+-- `o N STATE`, `b N STATE`, `d N STATE`, `u N STATE`
+unfoldable pub movedLine : ℕ → ℕ → Drive → List ℕ
+movedLine letter number d = call letter number next stateText d next lineEnd
+
+-- `p N ST LEN START COUNT`
+unfoldable pub outcomeText : Outcome → List ℕ
+outcomeText o = call 112 (o .number) next spaced (hexByte (o .status)) next decimals (o .len) (o .start) (o .count)
+
+-- `DATA SUM`
+unfoldable pub memoryText : List ℕ → List ℕ → List ℕ
+memoryText bytes memory = spaced (shown bytes) next sumText memory next lineEnd
+
+-- `p N ST LEN START COUNT STATE DATA SUM`
+unfoldable pub packetLine : Outcome → List ℕ → List ℕ
+packetLine o memory = outcomeText o next stateText (o .state) next memoryText (take (o .len) memory) memory
+
+-- `a N M S F`
+unfoldable pub msfLine : ℕ → ℕ → ℕ → ℕ → List ℕ
+msfLine number m s f = call 97 number next decimals m s f next lineEnd
+
+-- `c N ADDRESS`
+unfoldable pub addressLine : ℕ → ℕ → List ℕ
+addressLine number a = call 99 number next spaced (decimal a) next lineEnd
+
+-- `LEN SUM`
+unfoldable pub partText : List ℕ → List ℕ
+partText part = spaced (decimal (length part)) next sumText part
+
+-- `s N LEN SUM`
+unfoldable pub partLine : ℕ → List ℕ → List ℕ
+partLine number part = call 115 number next partText part next lineEnd

@@ -1,0 +1,308 @@
+// What is kept from record to record, and what each kind of record does with it.
+use crate::line::put_address;
+use crate::line::put_moved;
+use crate::line::put_msf;
+use crate::line::put_packet;
+use crate::line::put_part;
+use address::Block;
+use address::Msf;
+use address::to_block;
+use address::to_msf;
+use disc::part::session_part;
+use disc::part::session_refusal;
+use drive::sense::Sense;
+use drive::state::Drive;
+use drive::state::Mechanics;
+use drive::state::Moved;
+use drive::state::Unit;
+use ground::memory::copy_front;
+use ground::number::word16;
+use ground::number::word32;
+use print::front::front;
+use target::packet::packet;
+ghost use mathlib.Core.Path.{_≡_};
+ghost use Prim.Native.Nat.{_≤_};
+ghost use lib.ListN.{length};
+
+// The drive, and how many bytes of the table and of the response memory are lent.
+pub struct Bench {
+    pub drive: Drive,
+    pub table: usize,
+    pub memory: usize,
+}
+
+// What a record came to: whether it ends the run, how many bytes the line has, and what is kept.
+pub struct Turn {
+    pub over: bool,
+    pub len: usize,
+    pub bench: Bench,
+}
+
+// Everything zero, no table and no memory.
+pub fn empty() -> Bench {
+    let sense = Sense {
+        key: 0,
+        asc: 0,
+        ascq: 0,
+    };
+    let unit = Unit {
+        power: false,
+        change: false,
+        sense,
+    };
+    let mechanics = Mechanics {
+        tray_open: false,
+        disc_in: false,
+        lock: false,
+    };
+    Bench {
+        drive: Drive { unit, mechanics },
+        table: 0,
+        memory: 0,
+    }
+}
+
+// The run goes on, and the line has len bytes.
+fn printed(len: usize, bench: Bench) -> Turn {
+    Turn {
+        over: false,
+        len,
+        bench,
+    }
+}
+
+// The run ends with nothing more.
+pub fn ended(bench: Bench) -> Turn {
+    Turn {
+        over: true,
+        len: 0,
+        bench,
+    }
+}
+
+// The run ends with a line that says so.
+pub fn bad(bench: Bench, line: &mut [u8]) -> Turn {
+    Turn {
+        over: true,
+        len: copy_front(b"bad record\n", line),
+        bench,
+    }
+}
+
+// The smaller of two numbers.
+fn least(a: usize, b: usize) -> usize
+    ensures { λ r. ⌜ r ≤ b ⌝ }
+{
+    if a < b {
+        return a;
+    }
+    b
+}
+
+fn fill(m: &mut [u8], x: u8) {
+    let mut i = 0;
+    while i < m.len() {
+        m[i] = x;
+        i += 1;
+    }
+}
+
+// The state that a record gives.
+fn state_of(body: &[u8]) -> Drive
+    requires { ⌜ length (now body) ≡ 8 ⌝ }
+{
+    let mechanics = Mechanics {
+        tray_open: body[0] == 1,
+        disc_in: body[1] == 1,
+        lock: body[2] == 1,
+    };
+    let sense = Sense {
+        key: body[5],
+        asc: body[6],
+        ascq: body[7],
+    };
+    let unit = Unit {
+        power: body[3] == 1,
+        change: body[4] == 1,
+        sense,
+    };
+    Drive { unit, mechanics }
+}
+
+// The first five bytes are flags, 0 or 1.
+fn are_flags(body: &[u8]) -> bool {
+    let mut i = 0;
+    while i < 5 {
+        if body.len() <= i {
+            return false;
+        }
+        if 1 < body[i] {
+            return false;
+        }
+        i += 1;
+    }
+    true
+}
+
+// Kind 0: the state.
+fn set_state(body: &[u8], bench: Bench, line: &mut [u8]) -> Turn {
+    if body.len() == 8 {
+        if are_flags(body) {
+            return printed(
+                0,
+                Bench {
+                    drive: state_of(body),
+                    table: bench.table,
+                    memory: bench.memory,
+                },
+            );
+        }
+    }
+    bad(bench, line)
+}
+
+// Kind 1: the table lent from now on.
+fn set_table(body: &[u8], bench: Bench, table: &mut [u8]) -> Turn {
+    let drive = bench.drive;
+    printed(
+        0,
+        Bench {
+            drive,
+            table: copy_front(body, table),
+            memory: bench.memory,
+        },
+    )
+}
+
+// Kind 2: the response memory from now on.
+fn set_memory(body: &[u8], bench: Bench, memory: &mut [u8], line: &mut [u8]) -> Turn {
+    let drive = bench.drive;
+    if body.len() == 3 {
+        let n = word16(body[0], body[1]);
+        if n <= memory.len() {
+            fill(&mut memory[..n], body[2]);
+            return printed(
+                0,
+                Bench {
+                    drive,
+                    table: bench.table,
+                    memory: n,
+                },
+            );
+        }
+    }
+    bad(bench, line)
+}
+
+// A call on the drive other than a packet was answered.
+fn moved(letter: u8, m: Moved, bench: Bench, line: &mut [u8]) -> Turn {
+    let drive = m.state;
+    let len = put_moved(letter, m.number, drive, line);
+    printed(
+        len,
+        Bench {
+            drive,
+            table: bench.table,
+            memory: bench.memory,
+        },
+    )
+}
+
+// Kinds 3 to 6: power-on, button, laying, lifting.
+fn call_tray(kind: u8, body: &[u8], bench: Bench, line: &mut [u8]) -> Turn {
+    if body.len() == 0 {
+        let d = bench.drive;
+        return match kind {
+            3 => {
+                let state = d.power_on();
+                moved(b'o', Moved { number: 0, state }, bench, line)
+            }
+            4 => moved(b'b', d.button(), bench, line),
+            5 => moved(b'd', d.lay(), bench, line),
+            _ => moved(b'u', d.lift(), bench, line),
+        };
+    }
+    bad(bench, line)
+}
+
+// Kind 7: a packet, with the table and the memory as they are lent.
+fn call_packet(
+    body: &[u8],
+    bench: Bench,
+    table: &[u8],
+    memory: &mut [u8],
+    line: &mut [u8],
+) -> Turn {
+    let n = least(bench.memory, memory.len());
+    let lent = &mut memory[..n];
+    let o = packet(bench.drive, body, front(table, bench.table), lent);
+    let len = put_packet(o, lent, line);
+    let drive = o.state;
+    printed(
+        len,
+        Bench {
+            drive,
+            table: bench.table,
+            memory: bench.memory,
+        },
+    )
+}
+
+// Kind 8: an address to M:S:F.
+fn call_msf(body: &[u8], bench: Bench, line: &mut [u8]) -> Turn {
+    if body.len() == 4 {
+        return match to_msf(word32(body[0], body[1], body[2], body[3])) {
+            Msf::At {
+                minute,
+                second,
+                frame,
+            } => printed(put_msf(0, minute, second, frame, line), bench),
+            Msf::Refused => printed(put_msf(address::REFUSED, 0, 0, 0, line), bench),
+        };
+    }
+    bad(bench, line)
+}
+
+// Kind 9: an M:S:F to its address.
+fn call_block(body: &[u8], bench: Bench, line: &mut [u8]) -> Turn {
+    if body.len() == 3 {
+        return match to_block(body[0], body[1], body[2]) {
+            Block::At(a) => printed(put_address(0, a, line), bench),
+            Block::Refused => printed(put_address(address::REFUSED, 0, line), bench),
+        };
+    }
+    bad(bench, line)
+}
+
+// Kind 10: a session's part.
+fn call_part(body: &[u8], bench: Bench, table: &[u8], line: &mut [u8]) -> Turn {
+    if body.len() == 1 {
+        let k = body[0];
+        let t = front(table, bench.table);
+        let len = put_part(session_refusal(t, k), session_part(t, k), line);
+        return printed(len, bench);
+    }
+    bad(bench, line)
+}
+
+// A record of the kind, met.
+pub fn meet(
+    kind: u8,
+    body: &[u8],
+    bench: Bench,
+    table: &mut [u8],
+    memory: &mut [u8],
+    line: &mut [u8],
+) -> Turn {
+    match kind {
+        0 => set_state(body, bench, line),
+        1 => set_table(body, bench, table),
+        2 => set_memory(body, bench, memory, line),
+        3..=6 => call_tray(kind, body, bench, line),
+        7 => call_packet(body, bench, table, memory, line),
+        8 => call_msf(body, bench, line),
+        9 => call_block(body, bench, line),
+        10 => call_part(body, bench, table, line),
+        _ => bad(bench, line),
+    }
+}

@@ -1,0 +1,155 @@
+// The lines that a call prints.
+use drive::state::Drive;
+use ground::memory::copy_front;
+use ground::number::bytes32;
+use ground::number::wide;
+use print::decimal::next_decimal;
+use print::front::front;
+use print::hex::next_hex;
+use print::hex::next_shown;
+use print::hex::next_three;
+use print::sum::adler32;
+use target::packet::Outcome;
+ghost use mathlib.Core.Path.{_≡_};
+ghost use lib.ListN.{length};
+ghost use Rattle.ground.specs.Memory.{Laid};
+ghost use Rattle.replay.specs.Line.{digit as Line·digit};
+ghost use Rattle.replay.specs.Line.{stateText, call, sumText, decimals, movedLine, outcomeText, memoryText, packetLine, msfLine, addressLine, partText, partLine};
+
+// A flag as '0' or '1'.
+fn digit(b: bool) -> u8
+    ensures { λ r. ⌜ r ≡ Line·digit b ⌝ }
+{
+    if b {
+        return b'1';
+    }
+    b'0'
+}
+
+// The state: five flags and the held sense.
+fn next_state(d: Drive, out: &mut [u8]) -> usize
+    ensures { λ r. ⌜ Laid (now (out .entry)) (stateText d) r (now (out .exit)) ⌝ }
+{
+    let m = d.mechanics;
+    let u = d.unit;
+    let s = u.sense;
+    let flags = [
+        b' ',
+        digit(m.tray_open),
+        digit(m.disc_in),
+        digit(m.lock),
+        digit(u.power),
+        digit(u.change),
+    ];
+    let mut at = copy_front(&flags, out);
+    at += next_three(s.key, s.asc, s.ascq, &mut out[at..]);
+    at
+}
+
+// A call's letter, and the refusal's number or 0.
+fn put_call(letter: u8, number: u8, out: &mut [u8]) -> usize
+    ensures { λ r. ⌜ Laid (now (out .entry)) (call letter number) r (now (out .exit)) ⌝ }
+{
+    let first = [letter];
+    let mut at = copy_front(&first, out);
+    at += next_decimal(wide(number), &mut out[at..]);
+    at
+}
+
+// The Adler-32 of the bytes.
+fn next_sum(s: &[u8], out: &mut [u8]) -> usize
+    ensures { λ r. ⌜ Laid (now (out .entry)) (sumText (now (s .entry))) r (now (out .exit)) ⌝ }
+{
+    let b = bytes32(adler32(s));
+    next_shown(&b, out)
+}
+
+// Three decimals.
+fn next_decimals(a: usize, b: usize, c: usize, out: &mut [u8]) -> usize
+    ensures { λ r. ⌜ Laid (now (out .entry)) (decimals a b c) r (now (out .exit)) ⌝ }
+{
+    let mut at = next_decimal(a, out);
+    at += next_decimal(b, &mut out[at..]);
+    at += next_decimal(c, &mut out[at..]);
+    at
+}
+
+// The line of power-on, button, laying or lifting.
+pub fn put_moved(letter: u8, number: u8, d: Drive, out: &mut [u8]) -> usize
+    ensures { λ r. ⌜ Laid (now (out .entry)) (movedLine letter number d) r (now (out .exit)) ⌝ }
+{
+    let mut at = put_call(letter, number, out);
+    at += next_state(d, &mut out[at..]);
+    at += copy_front(b"\n", &mut out[at..]);
+    at
+}
+
+// A packet's outcome, up to its state.
+fn put_outcome(o: Outcome, out: &mut [u8]) -> usize
+    ensures { λ r. ⌜ Laid (now (out .entry)) (outcomeText o) r (now (out .exit)) ⌝ }
+{
+    let mut at = put_call(b'p', o.number, out);
+    at += next_hex(o.status, &mut out[at..]);
+    at += next_decimals(o.len, o.start, o.count, &mut out[at..]);
+    at
+}
+
+// The bytes that a packet wrote, and the sum of the whole memory.
+fn next_memory(bytes: &[u8], memory: &[u8], out: &mut [u8]) -> usize
+    ensures { λ r. ⌜ Laid (now (out .entry)) (memoryText (now (bytes .entry)) (now (memory .entry))) r (now (out .exit)) ⌝ }
+{
+    let mut at = next_shown(bytes, out);
+    at += next_sum(memory, &mut out[at..]);
+    at += copy_front(b"\n", &mut out[at..]);
+    at
+}
+
+// A packet's line, with the response memory afterwards.
+pub fn put_packet(o: Outcome, memory: &[u8], out: &mut [u8]) -> usize
+    ensures { λ r. ⌜ Laid (now (out .entry)) (packetLine o (now (memory .entry))) r (now (out .exit)) ⌝ }
+{
+    let state = o.state;
+    let mut at = put_outcome(o, out);
+    at += next_state(state, &mut out[at..]);
+    at += next_memory(front(memory, o.len), memory, &mut out[at..]);
+    at
+}
+
+// The line of an address to M:S:F.
+pub fn put_msf(number: u8, m: u8, s: u8, f: u8, out: &mut [u8]) -> usize
+    ensures { λ r. ⌜ Laid (now (out .entry)) (msfLine number m s f) r (now (out .exit)) ⌝ }
+{
+    let mut at = put_call(b'a', number, out);
+    at += next_decimals(wide(m), wide(s), wide(f), &mut out[at..]);
+    at += copy_front(b"\n", &mut out[at..]);
+    at
+}
+
+// The line of an M:S:F to its address.
+pub fn put_address(number: u8, a: usize, out: &mut [u8]) -> usize
+    ensures { λ r. ⌜ Laid (now (out .entry)) (addressLine number a) r (now (out .exit)) ⌝ }
+{
+    let mut at = put_call(b'c', number, out);
+    at += next_decimal(a, &mut out[at..]);
+    at += copy_front(b"\n", &mut out[at..]);
+    at
+}
+
+// A part's length and sum.
+fn next_part(part: &[u8], out: &mut [u8]) -> usize
+    ensures { λ r. ⌜ Laid (now (out .entry)) (partText (now (part .entry))) r (now (out .exit)) ⌝ }
+{
+    let mut at = next_decimal(part.len(), out);
+    at += next_sum(part, &mut out[at..]);
+    at
+}
+
+// The line of a session's part.
+pub fn put_part(number: u8, part: &[u8], out: &mut [u8]) -> usize
+    ensures { λ r. ⌜ Laid (now (out .entry)) (partLine number (now (part .entry))) r (now (out .exit)) ⌝ }
+{
+    let mut at = put_call(b's', number, out);
+    at += next_part(part, &mut out[at..]);
+    at += copy_front(b"\n", &mut out[at..]);
+    at
+}
