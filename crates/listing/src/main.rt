@@ -23,6 +23,15 @@ const PACKET: usize = 12;
 // The most bytes of a packet file.
 const MOST: usize = 49152;
 
+// Writes to standard output, and answers whether that went well. Where not, a line on standard error says why.
+fn write(text: &[u8]) -> bool {
+    if io::write_all(STDOUT_FILENO, text) {
+        return true;
+    }
+    os::fail(b"standard output");
+    false
+}
+
 // The drive after power-on, tray closed and a disc in.
 fn loaded() -> Drive {
     let unit = Unit {
@@ -49,8 +58,7 @@ fn list(table: &[u8], packets: &[u8], mem: &mut [u8], line: &mut [u8])
         let o = packet(state, front(&packets[at..], PACKET), table, mem);
         n += 1;
         let k = put_line(n, o, front(mem, o.len), line);
-        if !io::write_all(STDOUT_FILENO, front(line, k)) {
-            os::fail(b"standard output");
+        if !write(front(line, k)) {
             return;
         }
         state = o.state;
@@ -74,10 +82,12 @@ fn main() {
         return;
     }
     if MOST < p.count {
-        io::write_all(STDOUT_FILENO, b"too long\n");
+        write(b"too long\n");
         return;
     }
-    io::write_all(STDOUT_FILENO, b"n st key asc ascq len data start count\n");
+    if !write(b"n st key asc ascq len data start count\n") {
+        return;
+    }
     let mut mem = [0u8; BOUND];
     let mut line = [0u8; 9000];
     list(

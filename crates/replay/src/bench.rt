@@ -22,7 +22,7 @@ use print::front::front;
 use target::packet::packet;
 ghost use mathlib.Core.Path.{_≡_};
 ghost use Prim.Native.Nat.{_≤_};
-ghost use lib.ListN.{length};
+ghost use lib.ListN.{length, replicate};
 
 // The drive, and how many bytes of the table and of the response memory are lent.
 pub struct Bench {
@@ -99,7 +99,10 @@ fn least(a: usize, b: usize) -> usize
     b
 }
 
-fn fill(m: &mut [u8], x: u8) {
+// Every byte of m becomes x.
+fn fill(m: &mut [u8], x: u8)
+    ensures { λ _. ⌜ now (m .exit) ≡ replicate (length (now (m .entry))) x ⌝ }
+{
     let mut i = 0;
     while i < m.len() {
         m[i] = x;

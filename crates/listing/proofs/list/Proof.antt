@@ -8,21 +8,20 @@ use Rattle.listing.proofs.list.Statement.{statement}
 use Rattle.listing.proofs.list.Tie as tie
 use Rattle.listing.proofs.list.Reads as reads
 use Rattle.listing.proofs.list.Lts as lts
-use Rattle.io.proofs.write_all.Reads as write-all-reads
 use Rattle.listing.proofs.line.put_line.Reads as put-line-reads
 use Rattle.listing.proofs.loaded.Reads as loaded-reads
-use Rattle.os.proofs.fail.Reads as fail-reads
+use Rattle.listing.proofs.write.Reads as write-reads
 use Rattle.print.proofs.front.front.Reads as front-reads
 use Rattle.target.proofs.packet.packet.Reads as packet-reads
 
 abbrev Inv-loop : tie.InvT-loop
-Inv-loop table packets mem₀ line₀ state₀ n₀ at₀ t10 mem line state n at = (n ≤ at) × (at ≤ 49164) × (length mem ≡ length mem₀) × (length line ≡ length line₀)
+Inv-loop table packets mem₀ line₀ state₀ n₀ at₀ mem line state n at = (n ≤ at) × (at ≤ 49164) × (length mem ≡ length mem₀) × (length line ≡ length line₀)
 
 abbrev μ-loop : tie.MeasureT-loop
-μ-loop table packets mem₀ line₀ state₀ n₀ at₀ t10 mem line state n at = length packets - at
+μ-loop table packets mem₀ line₀ state₀ n₀ at₀ mem line state n at = length packets - at
 
 loaded-requires : tie.Need-loaded-requires Inv-loop μ-loop
-loaded-requires c κs = search needs
+loaded-requires c κs = tt
 
 loop-holds : tie.Need-loop-holds Inv-loop μ-loop
 loop-holds c = (omega arith, omega arith, refl, refl)
@@ -37,31 +36,25 @@ part-front-end : tie.Need-part-front-end Inv-loop μ-loop
 part-front-end c = search needs
 
 front-requires : tie.Need-front-requires Inv-loop μ-loop
-front-requires c κs = search needs
+front-requires c κs = tt
 
 packet-requires : tie.Need-packet-requires Inv-loop μ-loop
-packet-requires c κs = search needs
+packet-requires c κs = tt
 
 add-n : tie.Need-add-n Inv-loop μ-loop
 add-n c = omega arith
 
 front-requires-2 : tie.Need-front-requires-2 Inv-loop μ-loop
-front-requires-2 c κs = search needs
+front-requires-2 c κs = tt
 
 put-line-requires : tie.Need-put-line-requires Inv-loop μ-loop
-put-line-requires c κs = search needs
+put-line-requires c κs = tt
 
 front-requires-3 : tie.Need-front-requires-3 Inv-loop μ-loop
-front-requires-3 c κs = search needs
+front-requires-3 c κs = tt
 
-write-all-requires : tie.Need-write-all-requires Inv-loop μ-loop
-write-all-requires c κs = search needs
-
-slice-aggregate-fail : tie.Need-slice-aggregate-fail Inv-loop μ-loop
-slice-aggregate-fail c = search needs
-
-fail-requires : tie.Need-fail-requires Inv-loop μ-loop
-fail-requires c κs = search needs
+write-requires : tie.Need-write-requires Inv-loop μ-loop
+write-requires c κs = tt
 
 same-length : tie.Need-same-length Inv-loop μ-loop
 same-length c = search needs
@@ -70,13 +63,13 @@ same-length-2 : tie.Need-same-length-2 Inv-loop μ-loop
 same-length-2 c = search needs
 
 returns : tie.Need-returns Inv-loop μ-loop
-returns c = search needs
+returns c = tt
 
 add-at : tie.Need-add-at Inv-loop μ-loop
 add-at c = omega arith
 
 loop-less : tie.Need-loop-less Inv-loop μ-loop
-loop-less c = search needs
+loop-less c = omega arith
 
 loop-again : tie.Need-loop-again Inv-loop μ-loop
 loop-again c =
@@ -92,7 +85,7 @@ same-length-4 : tie.Need-same-length-4 Inv-loop μ-loop
 same-length-4 c = search needs
 
 returns-2 : tie.Need-returns-2 Inv-loop μ-loop
-returns-2 c = search needs
+returns-2 c = tt
 
 pub list-spec : {M : Type 1} → statement M
 list-spec =
@@ -111,9 +104,7 @@ list-spec =
     front-requires-2
     put-line-requires
     front-requires-3
-    write-all-requires
-    slice-aggregate-fail
-    fail-requires
+    write-requires
     same-length
     same-length-2
     returns

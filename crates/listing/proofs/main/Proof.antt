@@ -1,3 +1,4 @@
+-- `listing::main` is safe and ends: the packets that it hands on are at most 49,152 bytes.
 use mathlib.Core.Path.{_≡_}
 use mathlib.Core.List.{List}
 use Prim.Native.Nat.{ℕ, _≤_}
@@ -11,6 +12,7 @@ use Rattle.listing.proofs.main.Lts as lts
 use Rattle.io.proofs.write_all.Reads as write-all-reads
 use Rattle.listing.proofs.file.load.Reads as load-reads
 use Rattle.listing.proofs.list.Reads as list-reads
+use Rattle.listing.proofs.write.Reads as write-reads
 use Rattle.os.proofs.arg_count.Reads as arg-count-reads
 use Rattle.print.proofs.front.front.Reads as front-reads
 
@@ -48,20 +50,23 @@ load-requires-2 c κs = search needs
 returns-3 : tie.Need-returns-3
 returns-3 c = search needs
 
-slice-aggregate-write-all-2 : tie.Need-slice-aggregate-write-all-2
-slice-aggregate-write-all-2 c = search needs
+slice-aggregate-write : tie.Need-slice-aggregate-write
+slice-aggregate-write c = search needs
 
-write-all-requires-2 : tie.Need-write-all-requires-2
-write-all-requires-2 c κs = search needs
+write-requires : tie.Need-write-requires
+write-requires c κs = search needs
 
 returns-4 : tie.Need-returns-4
 returns-4 c = search needs
 
-slice-aggregate-write-all-3 : tie.Need-slice-aggregate-write-all-3
-slice-aggregate-write-all-3 c = search needs
+slice-aggregate-write-2 : tie.Need-slice-aggregate-write-2
+slice-aggregate-write-2 c = search needs
 
-write-all-requires-3 : tie.Need-write-all-requires-3
-write-all-requires-3 c κs = search needs
+write-requires-2 : tie.Need-write-requires-2
+write-requires-2 c κs = search needs
+
+returns-5 : tie.Need-returns-5
+returns-5 c = search needs
 
 slice-aggregate-front : tie.Need-slice-aggregate-front
 slice-aggregate-front c = search needs
@@ -82,10 +87,10 @@ slice-aggregate-list-2 : tie.Need-slice-aggregate-list-2
 slice-aggregate-list-2 c = search needs
 
 list-requires : tie.Need-list-requires
-list-requires c κs = few _ _ _ _ (c .before .before .front2 .ensures) (c .before .before .before .before .before .before .before .before .if4 .left)
+list-requires c κs = few _ _ _ _ (c .before .before .front2 .ensures) (c .before .before .before .before .before .before .before .before .before .if4 .left)
 
-returns-5 : tie.Need-returns-5
-returns-5 c = search needs
+returns-6 : tie.Need-returns-6
+returns-6 c = search needs
 
 pub main-spec : {M : Type 1} → statement M
 main-spec =
@@ -101,11 +106,12 @@ main-spec =
     slice-aggregate-load-2
     load-requires-2
     returns-3
-    slice-aggregate-write-all-2
-    write-all-requires-2
+    slice-aggregate-write
+    write-requires
     returns-4
-    slice-aggregate-write-all-3
-    write-all-requires-3
+    slice-aggregate-write-2
+    write-requires-2
+    returns-5
     slice-aggregate-front
     front-requires
     slice-aggregate-front-2
@@ -113,4 +119,4 @@ main-spec =
     slice-aggregate-list
     slice-aggregate-list-2
     list-requires
-    returns-5)
+    returns-6)

@@ -1,3 +1,4 @@
+-- `replay::turn` is safe: the part read lies within the body.
 use mathlib.Core.Path.{sym}
 use lib.Seq.{length-take-le}
 use borrow.Author.Needs.{needs}

@@ -1,3 +1,4 @@
+-- `listing::line::next_yield` meets its contract: the pieces are laid one after the other (`laid-more`).
 use Rattle.ground.specs.Memory.{laid-more}
 use Rattle.listing.specs.Line.{yielded}
 use borrow.Author.Needs.{needs}

@@ -1,3 +1,4 @@
+-- `listing::line::put_answered` meets its contract: the pieces are laid one after the other (`laid-more`).
 use Rattle.ground.specs.Memory.{laid-more}
 use Rattle.listing.specs.Line.{answered}
 use borrow.Author.Needs.{needs}

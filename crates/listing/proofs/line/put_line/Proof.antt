@@ -1,3 +1,4 @@
+-- `listing::line::put_line` meets its contract: its test is the definition's.
 use borrow.Author.Tests.{eq-eqb, ne-eqb}
 use Rattle.ground.specs.Tests.{when, unless}
 use Rattle.listing.specs.Line.{lineOf}

@@ -1,3 +1,4 @@
+-- `print::decimal::next_decimal` meets its contract: space and digits are laid one after the other (`laid-more`).
 use Rattle.ground.specs.Memory.{laid-more}
 use borrow.Author.Needs.{needs}
 use Rattle.print.proofs.decimal.next_decimal.Statement.{statement}

@@ -1,3 +1,4 @@
+-- `print::decimal::put_decimal` meets its contract: the digits that `io::decimal` gives are the number's (`decimal-is`).
 use borrow.Author.Needs.{needs}
 use Rattle.print.specs.Decimal.{decimal-is}
 use Rattle.print.proofs.decimal.put_decimal.Statement.{statement}

@@ -1,3 +1,4 @@
+-- `print::front::front` meets its contract: a shorter slice is its own front (`take-all`).
 use mathlib.Core.Path.{sym}
 use denote.Ref.{now}
 use lib.Seq.{length-take-le, take-all}

@@ -1,3 +1,4 @@
+-- `print::hex::hex_digit` meets its contract: its test is the definition's.
 use mathlib.Core.Path.{sym}
 use borrow.Author.Needs.{needs}
 use Rattle.print.specs.Hex.{hexDigit-below, hexDigit-above}

@@ -1,3 +1,4 @@
+-- `print::hex::next_hex` meets its contract: the three bytes copied are a space and the digits.
 use borrow.Author.Needs.{needs}
 use Rattle.print.proofs.hex.next_hex.Statement.{statement}
 use Rattle.print.proofs.hex.next_hex.Tie as tie

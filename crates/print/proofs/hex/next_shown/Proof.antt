@@ -1,3 +1,4 @@
+-- `print::hex::next_shown` meets its contract: space and digits are laid one after the other (`laid-more`).
 use Rattle.ground.specs.Memory.{laid-more}
 use borrow.Author.Needs.{needs}
 use Rattle.print.proofs.hex.next_shown.Statement.{statement}

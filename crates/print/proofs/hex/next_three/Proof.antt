@@ -1,3 +1,4 @@
+-- `print::hex::next_three` meets its contract: the nine bytes copied are the spaces and the digits.
 use borrow.Author.Needs.{needs}
 use Rattle.print.proofs.hex.next_three.Statement.{statement}
 use Rattle.print.proofs.hex.next_three.Tie as tie

@@ -1,3 +1,4 @@
+-- `print::hex::put_hex` meets its contract: the two bytes copied are the digits.
 use borrow.Author.Needs.{needs}
 use Rattle.print.proofs.hex.put_hex.Statement.{statement}
 use Rattle.print.proofs.hex.put_hex.Tie as tie

@@ -1,3 +1,4 @@
+-- `print::hex::put_shown` meets its contract: its test is the definition's.
 use denote.Ref.{now}
 use Rattle.print.specs.Hex.{shown-none, shown-some}
 use borrow.Author.Needs.{needs}

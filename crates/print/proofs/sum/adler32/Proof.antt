@@ -1,3 +1,4 @@
+-- `print::sum::adler32` meets its contract: after i turns a and b are the sums of the first i bytes (`sums-more`).
 use mathlib.Core.Path.{_≡_, refl, sym}
 use Prim.Native.Nat.{ℕ, _≤_, _<_, _-_}
 use native.Mathlib.Omega.{arith}

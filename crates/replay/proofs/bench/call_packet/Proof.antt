@@ -1,3 +1,4 @@
+-- `replay::bench::call_packet` is safe: the part lent is as long as `least` says.
 use mathlib.Core.Path.{sym}
 use lib.Seq.{length-take-le}
 use borrow.Author.Needs.{needs}

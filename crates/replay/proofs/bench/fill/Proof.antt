@@ -1,22 +1,33 @@
--- `replay::bench::fill` is safe and ends.
-use mathlib.Core.Path.{_≡_, refl}
-use Prim.Native.Nat.{_≤_, _-_}
+-- `replay::bench::fill` meets its contract: after i turns the first i bytes are x.
+use mathlib.Core.Path.{_≡_, refl, sym, ap, _∙_}
+use mathlib.Core.List.{List, [], _∷_, _++_}
+use Prim.Native.Nat.{ℕ, _+_, _≤_, _<_, _-_}
 use native.Mathlib.Omega.{arith}
-use lib.ListN.{length, length-set}
+use native.Mathlib.Numerals.{add-one}
+use lib.ListN.{length, take, set, replicate, length-set, replicate-append-replicate}
+use lib.Seq.{take-all, take-suc-set}
 use borrow.Author.Needs.{needs}
 use Rattle.replay.proofs.bench.fill.Statement.{statement}
 use Rattle.replay.proofs.bench.fill.Tie as tie
 use Rattle.replay.proofs.bench.fill.Reads as reads
 use Rattle.replay.proofs.bench.fill.Lts as lts
 
+-- one byte more
+filled : (m : List ℕ) (i x : ℕ) → i < length m → take i m ≡ replicate i x → take (i + 1) (set m i x) ≡ replicate (i + 1) x
+filled m i x h e =
+    ap (λ (n : ℕ). take n (set m i x)) (add-one i)
+    ∙ take-suc-set m i x h
+    ∙ ap (λ (l : List ℕ). l ++ (x ∷ [])) e
+    ∙ replicate-append-replicate i 1 x
+
 abbrev Inv-loop : tie.InvT-loop
-Inv-loop m₀ x i₀ m i = (i ≤ length m) × (length m ≡ length m₀)
+Inv-loop m₀ x i₀ m i = (i ≤ length m) × (length m ≡ length m₀) × (take i m ≡ replicate i x)
 
 abbrev μ-loop : tie.MeasureT-loop
 μ-loop m₀ x i₀ m i = length m₀ - i
 
 loop-holds : tie.Need-loop-holds Inv-loop μ-loop
-loop-holds c = (omega arith, refl)
+loop-holds c = (omega arith, refl, refl)
 
 slice-write-m : tie.Need-slice-write-m Inv-loop μ-loop
 slice-write-m c = search needs
@@ -28,13 +39,18 @@ loop-less : tie.Need-loop-less Inv-loop μ-loop
 loop-less c = search needs
 
 loop-again : tie.Need-loop-again Inv-loop μ-loop
-loop-again c = (simp length-set (omega arith), simp length-set (c .before .loop .inv .1))
+loop-again c =
+    let l = c .before .loop in
+    (simp length-set (omega arith), simp length-set (l .inv .1), filled (l .m) (l .i) _ (search needs) (l .inv .2))
 
 same-length : tie.Need-same-length Inv-loop μ-loop
 same-length c = search needs
 
 returns : tie.Need-returns Inv-loop μ-loop
-returns c = search needs
+returns c =
+    let l = c .before .loop in
+    let e : length (l .m) ≡ l .i = omega arith in
+    sym (take-all (l .i) (l .m) (omega arith)) ∙ l .inv .2 ∙ ap (λ (n : ℕ). replicate n (c .before .before .args .x)) (sym e ∙ l .inv .1)
 
 pub fill-spec : {M : Type 1} → statement M
 fill-spec =

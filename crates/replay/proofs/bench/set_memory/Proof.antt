@@ -1,3 +1,4 @@
+-- `replay::bench::set_memory` is safe: the part filled lies within the memory.
 use mathlib.Core.Path.{sym}
 use lib.Seq.{length-take-le}
 use borrow.Author.Needs.{needs}

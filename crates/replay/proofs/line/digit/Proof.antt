@@ -1,3 +1,4 @@
+-- `replay::line::digit` meets its contract: its test is the definition's.
 use mathlib.Core.Path.{sym}
 use Rattle.ground.specs.Tests.{when, unless}
 use Rattle.replay.specs.Line.{digit}

@@ -1,3 +1,4 @@
+-- `replay::line::next_decimals` meets its contract: the pieces are laid one after the other (`laid-more`).
 use Rattle.ground.specs.Memory.{laid-more}
 use Rattle.replay.specs.Line.{decimals}
 use borrow.Author.Needs.{needs}

@@ -1,3 +1,4 @@
+-- `replay::line::next_memory` meets its contract: the pieces are laid one after the other (`laid-more`).
 use Rattle.ground.specs.Memory.{laid-more}
 use Rattle.replay.specs.Line.{memoryText}
 use borrow.Author.Needs.{needs}

@@ -1,3 +1,4 @@
+-- `replay::line::next_sum` meets its contract: the four bytes shown are the sum's.
 use borrow.Author.Needs.{needs}
 use Rattle.replay.proofs.line.next_sum.Statement.{statement}
 use Rattle.replay.proofs.line.next_sum.Tie as tie
