@@ -1,12 +1,14 @@
 -- A packet's line: "its number, status, sense held afterwards (three, hex), byte count, bytes in hex or -, start, count".
-use Prim.Native.Nat.{ℕ}
+use Prim.Native.Nat.{ℕ, _+_, _*_, _≤_}
 use mathlib.Core.Path.{_≡_}
 use mathlib.Core.List.{List, [], _∷_}
+use native.Mathlib.Omega.{arith}
 use lib.Dec.{eqb}
-use Rattle.ground.specs.Tests.{if_then_else_}
+use lib.ListN.{length, length-append}
+use Rattle.ground.specs.Tests.{if_then_else_, either}
 use Rattle.print.specs.Joined.{_next_, spaced}
-use Rattle.print.specs.Hex.{hexByte, shown}
-use Rattle.print.specs.Decimal.{decimal}
+use Rattle.print.specs.Hex.{hexByte, shown, shown-length}
+use Rattle.print.specs.Decimal.{decimal, decimal-length}
 use Rattle.drive.specs.declared.sense.Sense.{Sense}
 use Rattle.target.specs.declared.packet.Outcome.{Outcome}
 
@@ -46,3 +48,42 @@ refused n number = decimal n next refusal number next lineEnd
 -- packet n's line, of its outcome and the bytes that it wrote
 unfoldable pub lineOf : ℕ → Outcome → List ℕ → List ℕ
 lineOf n o bytes = if eqb (o .number) 0 then answered n o bytes else refused n (o .number)
+
+-- ---- no line is longer than the memory that the program lends for it
+
+blocks-length : (o : Outcome) → length (blocks o) ≤ 42
+unfolding blocks
+blocks-length o =
+    rw length-append (let a = decimal-length (o .start) in let b = decimal-length (o .count) in omega arith)
+
+yielded-length : (o : Outcome) (bytes : List ℕ) → length (yielded o bytes) ≤ 65 + 2 * length bytes
+unfolding yielded
+yielded-length o bytes =
+    let a = decimal-length (o .len) in
+    let b = shown-length bytes in
+    let c = blocks-length o in
+    simp length-append (omega arith)
+
+started-length : (n : ℕ) (o : Outcome) → length (started n o) ≤ 32
+unfolding started
+started-length n o = let a = decimal-length n in simp length-append (omega arith)
+
+answered-length : (n : ℕ) (o : Outcome) (bytes : List ℕ) → length (answered n o bytes) ≤ 98 + 2 * length bytes
+unfolding answered
+answered-length n o bytes =
+    let a = started-length n o in
+    let b = yielded-length o bytes in
+    simp length-append (omega arith)
+
+refused-length : (n number : ℕ) → length (refused n number) ≤ 50
+unfolding refused refusal
+refused-length n number = let a = decimal-length n in let b = decimal-length number in simp length-append (omega arith)
+
+pub line-fits : (n : ℕ) (o : Outcome) (bytes : List ℕ) → length bytes ≤ 4360 → length (lineOf n o bytes) ≤ 9000
+unfolding lineOf
+line-fits n o bytes h =
+    either
+    (λ (x : List ℕ). length x ≤ 9000)
+    (eqb (o .number) 0)
+    (λ _. let k = answered-length n o bytes in omega arith)
+    (λ _. let k = refused-length n (o .number) in omega arith)

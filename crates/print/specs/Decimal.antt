@@ -9,8 +9,9 @@ use native.Mathlib.Decide.{decLe}
 use native.Mathlib.Numerals.{unary-clauses}
 use borrow.Author.Tests.{le-leb, lt-leb}
 use lib.Dec.{leb}
+use lib.ListN.{length, length-append}
 use Rattle.io.specs.Digits.{digits, Fewest}
-use Rattle.ground.specs.Tests.{if_then_else_, when, unless}
+use Rattle.ground.specs.Tests.{if_then_else_, when, unless, either}
 
 -- how many digits n has, at most `most`: one where it is below ten, else one more than a tenth of it has
 unfoldable pub places : ℕ → ℕ → ℕ
@@ -59,3 +60,18 @@ twenty n k h f = elim (decLe k 20) [
 pub decimal-is : (n k : ℕ) → n < 2 ^ 64 → Fewest 10 1 n k → digits 10 k n ≡ decimal n
 unfolding decimal
 decimal-is n k h f = rw (places-fewest 20 n k (twenty n k h f) f) refl
+
+-- ---- lengths
+
+digits-length : (k n : ℕ) → length (digits 10 k n) ≡ k
+digits-length zero n = refl
+digits-length (suc k) n = rw length-append (let h = digits-length k (n / 10) in omega arith)
+
+places-most : (most n : ℕ) → places most n ≤ most
+unfolding places
+places-most zero n = omega arith
+places-most (suc most) n = either (λ (x : ℕ). x ≤ suc most) (leb n 9) (λ h. omega arith) (λ h. let k = places-most most (n / 10) in omega arith)
+
+pub decimal-length : (n : ℕ) → length (decimal n) ≤ 20
+unfolding decimal
+decimal-length n = rw digits-length (places-most 20 n)

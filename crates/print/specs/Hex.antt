@@ -1,5 +1,5 @@
 -- Bytes as hex: "Capital hex, two digits; - where no bytes".
-use Prim.Native.Nat.{ℕ, zero, suc, _+_, _/_, _%_, _≤_, _<_}
+use Prim.Native.Nat.{ℕ, zero, suc, _+_, _*_, _/_, _%_, _≤_, _<_}
 use mathlib.Core.Path.{_≡_, refl, sym, ap, _∙_}
 use mathlib.Core.List.{List, [], _∷_, _++_, append-assoc, append-nil}
 use native.Mathlib.Numerals.{add-one}
@@ -67,3 +67,15 @@ pub shown-some : (s : List ℕ) → (length s ≡ 0 → ⊥) → shown s ≡ hex
 unfolding shown
 shown-some [] h = absurd (h refl)
 shown-some (b ∷ s) h = refl
+
+-- ---- lengths
+
+pub hexes-length : (s : List ℕ) → length (hexes s) ≡ 2 * length s
+unfolding hexes
+hexes-length [] = refl
+hexes-length (b ∷ s) = let h = hexes-length s in omega arith
+
+pub shown-length : (s : List ℕ) → length (shown s) ≤ 2 * length s + 1
+unfolding shown
+shown-length [] = omega arith
+shown-length (b ∷ s) = let h = hexes-length (b ∷ s) in omega arith
