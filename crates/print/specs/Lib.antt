@@ -1,4 +1,6 @@
 pub mod Decimal
+pub mod Front
 pub mod Hex
 pub mod Joined
 pub mod Sum
+pub mod Unique

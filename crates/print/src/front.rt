@@ -1,10 +1,9 @@
 // The front of a slice.
-ghost use mathlib.Core.Path.{_≡_};
-ghost use lib.ListN.{take};
+ghost use Rattle.print.specs.Front.{FrontOf};
 
 // The first n bytes of s, all of them where it has fewer.
 pub fn front(s: &[u8], n: usize) -> &[u8]
-    ensures { λ r. ⌜ now r ≡ take n (now (s .entry)) ⌝ }
+    ensures { λ r. ⌜ FrontOf (s .entry) r n ⌝ }
 {
     if n < s.len() {
         return &s[..n];

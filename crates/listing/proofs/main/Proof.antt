@@ -87,7 +87,7 @@ slice-aggregate-list-2 : tie.Need-slice-aggregate-list-2
 slice-aggregate-list-2 c = search needs
 
 list-requires : tie.Need-list-requires
-list-requires c κs = few _ _ _ _ (c .before .before .front2 .ensures) (c .before .before .before .before .before .before .before .before .before .if4 .left)
+list-requires c κs = few _ _ _ _ (c .before .before .front2 .ensures .shows) (c .before .before .before .before .before .before .before .before .before .if4 .left)
 
 returns-6 : tie.Need-returns-6
 returns-6 c = search needs

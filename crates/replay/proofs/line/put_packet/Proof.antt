@@ -52,7 +52,7 @@ same-length c = search needs
 
 returns : tie.Need-returns
 unfolding packetLine
-returns c = rw (← c .before .before .before .before .front .ensures) (laid-more (laid-more (c .before .before .before .before .before .before .before .before .before .before .before .put-outcome .ensures) (c .before .before .before .before .before .before .before .next-state .ensures)) (c .before .before .next-memory .ensures))
+returns c = rw (← c .before .before .before .before .front .ensures .shows) (laid-more (laid-more (c .before .before .before .before .before .before .before .before .before .before .before .put-outcome .ensures) (c .before .before .before .before .before .before .before .next-state .ensures)) (c .before .before .next-memory .ensures))
 
 pub put-packet-spec : {M : Type 1} → statement M
 put-packet-spec =
