@@ -10,7 +10,7 @@ use Rattle.drive.specs.declared.state.Mechanics.{Mechanics}
 use Rattle.drive.specs.declared.state.Drive.{Drive}
 use Rattle.drive.specs.State.{powerOn, button, lay, lift}
 use Rattle.disc.specs.Rules.{isFit}
-use Rattle.target.specs.Command.{codeOf, loEj, start}
+use Rattle.command.specs.Command.{codeOf, loEj, start}
 use Rattle.target.specs.Packet.{answer as replyTo, stateOf}
 use Rattle.claims.specs.Telling.{Attention, power, change, pending, anyPending, Answer, answerOf, isGood, tellsTo}
 use Rattle.claims.specs.History as past

@@ -16,8 +16,10 @@ use Rattle.disc.specs.Rules.{rule1, rule2, plain, headA0, headed, addressed, ro
 use Rattle.disc.specs.Track.{nextOut, outAt, covers, wanted, nextFound, found, trackOf, inData, allInData}
 use Rattle.gate.specs.Unit.{pendingOf}
 use Rattle.gate.specs.Gate.{gate}
-use Rattle.target.specs.Command.{decode}
-use Rattle.target.specs.Toc.{shownAddress, isShown, shownTrack, shownTracks, headed as tocHeaded, format0, tocBytes, tocBad, readToc}
+use Rattle.command.specs.Command.{decode}
+use Rattle.toc.specs.Shown.{shownAddress, isShown, shownTrack, shownTracks}
+use Rattle.toc.specs.Answer.{headed as tocHeaded, format0, tocBytes, tocBad}
+use Rattle.target.specs.ReadToc.{readToc}
 use Rattle.target.specs.Perform.{read, perform}
 use Rattle.target.specs.Packet.{within, refusalOf, answer, stateOf, bytesOf}
 

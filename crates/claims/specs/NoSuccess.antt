@@ -4,7 +4,7 @@ use mathlib.Core.Bool.{true, false}
 use mathlib.Core.List.{List, _∷_}
 use Prim.Native.Nat.{ℕ}
 use Rattle.drive.specs.declared.state.Drive.{Drive}
-use Rattle.target.specs.Command.{decode, codeOf, needsDisc}
+use Rattle.command.specs.Command.{decode, codeOf, needsDisc}
 use Rattle.claims.specs.Telling.{Attention, isGood}
 use Rattle.claims.specs.Call.{Call, powering, packet, answer, event, final, isPending, isNeeding, isSuccess}
 use Rattle.claims.specs.Attentions.{Stands}

@@ -13,11 +13,11 @@ use Rattle.drive.specs.declared.state.Drive.{Drive}
 use Rattle.disc.specs.Layout.{bound}
 use Rattle.disc.specs.Rules.{isFit}
 use Rattle.gate.specs.Gate.{Result, Reply, refuse, gate}
-use Rattle.target.specs.declared.decode.Command.{Command}
-use Rattle.target.specs.declared.decode.Command.the-variants.{TestUnitReady, RequestSense, Inquiry, StartStop, Prevent, ReadCapacity, Read10, Seek, ReadToc, Read12, Unknown}
-use Rattle.target.specs.Command.{decode, byte, codeOf, needsDisc, loEj, start}
-use Rattle.target.specs.Tray.{eject, load, startStop}
-use Rattle.target.specs.Toc.{readToc}
+use Rattle.command.specs.declared.decode.Command.{Command}
+use Rattle.command.specs.declared.decode.Command.the-variants.{TestUnitReady, RequestSense, Inquiry, StartStop, Prevent, ReadCapacity, Read10, Seek, ReadToc, Read12, Unknown}
+use Rattle.command.specs.Command.{decode, byte, codeOf, needsDisc, loEj, start}
+use Rattle.command.specs.Tray.{eject, load, startStop}
+use Rattle.target.specs.ReadToc.{readToc}
 use Rattle.target.specs.Perform.{inquiry, seek, read, work, perform}
 use Rattle.target.specs.Packet.{steps, within, refusalOf, longAnswer, answer as replyTo}
 use Rattle.claims.specs.Telling.{anyPending}

@@ -13,7 +13,7 @@ use Rattle.drive.specs.State.{isLoaded}
 use Rattle.disc.specs.Layout.{lastSession}
 use Rattle.disc.specs.Rules.{isFit}
 use Rattle.disc.specs.Part.{partRefusal}
-use Rattle.target.specs.Command.{decode, codeOf}
+use Rattle.command.specs.Command.{decode, codeOf}
 use Rattle.target.specs.Packet.{steps}
 use Rattle.claims.specs.Call.{Call, powering, pressing, laying, lifting, packet, memoryOf, answer, next}
 use Rattle.claims.specs.RefusalLaws.{call-unchanged, reply-ordered, press-tested, press-locked, lay-tested, lift-tested, part-parted, toMsf-number, toBlock-number}

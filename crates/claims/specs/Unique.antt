@@ -31,6 +31,7 @@ use Rattle.gate.specs.Gate.{Reply}
 use Rattle.gate.specs.Fault.{senseOf}
 use Rattle.gate.specs.Unit.{hold, clear, pendingOf, told, attentionSense, give}
 use Rattle.disc.specs.declared.track.Track.{Track}
+use Rattle.disc.specs.declared.disc.Disc.{Disc}
 use Rattle.disc.specs.declared.disc.Reading.{Reading}
 use Rattle.disc.specs.Layout.{descriptors}
 use Rattle.disc.specs.Session.{starts}
@@ -38,10 +39,14 @@ use Rattle.disc.specs.Rules.{fault}
 use Rattle.disc.specs.Part.{PartOf, partRefusal, partStart, partSize}
 use Rattle.disc.specs.Track.{isData, trackOf, trackNumbered, runIsData}
 use Rattle.disc.specs.Disc.{reading}
-use Rattle.target.specs.declared.decode.Command.{Command}
-use Rattle.target.specs.declared.decode.Kind.{Kind}
+use Rattle.command.specs.declared.decode.Command.{Command}
+use Rattle.command.specs.declared.decode.Kind.{Kind}
+use Rattle.command.specs.declared.done.Done.{Done}
+use Rattle.command.specs.Command.{decode, kindOf, needing, bit0, bit1}
+use Rattle.command.specs.Tray.{done, startStop, prevent, noMedium}
+use Rattle.command.specs.Done.{doneOf}
+use Rattle.toc.specs.Answer.{tocBytes, tocBad}
 use Rattle.target.specs.declared.packet.Outcome.{Outcome}
-use Rattle.target.specs.Command.{decode, kindOf}
 use Rattle.target.specs.Packet.{Answered, answer}
 
 -- ---- the shapes of a promise, a law each
@@ -221,13 +226,45 @@ unique-run-is-data t a n r s = value-once
 pub unique-read : (t : List ℕ) (r s : Reading) → r ≡ reading t → s ≡ reading t → r ≡ s
 unique-read t r s = value-once
 
--- ---- target
+-- ---- command
 
 pub unique-decode : (c : ℕ) (r s : Command) → r ≡ decode c → s ≡ decode c → r ≡ s
 unique-decode c r s = value-once
 
 pub unique-kind-of : (c : Command) (r s : Kind) → r ≡ kindOf c → s ≡ kindOf c → r ≡ s
 unique-kind-of c r s = value-once
+
+pub unique-needs-disc : (c : Command) (b : ℕ) (r s : Bool) → r ≡ needing c b → s ≡ needing c b → r ≡ s
+unique-needs-disc c b r s = value-once
+
+pub unique-bit0 : (b : ℕ) (r s : Bool) → r ≡ bit0 b → s ≡ bit0 b → r ≡ s
+unique-bit0 b r s = value-once
+
+pub unique-bit1 : (b : ℕ) (r s : Bool) → r ≡ bit1 b → s ≡ bit1 b → r ≡ s
+unique-bit1 b r s = value-once
+
+pub unique-done : (m : Mechanics) (r s : Done) → r ≡ doneOf (done m) → s ≡ doneOf (done m) → r ≡ s
+unique-done m r s = value-once
+
+pub unique-start-stop : (b : ℕ) (m : Mechanics) (r s : Done) → r ≡ doneOf (startStop b m) → s ≡ doneOf (startStop b m) → r ≡ s
+unique-start-stop b m r s = value-once
+
+pub unique-prevent : (b : ℕ) (m : Mechanics) (r s : Done) → r ≡ doneOf (prevent b m) → s ≡ doneOf (prevent b m) → r ≡ s
+unique-prevent b m r s = value-once
+
+pub unique-no-medium : (m : Mechanics) (r s : Fault) → r ≡ noMedium m → s ≡ noMedium m → r ≡ s
+unique-no-medium m r s = value-once
+
+-- ---- toc
+
+pub unique-toc-bad : (disc : Disc) (f n : ℕ) (r s : Bool) → r ≡ tocBad disc f n → s ≡ tocBad disc f n → r ≡ s
+unique-toc-bad disc f n r s = value-once
+
+pub unique-put-toc : (disc : Disc) (f : ℕ) (msf : Bool) (n room : ℕ) (d m m₁ m₂ : List ℕ) (r s : ℕ)
+    → Laid m (take room (tocBytes disc f msf n d)) r m₁ → Laid m (take room (tocBytes disc f msf n d)) s m₂ → (r ≡ s) × (m₁ ≡ m₂)
+unique-put-toc disc f msf n room d m m₁ m₂ r s = laying-once
+
+-- ---- target
 
 pub unique-packet : (d : Drive) (p t m m₁ m₂ : List ℕ) (r s : Outcome)
     → Answered (answer d p t (length m)) m r m₁ → Answered (answer d p t (length m)) m s m₂ → (r ≡ s) × (m₁ ≡ m₂)

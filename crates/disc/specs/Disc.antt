@@ -2,7 +2,7 @@
 use Prim.Native.Nat.{ℕ, _-_}
 use mathlib.Core.List.{List}
 use Rattle.ground.specs.Tests.{if_then_else_}
-use Rattle.disc.specs.Layout.{lastSession, descriptors, flagsAt}
+use Rattle.disc.specs.Layout.{lastSession, descriptors, flagsAt, pointAt, addressAt}
 use Rattle.disc.specs.Session.{first, last, starts, session}
 use Rattle.disc.specs.Rules.{leadOut, fault, isFit}
 use Rattle.disc.specs.declared.disc.Disc.{Disc}
@@ -17,7 +17,8 @@ lastAt t = starts (descriptors t) (lastSession t - 1)
 abbrev pub lastPart : List ℕ → List ℕ
 lastPart t = session (descriptors t) (lastSession t - 1)
 
--- the first and the last track of the disc, S, "L is the last session's lead-out" with its ADR/control, and where that session begins
+-- the first and the last track of the disc, S, "L is the last session's lead-out" with its ADR/control, and "the last session's first
+-- track": the descriptor after A0, A1 and A2
 abbrev pub discOf : List ℕ → Disc
 discOf t = record {
   first = first (descriptors t);
@@ -25,7 +26,9 @@ discOf t = record {
   sessions = lastSession t;
   «lead_out» = leadOut (lastPart t);
   «lead_flags» = flagsAt (lastPart t) 2;
-  «last_at» = lastAt t;
+  «last_first» = pointAt (lastPart t) 3;
+  «last_first_flags» = flagsAt (lastPart t) 3;
+  «last_first_start» = addressAt (lastPart t) 3;
 }
 
 -- a lent table is read: the disc of a fit one, else the number of the first broken rule

@@ -2,6 +2,7 @@
 use crate::layout::FLAGS;
 use crate::layout::HEADER;
 use crate::layout::PMIN;
+use crate::layout::POINT;
 use crate::layout::ROW;
 use crate::layout::address_at;
 use crate::rules::fault;
@@ -11,14 +12,17 @@ ghost use mathlib.Core.Bool.{true};
 ghost use Rattle.disc.specs.Rules.{isFit};
 ghost use Rattle.disc.specs.Disc.{lastAt, discOf, reading};
 
-// The first and the last track, S, the last lead-out and its ADR/control, and where the last session begins.
+// The first and the last track, S, the last lead-out and its ADR/control, and the last session's first track: number, ADR/control
+// and start.
 pub struct Disc {
     pub first: u8,
     pub last: u8,
     pub sessions: u8,
     pub lead_out: usize,
     pub lead_flags: u8,
-    pub last_at: usize,
+    pub last_first: u8,
+    pub last_first_flags: u8,
+    pub last_first_start: usize,
 }
 
 // A lent table is read: a fit one's disc, or the first broken rule.
@@ -50,6 +54,8 @@ fn disc_of(t: &[u8], at: usize) -> Disc
         sessions,
         lead_out: address_at(s, 2),
         lead_flags: s[2 * ROW + FLAGS],
-        last_at: at,
+        last_first: s[3 * ROW + POINT],
+        last_first_flags: s[3 * ROW + FLAGS],
+        last_first_start: address_at(s, 3),
     }
 }

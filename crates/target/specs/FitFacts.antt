@@ -1,51 +1,39 @@
--- A fit table has what the commands count on.
-use mathlib.Core.Path.{_≡_, refl, sym, ap, _∙_}
+-- What the code has in hand: a fit table, what was read off it, and what the commands count on.
+use mathlib.Core.Path.{_≡_}
 use mathlib.Core.List.{List}
-use Prim.Native.Nat.{ℕ, _+_, _-_, _*_, _/_, _≤_, _<_}
-use native.Mathlib.Omega.{arith}
-use lib.ListN.{length, length-drop}
-use Rattle.disc.specs.Layout.{row, rows, descriptors, lastSession}
-use Rattle.disc.specs.Session.{starts, session}
-use Rattle.disc.specs.SessionLaws.{rowsBefore, starts-rows}
-use Rattle.disc.specs.RulesLaws.{Fit, isFit-true, fit-sized, fit-numbered, fit-rows, fit-starts, fit-ends, fit-least}
+use Prim.Native.Nat.{ℕ, _≤_}
+use lib.ListN.{length}
+use Rattle.disc.specs.Layout.{bound, header, descriptors}
+use Rattle.disc.specs.Rules.{leadOut}
+use Rattle.disc.specs.RulesLaws.{Fit, isFit-true, fit-sized}
 use Rattle.disc.specs.FitLaws.{fit-lead-out}
+use Rattle.disc.specs.Track.{allInData, runIsData}
 use Rattle.disc.specs.SpreadLaws.{fit-run-agrees}
 use Rattle.disc.specs.declared.disc.Disc.{Disc}
 use Rattle.disc.specs.declared.disc.Reading.the-variants as reads
-use Rattle.disc.specs.Disc.{lastAt, reading}
+use Rattle.disc.specs.Disc.{discOf, lastPart, reading}
 use Rattle.disc.specs.DiscLaws.{reading-fit}
-use Rattle.target.specs.TocLaws.{FitFacts, ReadOff}
 
--- the last session has four descriptors at least
-last-rows : {t : List ℕ} → Fit t → lastAt t + 4 * row ≤ length (descriptors t)
-last-rows {t} f =
-    let n = fit-numbered f in
-    let h : lastSession t - 1 < lastSession t = omega arith in
-    let e = fit-ends f h in
-    let l = fit-least f h in
-    omega arith
+-- a fit table's length, its last lead-out, and how a run of blocks is tested
+pub record FitFacts (t : List ℕ) : Type 0 where
+  pub head : header ≤ length t
+  pub most : length t ≤ bound
+  pub leads : 1 ≤ leadOut (lastPart t)
+  pub runs : (a n : ℕ) → runIsData (descriptors t) a n ≡ allInData (descriptors t) a n
 
--- from each session on the descriptors are whole
-whole-rows : {t : List ℕ} → Fit t → (k : ℕ) → k < lastSession t → length (session (descriptors t) k) ≡ row * rows (session (descriptors t) k)
-whole-rows {t} f k h =
-    let w = fit-rows f in
-    let r = starts-rows (descriptors t) k in
-    let l = length-drop (starts (descriptors t) k) (descriptors t) in
-    omega arith
+-- a fit table and what was read off it
+pub record ReadOff (t : List ℕ) (disc : Disc) : Type 0 where
+  pub fits : FitFacts t
+  pub same : disc ≡ discOf t
 
 pub fit-facts : {t : List ℕ} → Fit t → FitFacts t
-fit-facts {t} f =
+fit-facts f =
     let s = fit-sized f in
-    let n = fit-numbered f in
     record {
       head = s .least;
       most = s .most;
-      sessions = n .low;
-      lastRows = last-rows f;
-      begins = λ k h. fit-starts f k (omega arith);
       leads = fit-lead-out f .0;
       runs = fit-run-agrees f;
-      whole = whole-rows f;
     }
 
 -- what a reading of a loaded drive's table gives the steps

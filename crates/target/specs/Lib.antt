@@ -1,7 +1,4 @@
-pub mod Command
-pub mod Tray
-pub mod Toc
-pub mod TocLaws
+pub mod ReadToc
 pub mod FitFacts
 pub mod Perform
 pub mod PerformLaws

@@ -16,11 +16,11 @@ use Rattle.disc.specs.Layout.{bound}
 use Rattle.disc.specs.Rules.{isFit}
 use Rattle.disc.specs.Part.{unfit}
 use Rattle.gate.specs.Gate.{Result, Reply, refuse, gate, pass, requestSense}
-use Rattle.target.specs.declared.decode.Command.{Command}
-use Rattle.target.specs.declared.decode.Kind.{Kind}
-use Rattle.target.specs.declared.decode.Kind.the-variants.{Asks, Passes, Gates}
+use Rattle.command.specs.declared.decode.Command.{Command}
+use Rattle.command.specs.declared.decode.Kind.{Kind}
+use Rattle.command.specs.declared.decode.Kind.the-variants.{Asks, Passes, Gates}
 use Rattle.target.specs.declared.packet.Outcome.{Outcome}
-use Rattle.target.specs.Command.{byte, codeOf, decode, kindOf}
+use Rattle.command.specs.Command.{byte, codeOf, decode, kindOf}
 use Rattle.target.specs.Perform.{perform}
 
 -- the refusals that only packets give

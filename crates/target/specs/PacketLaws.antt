@@ -25,16 +25,17 @@ use Rattle.gate.specs.declared.unit.Pending.{Pending}
 use Rattle.gate.specs.declared.unit.Pending.the-variants.{Power, Change, Nothing}
 use Rattle.gate.specs.Unit.{hold, clear, pendingOf, attentionSense, told}
 use Rattle.gate.specs.Gate.{Result, fails, goes, Reply, refuse, check, good, settle, pass, meet, gate, requestSense}
-use Rattle.target.specs.declared.decode.Command.{Command}
-use Rattle.target.specs.declared.decode.Kind.{Kind}
-use Rattle.target.specs.declared.decode.Kind.the-variants.{Asks, Passes, Gates}
-use Rattle.target.specs.declared.done.Done.{Done}
-use Rattle.target.specs.declared.done.Done.the-variants.{Fails, Goes}
+use Rattle.command.specs.declared.decode.Command.{Command}
+use Rattle.command.specs.declared.decode.Kind.{Kind}
+use Rattle.command.specs.declared.decode.Kind.the-variants.{Asks, Passes, Gates}
+use Rattle.command.specs.declared.done.Done.{Done}
+use Rattle.command.specs.declared.done.Done.the-variants.{Fails, Goes}
 use Rattle.target.specs.declared.packet.Outcome.{Outcome}
-use Rattle.target.specs.Perform.{doneOf, written, Performed, perform}
-use Rattle.target.specs.TocLaws.{ReadOff}
+use Rattle.command.specs.Done.{doneOf}
+use Rattle.target.specs.Perform.{written, Performed, perform}
+use Rattle.target.specs.FitFacts.{ReadOff}
 use Rattle.target.specs.PerformLaws.{fullOf, perform-within}
-use Rattle.target.specs.Command.{codeOf, decode, kindOf}
+use Rattle.command.specs.Command.{codeOf, decode, kindOf}
 use Rattle.target.specs.Packet.{outcomeOf, bytesOf, steps, stepsBy, Answered, answer, refusalOf, within, notTwelve, shortMemory}
 
 -- a refusal's outcome
@@ -60,7 +61,7 @@ finished u v m (Goes w) =
 
 -- no disc was read
 abbrev pub unread : Disc
-unread = record { first = 0; last = 0; sessions = 0; «lead_out» = 0; «lead_flags» = 0; «last_at» = 0 }
+unread = record { first = 0; last = 0; sessions = 0; «lead_out» = 0; «lead_flags» = 0; «last_first» = 0; «last_first_flags» = 0; «last_first_start» = 0 }
 
 -- the steps for the drive's packet
 abbrev pub stepsOf : Drive → List ℕ → List ℕ → Reply Mechanics

@@ -1,9 +1,9 @@
 -- Steps 3 to 5: what a packet comes to once no attention stands before it.
-use Prim.Native.Nat.{ℕ, _+_, _-_, min}
+use Prim.Native.Nat.{ℕ, _+_, _-_}
 use mathlib.Core.Path.{_≡_}
 use mathlib.Core.Bool.{Bool, true, false, not}
 use mathlib.Core.List.{List, [], _∷_, _++_}
-use lib.ListN.{length, take}
+use lib.ListN.{take}
 use lib.Dec.{ltb}
 use Rattle.ground.specs.Tests.{_and_, _or_, if_then_else_}
 use Rattle.ground.specs.Number.{bytes32}
@@ -14,16 +14,15 @@ use Rattle.disc.specs.Layout.{descriptors}
 use Rattle.disc.specs.Rules.{leadOut}
 use Rattle.disc.specs.Track.{allInData}
 use Rattle.disc.specs.Disc.{lastPart}
-use Rattle.gate.specs.declared.fault.Fault.{Fault}
-use Rattle.gate.specs.declared.fault.Fault.the-variants.{NoMediumClosed, NoMediumOpen, UnknownCode, OutOfRange, BadField, IllegalMode}
+use Rattle.gate.specs.declared.fault.Fault.the-variants.{UnknownCode, OutOfRange, BadField, IllegalMode}
 use Rattle.gate.specs.Gate.{Result, fails, goes}
-use Rattle.target.specs.declared.decode.Command.{Command}
-use Rattle.target.specs.declared.decode.Command.the-variants.{TestUnitReady, RequestSense, Inquiry, StartStop, Prevent, ReadCapacity, Read10, Seek, ReadToc, Read12, Unknown}
-use Rattle.target.specs.declared.done.Done.{Done}
-use Rattle.target.specs.declared.done.Done.the-variants.{Fails, Goes}
-use Rattle.target.specs.Command.{byte, bit0, needsDisc, addressIn, count10, count12}
-use Rattle.target.specs.Tray.{done, startStop, prevent}
-use Rattle.target.specs.Toc.{readToc}
+use Rattle.command.specs.declared.decode.Command.{Command}
+use Rattle.command.specs.declared.decode.Command.the-variants.{TestUnitReady, RequestSense, Inquiry, StartStop, Prevent, ReadCapacity, Read10, Seek, ReadToc, Read12, Unknown}
+use Rattle.command.specs.declared.done.Done.{Done}
+use Rattle.command.specs.Command.{byte, bit0, needsDisc, addressIn, count10, count12}
+use Rattle.command.specs.Tray.{done, startStop, prevent, noMedium}
+use Rattle.command.specs.Done.{doneOf}
+use Rattle.target.specs.ReadToc.{readToc}
 
 -- INQUIRY: "36 bytes: 05 80 00 21 1F 00 00 00, then "LECTERN " (8), "PACKET TARGET   " (16), "0100""
 abbrev pub inquiryBytes : List ℕ
@@ -71,20 +70,11 @@ work ReadToc p m t = readToc p m t
 work Read12 p m t = read (addressIn p) (count12 p) m t
 work Unknown p m t = fails UnknownCode
 
--- "02/3A/02 with the tray open, 02/3A/01 closed"
-abbrev pub noMedium : Mechanics → Fault
-noMedium m = if m .«tray_open» then NoMediumOpen else NoMediumClosed
-
 -- steps 3 and 4: "Unknown code: 05/20/00." (an unknown code needs no disc) "If the command needs a disc and the drive isn't loaded: .."
 unfoldable pub perform : Command → List ℕ → Mechanics → List ℕ → Result Mechanics
 perform c p m t = if needsDisc c p and not (isLoaded m) then fails (noMedium m) else work c p m t
 
 -- ---- what the code hands back, and what it writes
-
-abbrev pub doneOf : Result Mechanics → Done
-doneOf (fails f) = Fails f
-doneOf (goes next loading full limit start count) =
-    Goes (record { next = next; loading = loading; len = min limit (length full); start = start; count = count })
 
 -- "the bytes are the first n of the full answer, n the smaller of the two lengths"
 abbrev pub written : Result Mechanics → List ℕ

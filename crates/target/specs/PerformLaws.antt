@@ -4,12 +4,13 @@ use mathlib.Core.Bool.{Bool, true, false, not, true≢false}
 use mathlib.Core.List.{List, []}
 use Prim.Native.Nat.{ℕ, _+_, _-_, _≤_, _<_, min}
 use native.Mathlib.Omega.{arith}
-use lib.ListN.{length, take, length-take}
+use lib.ListN.{length, take, length-take, length-drop}
 use lib.Seq.{take-nil}
 use borrow.Author.Tests.{lt-ltb, le-ltb}
 use Rattle.ground.specs.Tests.{when, unless, either, and-both, and-off, and-late, or-left, or-right, or-else}
 use Rattle.disc.specs.declared.disc.Disc.{Disc}
-use Rattle.disc.specs.Layout.{bound, descriptors}
+use Rattle.disc.specs.Layout.{bound, header, descriptors}
+use Rattle.disc.specs.Disc.{discOf}
 use Rattle.disc.specs.Track.{allInData}
 use Rattle.ground.specs.Memory.{Laid, fill, fill-none, laid-none}
 use Rattle.drive.specs.declared.state.Mechanics.{Mechanics}
@@ -17,15 +18,18 @@ use Rattle.drive.specs.State.{isLoaded}
 use Rattle.gate.specs.declared.fault.Fault.{Fault}
 use Rattle.gate.specs.declared.fault.Fault.the-variants.{OutOfRange, BadField, IllegalMode}
 use Rattle.gate.specs.Gate.{Result, fails, goes}
-use Rattle.target.specs.declared.decode.Command.{Command}
-use Rattle.target.specs.declared.decode.Command.the-variants.{TestUnitReady, RequestSense, Inquiry, StartStop, Prevent, ReadCapacity, Read10, Seek, ReadToc, Read12, Unknown}
-use Rattle.target.specs.declared.done.Done.{Done}
-use Rattle.target.specs.declared.done.Done.the-variants.{Fails, Goes}
-use Rattle.target.specs.Command.{byte, bit0, needsDisc, addressIn, count10, count12}
-use Rattle.target.specs.Tray.{eject, load, startStop}
-use Rattle.target.specs.Toc.{tocBad, readToc, formatIn, msfIn, numberIn}
-use Rattle.target.specs.TocLaws.{ReadOff, tocBytes-within}
-use Rattle.target.specs.Perform.{doneOf, written, Performed, inquiryBytes, inquiry, L, seek, read, work, noMedium, perform}
+use Rattle.command.specs.declared.decode.Command.{Command}
+use Rattle.command.specs.declared.decode.Command.the-variants.{TestUnitReady, RequestSense, Inquiry, StartStop, Prevent, ReadCapacity, Read10, Seek, ReadToc, Read12, Unknown}
+use Rattle.command.specs.declared.done.Done.{Done}
+use Rattle.command.specs.declared.done.Done.the-variants.{Fails, Goes}
+use Rattle.command.specs.Command.{byte, bit0, needsDisc, addressIn, count10, count12}
+use Rattle.command.specs.Tray.{eject, load, startStop, noMedium}
+use Rattle.toc.specs.Answer.{tocBytes, tocBad}
+use Rattle.toc.specs.AnswerLaws.{tocBytes-within}
+use Rattle.target.specs.ReadToc.{readToc, formatIn, msfIn, numberIn, lengthIn}
+use Rattle.target.specs.FitFacts.{ReadOff}
+use Rattle.target.specs.Perform.{written, Performed, inquiryBytes, inquiry, L, seek, read, work, perform}
+use Rattle.command.specs.Done.{doneOf}
 
 -- ---- what the code has in hand
 
@@ -47,6 +51,10 @@ readOff-leads r = ap (λ (d : Disc). d .«lead_out») (r .same)
 
 pub readOff-least : {t : List ℕ} {disc : Disc} → ReadOff t disc → 1 ≤ disc .«lead_out»
 readOff-least r = rw (readOff-leads r) (r .fits .leads)
+
+-- its descriptors are what its header leaves of the bound
+pub readOff-length : {t : List ℕ} {disc : Disc} → ReadOff t disc → header + length (descriptors t) ≤ bound
+readOff-length {t} r = let l = length-drop header t in let a = r .fits .head in let b = r .fits .most in omega arith
 
 -- ---- Performed
 
@@ -80,6 +88,18 @@ inquiry-fails p m h = when _ _ _ h
 pub inquiry-goes : (p : List ℕ) (m : Mechanics) → bit0 (byte p 1) ≡ false → inquiry p m ≡ goes m false inquiryBytes (byte p 4) 0 0
 unfolding inquiry
 inquiry-goes p m h = unless _ _ _ h
+
+-- ---- READ TOC
+
+pub readToc-fails : (p : List ℕ) (m : Mechanics) (t : List ℕ) → tocBad (discOf t) (formatIn p) (numberIn p) ≡ true → readToc p m t ≡ fails BadField
+unfolding readToc
+readToc-fails p m t h = when _ _ _ h
+
+pub readToc-goes :
+    (p : List ℕ) (m : Mechanics) (t : List ℕ) → tocBad (discOf t) (formatIn p) (numberIn p) ≡ false
+    → readToc p m t ≡ goes m false (tocBytes (discOf t) (formatIn p) (msfIn p) (numberIn p) (descriptors t)) (lengthIn p) 0 0
+unfolding readToc
+readToc-goes p m t h = unless _ _ _ h
 
 -- ---- READ
 
@@ -153,8 +173,8 @@ inquiry-within p m = either (λ (r : Result Mechanics). length (fullOf r) ≤ bo
 readToc-within : (p : List ℕ) (m : Mechanics) {t : List ℕ} {disc : Disc} → ReadOff t disc → length (fullOf (readToc p m t)) ≤ bound
 unfolding readToc
 readToc-within p m {t} r =
-    either (λ (x : Result Mechanics). length (fullOf x) ≤ bound) (tocBad (formatIn p) (numberIn p) t) (λ h. omega arith)
-    (λ h. tocBytes-within r (formatIn p) (msfIn p) (numberIn p) h)
+    either (λ (x : Result Mechanics). length (fullOf x) ≤ bound) (tocBad (discOf t) (formatIn p) (numberIn p)) (λ h. omega arith)
+    (λ h. tocBytes-within (discOf t) (formatIn p) (msfIn p) (numberIn p) (descriptors t) (readOff-length r))
 
 -- of a command that has what it needs
 work-within : (c : Command) (p : List ℕ) (m : Mechanics) (t : List ℕ) (disc : Disc) → (needsDisc c p ≡ true → ReadOff t disc)

@@ -1,10 +1,10 @@
 // One packet met by the drive, its lent table and its response memory.
-use crate::decode::Command;
-use crate::decode::Kind;
-use crate::decode::decode;
-use crate::decode::kind_of;
-use crate::done::Done;
 use crate::perform::perform;
+use command::decode::Command;
+use command::decode::Kind;
+use command::decode::decode;
+use command::decode::kind_of;
+use command::done::Done;
 use disc::disc::Disc;
 use disc::disc::Reading;
 use disc::disc::read;
@@ -207,7 +207,9 @@ fn unread() -> Disc
         sessions: 0,
         lead_out: 0,
         lead_flags: 0,
-        last_at: 0,
+        last_first: 0,
+        last_first_flags: 0,
+        last_first_start: 0,
     }
 }
 

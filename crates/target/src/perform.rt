@@ -1,12 +1,17 @@
 // Steps 3 to 5: what each command does once no attention stands before it.
-use crate::decode::Command;
-use crate::done::Done;
-use crate::done::Went;
-use crate::toc::read_toc;
+use crate::read_toc::read_toc;
+use command::decode::Command;
+use command::decode::needs_disc;
+use command::done::Done;
+use command::done::Went;
+use command::field::bit0;
+use command::tray::done;
+use command::tray::no_medium;
+use command::tray::prevent;
+use command::tray::start_stop;
 use disc::disc::Disc;
 use disc::track::run_is_data;
 use drive::state::Mechanics;
-use drive::state::Shifted;
 use gate::fault::Fault;
 use ground::memory::put_cut;
 use ground::number::bytes32;
@@ -16,88 +21,11 @@ ghost use mathlib.Core.Path.{_≡_};
 ghost use Prim.Native.Nat.{_≤_, _<_};
 ghost use lib.ListN.{length};
 ghost use Rattle.disc.specs.Layout.{bound};
-ghost use Rattle.target.specs.Command.{bit0, bit1, starting, needsDisc, addressIn, count10, count12};
-ghost use Rattle.target.specs.Tray.{done, moving, eject, load, startStop};
-ghost use Rattle.target.specs.TocLaws.{ReadOff};
+ghost use Rattle.command.specs.Command.{addressIn, count10, count12};
+ghost use Rattle.command.specs.Done.{doneOf};
+ghost use Rattle.target.specs.FitFacts.{ReadOff};
 ghost use Rattle.target.specs.PerformLaws.{Met, Ready};
-ghost use Rattle.target.specs.Perform.{doneOf, Performed, inquiry, readCapacity, seek, read, work, noMedium, perform};
-
-// It went well, with nothing written and no blocks named.
-fn done(m: Mechanics) -> Done
-    ensures { λ r. ⌜ r ≡ doneOf (done m) ⌝ }
-{
-    Done::Goes(Went {
-        next: m,
-        loading: false,
-        len: 0,
-        start: 0,
-        count: 0,
-    })
-}
-
-// The tray moved.
-fn moving(s: Shifted) -> Done
-    ensures { λ r. ⌜ r ≡ doneOf (moving s) ⌝ }
-{
-    let next = s.mechanics;
-    Done::Goes(Went {
-        next,
-        loading: s.loading,
-        len: 0,
-        start: 0,
-        count: 0,
-    })
-}
-
-// Bit 0 of a packet's byte.
-fn bit0(b: u8) -> bool
-    ensures { λ r. ⌜ r ≡ bit0 b ⌝ }
-{
-    wide(b) % 2 == 1
-}
-
-// Bit 1 of a packet's byte.
-fn bit1(b: u8) -> bool
-    ensures { λ r. ⌜ r ≡ bit1 b ⌝ }
-{
-    wide(b) / 2 % 2 == 1
-}
-
-// Eject: an open tray is GOOD; a closed one opens, unless locked.
-fn eject(m: Mechanics) -> Done
-    ensures { λ r. ⌜ r ≡ doneOf (eject m) ⌝ }
-{
-    if m.tray_open {
-        return done(m);
-    }
-    if m.lock {
-        return Done::Fails(Fault::RemovalPrevented);
-    }
-    moving(m.opening())
-}
-
-// Load: closes an open tray; a closed one is GOOD.
-fn load(m: Mechanics) -> Done
-    ensures { λ r. ⌜ r ≡ doneOf (load m) ⌝ }
-{
-    if m.tray_open {
-        return moving(m.closing());
-    }
-    done(m)
-}
-
-// START/STOP UNIT: with LoEj the tray moves, else nothing does.
-fn start_stop(b: u8, m: Mechanics) -> Done
-    ensures { λ r. ⌜ r ≡ doneOf (startStop b m) ⌝ }
-{
-    if bit1(b) {
-        if bit0(b) {
-            return load(m);
-        }
-        return eject(m);
-    }
-    done(m)
-}
+ghost use Rattle.target.specs.Perform.{Performed, inquiry, readCapacity, seek, read, work, perform};
 
 // INQUIRY: the 36 bytes, cut to the allocation length.
 fn inquiry(p: &[u8], m: Mechanics, mem: &mut [u8]) -> Done
@@ -206,48 +134,6 @@ fn read(a: usize, n: usize, m: Mechanics, t: &[u8], disc: Disc) -> Done
     Done::Fails(Fault::IllegalMode)
 }
 
-// LoEj 0 and Start 1.
-fn starting(p: &[u8]) -> bool
-    requires { ⌜ length (now p) ≡ 12 ⌝ }
-    ensures { λ r. ⌜ r ≡ starting (now (p .entry)) ⌝ }
-{
-    let b = p[4];
-    if bit1(b) {
-        return false;
-    }
-    bit0(b)
-}
-
-// The command needs a disc.
-fn needs_disc(c: Command, p: &[u8]) -> bool
-    requires { ⌜ length (now p) ≡ 12 ⌝ }
-    ensures { λ r. ⌜ r ≡ needsDisc c (now (p .entry)) ⌝ }
-{
-    match c {
-        Command::TestUnitReady => true,
-        Command::RequestSense => false,
-        Command::Inquiry => false,
-        Command::StartStop => starting(p),
-        Command::Prevent => false,
-        Command::ReadCapacity => true,
-        Command::Read10 => true,
-        Command::Seek => true,
-        Command::ReadToc => true,
-        Command::Read12 => true,
-        Command::Unknown => false,
-    }
-}
-
-// No medium: the tray tells which.
-fn no_medium(m: Mechanics) -> Fault
-    ensures { λ r. ⌜ r ≡ noMedium m ⌝ }
-{
-    if m.tray_open {
-        return Fault::NoMediumOpen;
-    }
-    Fault::NoMediumClosed
-}
-
 // READ(10).
 fn read10(p: &[u8], m: Mechanics, t: &[u8], disc: Disc) -> Done
     requires { ⌜ ReadOff (now t) disc × (length (now p) ≡ 12) ⌝ }
@@ -276,7 +162,7 @@ fn work(c: Command, p: &[u8], m: Mechanics, t: &[u8], disc: Disc, mem: &mut [u8]
         Command::RequestSense => done(m),
         Command::Inquiry => inquiry(p, m, mem),
         Command::StartStop => start_stop(p[4], m),
-        Command::Prevent => done(m.with_lock(bit0(p[4]))),
+        Command::Prevent => prevent(p[4], m),
         Command::ReadCapacity => read_capacity(m, disc, mem),
         Command::Read10 => read10(p, m, t, disc),
         Command::Seek => seek(word32(p[2], p[3], p[4], p[5]), m, disc),
@@ -298,7 +184,7 @@ pub(crate) fn perform(
     requires { ⌜ Ready m (now p) (now t) disc (now mem) ⌝ }
     ensures { λ r. ⌜ Performed (perform c (now (p .entry)) m (now (t .entry))) (now (mem .entry)) r (now (mem .exit)) ⌝ }
 {
-    if needs_disc(c, p) {
+    if needs_disc(c, p[4]) {
         if m.is_loaded() {
             return work(c, p, m, t, disc, mem);
         }

@@ -8,6 +8,7 @@ use Rattle.disc.specs.SessionLaws.{size-least}
 use Rattle.disc.specs.Rules.{leadOut}
 use Rattle.disc.specs.RulesLaws.{Fit, isFit-true, fit-sized, fit-starts, fit-last}
 use Rattle.disc.specs.PartLaws.{rest-rest}
+use Rattle.disc.specs.Layout.{addressAt}
 use Rattle.disc.specs.Disc.{lastPart}
 use borrow.Author.Needs.{needs}
 use Rattle.disc.proofs.disc.disc_of.Statement.{statement}
@@ -73,8 +74,32 @@ add-t18 c = search needs
 shared-slice-read-t20 : tie.Need-shared-slice-read-t20
 shared-slice-read-t20 c = rw rest-rest (let l = long (c .before .before .before .before .before .before .before) in omega arith)
 
+mul-t21 : tie.Need-mul-t21
+mul-t21 c = search needs
+
+add-t22 : tie.Need-add-t22
+add-t22 c = search needs
+
+shared-slice-read-t24 : tie.Need-shared-slice-read-t24
+shared-slice-read-t24 c = rw rest-rest (let l = long (c .before .before .before .before .before .before .before .before) in omega arith)
+
+mul-t25 : tie.Need-mul-t25
+mul-t25 c = search needs
+
+add-t26 : tie.Need-add-t26
+add-t26 c = search needs
+
+shared-slice-read-t28 : tie.Need-shared-slice-read-t28
+shared-slice-read-t28 c = rw rest-rest (let l = long (c .before .before .before .before .before .before .before .before .before) in omega arith)
+
+address-at-requires-2 : tie.Need-address-at-requires-2
+address-at-requires-2 c κs = rw rest-rest (let l = long (c .before .before .before .before .before .before .before .before .before) in omega arith)
+
 returns : tie.Need-returns
-returns c = let e : c .before .address-at .result ≡ leadOut (lastPart (c .before .before .before .before .before .before .before .before .args .t .now)) = rw (rest-rest, c .before .before .before .before .before .before .before .before .pre .1) at (c .before .address-at .ensures) in rw (rest-rest, rest-all, c .before .before .before .before .before .before .before .before .pre .1, e)
+returns c = let q = c .before .before .before .before .before .before .before .before .before .before .before .pre .1 in
+    let l : c .before .before .before .before .address-at .result ≡ leadOut (lastPart (c .before .before .before .before .before .before .before .before .before .before .before .args .t .now)) = rw (rest-rest, q) at (c .before .before .before .before .address-at .ensures) in
+    let e : c .address-at2 .result ≡ addressAt (lastPart (c .before .before .before .before .before .before .before .before .before .before .before .args .t .now)) 3 = rw (rest-rest, q) at (c .address-at2 .ensures) in
+    rw (rest-rest, rest-all, q, l, e)
 
 pub disc-of-spec : {M : Type 1} → statement M
 disc-of-spec =
@@ -94,4 +119,11 @@ disc-of-spec =
     mul-t17
     add-t18
     shared-slice-read-t20
+    mul-t21
+    add-t22
+    shared-slice-read-t24
+    mul-t25
+    add-t26
+    shared-slice-read-t28
+    address-at-requires-2
     returns)

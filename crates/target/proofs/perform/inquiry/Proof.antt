@@ -10,7 +10,7 @@ use Rattle.target.proofs.perform.inquiry.Reads as reads
 use Rattle.target.proofs.perform.inquiry.Lts as lts
 use Rattle.ground.proofs.memory.put_cut.Reads as put-cut-reads
 use Rattle.ground.proofs.number.wide.Reads as wide-reads
-use Rattle.target.proofs.perform.bit0.Reads as bit0-reads
+use Rattle.command.proofs.field.bit0.Reads as bit0-reads
 
 shared-slice-read-bit0 : tie.Need-shared-slice-read-bit0
 shared-slice-read-bit0 c = search needs

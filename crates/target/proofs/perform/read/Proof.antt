@@ -1,6 +1,6 @@
 -- `target::perform::read` meets its contract: range, then track mode; in a fit table the run test is that of every block.
 use mathlib.Core.Path.{sym, ap, _∙_}
-use Rattle.target.specs.Perform.{doneOf}
+use Rattle.command.specs.Done.{doneOf}
 use Rattle.target.specs.PerformLaws.{readOff-leads, read-over, read-past, read-goes, read-mode}
 use borrow.Author.Needs.{needs}
 use Rattle.target.proofs.perform.read.Statement.{statement}

@@ -2,7 +2,7 @@
 use mathlib.Core.Path.{_∙_}
 use native.Mathlib.Nat.{zero-add}
 use denote.Ref.{now}
-use Rattle.target.specs.Command.{count10}
+use Rattle.command.specs.Command.{count10}
 use borrow.Author.Needs.{needs}
 use Rattle.target.proofs.perform.read10.Statement.{statement}
 use Rattle.target.proofs.perform.read10.Tie as tie

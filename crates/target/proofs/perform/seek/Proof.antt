@@ -2,13 +2,14 @@
 use mathlib.Core.Path.{sym, ap, _∙_}
 use borrow.Author.Tests.{lt-ltb, le-ltb}
 use Rattle.ground.specs.Tests.{when, unless}
-use Rattle.target.specs.Perform.{doneOf, seek}
+use Rattle.command.specs.Done.{doneOf}
+use Rattle.target.specs.Perform.{seek}
 use borrow.Author.Needs.{needs}
 use Rattle.target.proofs.perform.seek.Statement.{statement}
 use Rattle.target.proofs.perform.seek.Tie as tie
 use Rattle.target.proofs.perform.seek.Reads as reads
 use Rattle.target.proofs.perform.seek.Lts as lts
-use Rattle.target.proofs.perform.done.Reads as done-reads
+use Rattle.command.proofs.tray.done.Reads as done-reads
 
 sub-if1 : tie.Need-sub-if1
 sub-if1 c = search needs

@@ -1,30 +1,25 @@
 -- `target::perform::work` meets its contract: each arm's function performs what the definition says of its command, and a command
 -- that needs a disc has one read off a fit table.
-use mathlib.Core.Path.{refl, ap, _∙_}
+use mathlib.Core.Path.{refl, ap}
 use denote.Ref.{now}
-use Rattle.drive.specs.declared.state.Mechanics.{Mechanics}
-use Rattle.drive.specs.State.{withLock}
-use Rattle.target.specs.declared.decode.Command.{Command}
-use Rattle.target.specs.Command.{needsDisc}
-use Rattle.target.specs.Tray.{done}
-use Rattle.target.specs.Perform.{doneOf}
+use Rattle.command.specs.declared.decode.Command.{Command}
+use Rattle.command.specs.Command.{needsDisc}
 use Rattle.target.specs.PerformLaws.{readOff-leads, readOff-least, performed-fails, performed-quiet, startStop-quiet, seek-quiet, read-quiet}
 use borrow.Author.Needs.{needs}
 use Rattle.target.proofs.perform.work.Statement.{statement}
 use Rattle.target.proofs.perform.work.Tie as tie
 use Rattle.target.proofs.perform.work.Reads as reads
 use Rattle.target.proofs.perform.work.Lts as lts
-use Rattle.drive.proofs.state.Mechanics.with_lock.Reads as with-lock-reads
 use Rattle.ground.proofs.number.word32.Reads as word32-reads
-use Rattle.target.proofs.perform.bit0.Reads as bit0-reads
-use Rattle.target.proofs.perform.done.Reads as done-reads
+use Rattle.command.proofs.tray.prevent.Reads as prevent-reads
+use Rattle.command.proofs.tray.done.Reads as done-reads
 use Rattle.target.proofs.perform.inquiry.Reads as inquiry-reads
 use Rattle.target.proofs.perform.read10.Reads as read10-reads
 use Rattle.target.proofs.perform.read12.Reads as read12-reads
 use Rattle.target.proofs.perform.read_capacity.Reads as read-capacity-reads
 use Rattle.target.proofs.perform.seek.Reads as seek-reads
-use Rattle.target.proofs.perform.start_stop.Reads as start-stop-reads
-use Rattle.target.proofs.toc.read_toc.Reads as read-toc-reads
+use Rattle.command.proofs.tray.start_stop.Reads as start-stop-reads
+use Rattle.target.proofs.read_toc.read_toc.Reads as read-toc-reads
 
 enum-told : tie.Need-enum-told
 enum-told c = search needs
@@ -56,17 +51,11 @@ start-stop-requires c κs = search needs
 enum-told-5 : tie.Need-enum-told-5
 enum-told-5 c = search needs
 
-shared-slice-read-bit0 : tie.Need-shared-slice-read-bit0
-shared-slice-read-bit0 c = search needs
+shared-slice-read-prevent : tie.Need-shared-slice-read-prevent
+shared-slice-read-prevent c = search needs
 
-bit0-requires : tie.Need-bit0-requires
-bit0-requires c κs = search needs
-
-with-lock-requires : tie.Need-with-lock-requires
-with-lock-requires c κs = search needs
-
-done-requires-3 : tie.Need-done-requires-3
-done-requires-3 c κs = search needs
+prevent-requires : tie.Need-prevent-requires
+prevent-requires c κs = search needs
 
 enum-told-6 : tie.Need-enum-told-6
 enum-told-6 c = search needs
@@ -132,8 +121,7 @@ returns-4 : tie.Need-returns-4
 returns-4 c = rw (c .before .before .enum-told4 .given .1) (performed-quiet _ (startStop-quiet _ _) (c .start-stop .ensures))
 
 returns-5 : tie.Need-returns-5
-returns-5 c = let l = c .before .with-lock .ensures ∙ ap (withLock (c .before .before .before .before .before .before .before .before .before .args .m)) (c .before .before .bit0 .ensures) in
-    rw (c .before .before .before .before .enum-told5 .given .1) (performed-quiet _ refl (c .done3 .ensures ∙ ap (λ (k : Mechanics). doneOf (done k)) l))
+returns-5 c = rw (c .before .before .enum-told5 .given .1) (performed-quiet _ refl (c .prevent .ensures))
 
 same-length-2 : tie.Need-same-length-2
 same-length-2 c = search needs
@@ -174,10 +162,8 @@ work-spec =
     shared-slice-read-start-stop
     start-stop-requires
     enum-told-5
-    shared-slice-read-bit0
-    bit0-requires
-    with-lock-requires
-    done-requires-3
+    shared-slice-read-prevent
+    prevent-requires
     enum-told-6
     read-capacity-requires
     enum-told-7

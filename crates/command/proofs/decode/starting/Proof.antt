@@ -1,0 +1,28 @@
+-- `command::decode::starting` meets its contract: LoEj decides first, then Start.
+use mathlib.Core.Path.{sym, _∙_}
+use Rattle.ground.specs.Tests.{_and_}
+use borrow.Author.Needs.{needs}
+use Rattle.command.proofs.decode.starting.Statement.{statement}
+use Rattle.command.proofs.decode.starting.Tie as tie
+use Rattle.command.proofs.decode.starting.Reads as reads
+use Rattle.command.proofs.decode.starting.Lts as lts
+use Rattle.command.proofs.field.bit0.Reads as bit0-reads
+use Rattle.command.proofs.field.bit1.Reads as bit1-reads
+
+bit1-requires : tie.Need-bit1-requires
+bit1-requires c κs = search needs
+
+returns : tie.Need-returns
+unfolding _and_
+returns c = rw (sym (c .before .bit1 .ensures) ∙ c .if1 .taken)
+
+bit0-requires : tie.Need-bit0-requires
+bit0-requires c κs = search needs
+
+returns-2 : tie.Need-returns-2
+unfolding _and_
+returns-2 c = c .bit0 .ensures ∙ rw (sym (c .before .before .bit1 .ensures) ∙ c .before .if1 .left)
+
+pub starting-spec : {M : Type 1} → statement M
+starting-spec =
+    tie.close (tie.spec bit1-requires returns bit0-requires returns-2)

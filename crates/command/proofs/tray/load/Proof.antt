@@ -1,0 +1,34 @@
+-- `command::tray::load` meets its contract: the tray is tested as in the definition.
+use mathlib.Core.Path.{sym, ap, _∙_}
+use Rattle.ground.specs.Tests.{when, unless}
+use Rattle.drive.specs.declared.state.Shifted.{Shifted}
+use Rattle.command.specs.Done.{doneOf}
+use Rattle.command.specs.Tray.{moving, load}
+use borrow.Author.Needs.{needs}
+use Rattle.command.proofs.tray.load.Statement.{statement}
+use Rattle.command.proofs.tray.load.Tie as tie
+use Rattle.command.proofs.tray.load.Reads as reads
+use Rattle.command.proofs.tray.load.Lts as lts
+use Rattle.drive.proofs.state.Mechanics.closing.Reads as closing-reads
+use Rattle.command.proofs.tray.done.Reads as done-reads
+use Rattle.command.proofs.tray.moving.Reads as moving-reads
+
+closing-requires : tie.Need-closing-requires
+closing-requires c κs = search needs
+
+moving-requires : tie.Need-moving-requires
+moving-requires c κs = search needs
+
+returns : tie.Need-returns
+unfolding load
+returns c = c .moving .ensures ∙ ap (λ (s : Shifted). doneOf (moving s)) (c .before .closing .ensures) ∙ ap doneOf (sym (when _ _ _ (c .before .before .if1 .taken)))
+
+done-requires : tie.Need-done-requires
+done-requires c κs = search needs
+
+returns-2 : tie.Need-returns-2
+unfolding load
+returns-2 c = c .done .ensures ∙ ap doneOf (sym (unless _ _ _ (c .before .if1 .left)))
+
+pub load-spec : {M : Type 1} → statement M
+load-spec = tie.close (tie.spec closing-requires moving-requires returns done-requires returns-2)

@@ -1,0 +1,55 @@
+-- `command::tray::start_stop` meets its contract: LoEj and Start are tested in the definition's order.
+use mathlib.Core.Path.{sym, ap, _∙_}
+use Rattle.ground.specs.Tests.{when, unless}
+use Rattle.command.specs.Done.{doneOf}
+use Rattle.command.specs.Tray.{startStop}
+use borrow.Author.Needs.{needs}
+use Rattle.command.proofs.tray.start_stop.Statement.{statement}
+use Rattle.command.proofs.tray.start_stop.Tie as tie
+use Rattle.command.proofs.tray.start_stop.Reads as reads
+use Rattle.command.proofs.tray.start_stop.Lts as lts
+use Rattle.command.proofs.field.bit0.Reads as bit0-reads
+use Rattle.command.proofs.field.bit1.Reads as bit1-reads
+use Rattle.command.proofs.tray.done.Reads as done-reads
+use Rattle.command.proofs.tray.eject.Reads as eject-reads
+use Rattle.command.proofs.tray.load.Reads as load-reads
+
+bit1-requires : tie.Need-bit1-requires
+bit1-requires c κs = search needs
+
+bit0-requires : tie.Need-bit0-requires
+bit0-requires c κs = search needs
+
+load-requires : tie.Need-load-requires
+load-requires c κs = search needs
+
+returns : tie.Need-returns
+unfolding startStop
+returns c = c .load .ensures ∙ ap doneOf (sym (when _ _ _ (sym (c .before .before .before .before .bit1 .ensures) ∙ c .before .before .before .if1 .taken) ∙ when _ _ _ (sym (c .before .before .bit0 .ensures) ∙ c .before .if2 .taken)))
+
+eject-requires : tie.Need-eject-requires
+eject-requires c κs = search needs
+
+returns-2 : tie.Need-returns-2
+unfolding startStop
+returns-2 c = c .eject .ensures ∙ ap doneOf (sym (when _ _ _ (sym (c .before .before .before .before .bit1 .ensures) ∙ c .before .before .before .if1 .taken) ∙ unless _ _ _ (sym (c .before .before .bit0 .ensures) ∙ c .before .if2 .left)))
+
+done-requires : tie.Need-done-requires
+done-requires c κs = search needs
+
+returns-3 : tie.Need-returns-3
+unfolding startStop
+returns-3 c = c .done .ensures ∙ ap doneOf (sym (unless _ _ _ (sym (c .before .before .bit1 .ensures) ∙ c .before .if1 .left)))
+
+pub start-stop-spec : {M : Type 1} → statement M
+start-stop-spec =
+    tie.close
+    (tie.spec
+    bit1-requires
+    bit0-requires
+    load-requires
+    returns
+    eject-requires
+    returns-2
+    done-requires
+    returns-3)

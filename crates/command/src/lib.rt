@@ -1,0 +1,5 @@
+// The commands by operation code, and those that look at the drive alone.
+pub mod decode;
+pub mod done;
+pub mod field;
+pub mod tray;

@@ -1,0 +1,89 @@
+-- `target::read_toc::read_toc` meets its contract: the field checks decide, and what they let pass is laid, cut to the allocation length.
+use mathlib.Core.Path.{_≡_, sym, ap, _∙_}
+use native.Mathlib.Omega.{arith}
+use denote.Ref.{now}
+use Rattle.ground.specs.Memory.{rest-all}
+use Rattle.disc.specs.declared.disc.Disc.{Disc}
+use Rattle.disc.specs.Layout.{descriptors}
+use Rattle.disc.specs.Disc.{discOf}
+use Rattle.toc.specs.declared.answer.TocAsk.{TocAsk}
+use Rattle.toc.specs.Answer.{tocBad}
+use Rattle.toc.specs.AnswerLaws.{tocBytes-within}
+use Rattle.target.specs.ReadToc.{formatIn, msfIn, numberIn}
+use Rattle.target.specs.PerformLaws.{performed-fails, performed-goes, readOff-length, readToc-fails, readToc-goes}
+use borrow.Author.Needs.{needs}
+use Rattle.target.proofs.read_toc.read_toc.Statement.{statement}
+use Rattle.target.proofs.read_toc.read_toc.Tie as tie
+use Rattle.target.proofs.read_toc.read_toc.Reads as reads
+use Rattle.target.proofs.read_toc.read_toc.Lts as lts
+use Rattle.ground.proofs.number.word16.Reads as word16-reads
+use Rattle.target.proofs.read_toc.toc_ask.Reads as toc-ask-reads
+use Rattle.toc.proofs.answer.put_toc.Reads as put-toc-reads
+use Rattle.toc.proofs.answer.toc_bad.Reads as toc-bad-reads
+
+-- what the field checks say
+told :
+    (c : tie.After-toc-bad)
+    → c .toc-bad .result ≡ tocBad (discOf (now (c .before .before .before .before .before .args .t))) (formatIn (now (c .before .before .before .before .before .args .p))) (numberIn (now (c .before .before .before .before .before .args .p)))
+told c =
+    let x = c .before .before .before .before .before .args in
+    c .toc-bad .ensures
+    ∙ ap (λ (a : TocAsk). tocBad (x .disc) (a .format) (a .number)) (c .before .toc-ask .ensures)
+    ∙ ap (λ (d : Disc). tocBad d (formatIn (now (x .p))) (numberIn (now (x .p)))) (c .before .before .before .before .before .pre .0 .same)
+
+toc-ask-requires : tie.Need-toc-ask-requires
+toc-ask-requires c κs = search needs
+
+toc-bad-requires : tie.Need-toc-bad-requires
+toc-bad-requires c κs = search needs
+
+returns : tie.Need-returns
+returns c = performed-fails _ (readToc-fails _ _ _ (sym (told (c .before)) ∙ c .if1 .taken))
+
+sub-put-toc : tie.Need-sub-put-toc
+sub-put-toc c = let h = c .before .before .before .before .before .before .pre .0 .fits .head in search needs
+
+part-put-toc-start : tie.Need-part-put-toc-start
+part-put-toc-start c = let h = c .before .before .before .before .before .before .pre .0 .fits .head in search needs
+
+part-put-toc-end : tie.Need-part-put-toc-end
+part-put-toc-end c = search needs
+
+shared-slice-read-word16 : tie.Need-shared-slice-read-word16
+shared-slice-read-word16 c = search needs
+
+shared-slice-read-word16-2 : tie.Need-shared-slice-read-word16-2
+shared-slice-read-word16-2 c = search needs
+
+word16-requires : tie.Need-word16-requires
+word16-requires c κs = search needs
+
+put-toc-requires : tie.Need-put-toc-requires
+put-toc-requires c κs = search needs
+
+same-length : tie.Need-same-length
+same-length c = search needs
+
+returns-2 : tie.Need-returns-2
+returns-2 c = let x = c .before .before .before .before .before .before .before .before .before .before .before .before .before .before .args in
+    let q = c .before .before .before .before .before .before .before .before .before .before .before .before .before .before .pre in
+    let w = tocBytes-within (discOf (now (x .t))) (formatIn (now (x .p))) (msfIn (now (x .p))) (numberIn (now (x .p))) (descriptors (now (x .t))) (readOff-length (q .0)) in
+    performed-goes _ (readToc-goes _ _ _ (sym (told (c .before .before .before .before .before .before .before .before .before)) ∙ c .before .before .before .before .before .before .before .before .if1 .left)) (let b = q .2 in omega arith)
+    (rw (c .before .before .before .before .before .before .before .before .before .before .toc-ask .ensures, c .before .before .before .before .word16 .ensures, q .0 .same, rest-all 4 (now (x .t))) at (c .before .before .put-toc .ensures))
+
+pub read-toc-spec : {M : Type 1} → statement M
+read-toc-spec =
+    tie.close
+    (tie.spec
+    toc-ask-requires
+    toc-bad-requires
+    returns
+    sub-put-toc
+    part-put-toc-start
+    part-put-toc-end
+    shared-slice-read-word16
+    shared-slice-read-word16-2
+    word16-requires
+    put-toc-requires
+    same-length
+    returns-2)

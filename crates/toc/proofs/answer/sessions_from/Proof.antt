@@ -1,0 +1,52 @@
+-- `toc::answer::sessions_from` meets its contract: a part that would begin past the end is empty, and so is the one at the end.
+use mathlib.Core.Path.{ap, _∙_}
+use Prim.Native.Nat.{ℕ, min}
+use denote.Ref.{now}
+use lib.ListN.{length, drop}
+use Rattle.ground.specs.Memory.{rest-all}
+use Rattle.disc.specs.Session.{starts}
+use Rattle.toc.specs.AnswerLaws.{drop-held}
+use borrow.Author.Needs.{needs}
+use Rattle.toc.proofs.answer.sessions_from.Statement.{statement}
+use Rattle.toc.proofs.answer.sessions_from.Tie as tie
+use Rattle.toc.proofs.answer.sessions_from.Reads as reads
+use Rattle.toc.proofs.answer.sessions_from.Lts as lts
+use Rattle.disc.proofs.session.starts_after.Reads as starts-after-reads
+use Rattle.toc.proofs.answer.sessions_before.Reads as sessions-before-reads
+use Rattle.toc.proofs.answer.smaller.Reads as smaller-reads
+
+sessions-before-requires : tie.Need-sessions-before-requires
+sessions-before-requires c κs = search needs
+
+starts-after-requires : tie.Need-starts-after-requires
+starts-after-requires c κs = search needs
+
+smaller-requires : tie.Need-smaller-requires
+smaller-requires c κs = search needs
+
+sub-result : tie.Need-sub-result
+sub-result c = search needs
+
+part-result-start : tie.Need-part-result-start
+part-result-start c = search needs
+
+part-result-end : tie.Need-part-result-end
+part-result-end c = search needs
+
+returns : tie.Need-returns
+returns c = let d = now (c .before .before .before .before .before .args .d) in
+    rest-all _ d
+    ∙ ap (λ (k : ℕ). drop k d) (c .before .smaller .ensures ∙ ap (λ (k : ℕ). min k (length d)) (c .before .before .starts-after .ensures ∙ ap (starts d) (c .before .before .before .sessions-before .ensures)))
+    ∙ drop-held _ d
+
+pub sessions-from-spec : {M : Type 1} → statement M
+sessions-from-spec =
+    tie.close
+    (tie.spec
+    sessions-before-requires
+    starts-after-requires
+    smaller-requires
+    sub-result
+    part-result-start
+    part-result-end
+    returns)

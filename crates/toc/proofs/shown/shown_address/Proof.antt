@@ -1,0 +1,55 @@
+-- `toc::shown::shown_address` meets its contract: each case of the conversion's answer shows that answer's three numbers.
+use mathlib.Core.Path.{sym, ap, _∙_}
+use mathlib.Core.List.{List, [], _∷_}
+use Prim.Native.Nat.{ℕ}
+use Rattle.ground.specs.Tests.{when, unless}
+use Rattle.address.specs.Address.{MsfAnswer, msfMeaning}
+use Rattle.toc.specs.Shown.{shownAddress}
+use borrow.Author.Needs.{needs}
+use Rattle.toc.proofs.shown.shown_address.Statement.{statement}
+use Rattle.toc.proofs.shown.shown_address.Tie as tie
+use Rattle.toc.proofs.shown.shown_address.Reads as reads
+use Rattle.toc.proofs.shown.shown_address.Lts as lts
+use Rattle.address.proofs.to_msf.Reads as to-msf-reads
+use Rattle.ground.proofs.number.bytes32.Reads as bytes32-reads
+
+fields : MsfAnswer → List ℕ
+fields r = 0 ∷ r .minute ∷ r .second ∷ r .frame ∷ []
+
+to-msf-requires : tie.Need-to-msf-requires
+to-msf-requires c κs = search needs
+
+enum-known-minute : tie.Need-enum-known-minute
+enum-known-minute c = search needs
+
+enum-told : tie.Need-enum-told
+enum-told c = search needs
+
+returns : tie.Need-returns
+unfolding shownAddress fields
+returns c = let e = sym (c .before .before .before .to-msf .ensures) ∙ ap msfMeaning (c .before .minute .given .1) in
+    sym (when _ _ _ (c .before .before .before .before .if1 .taken) ∙ ap fields e)
+
+returns-2 : tie.Need-returns-2
+unfolding shownAddress fields
+returns-2 c = let e = sym (c .before .before .to-msf .ensures) ∙ ap msfMeaning (c .enum-told .given .1) in
+    sym (when _ _ _ (c .before .before .before .if1 .taken) ∙ ap fields e)
+
+bytes32-requires : tie.Need-bytes32-requires
+bytes32-requires c κs = search needs
+
+returns-3 : tie.Need-returns-3
+unfolding shownAddress
+returns-3 c = c .bytes32 .ensures ∙ sym (unless _ _ _ (c .before .if1 .left))
+
+pub shown-address-spec : {M : Type 1} → statement M
+shown-address-spec =
+    tie.close
+    (tie.spec
+    to-msf-requires
+    enum-known-minute
+    enum-told
+    returns
+    returns-2
+    bytes32-requires
+    returns-3)
