@@ -6,10 +6,6 @@ pub mod RulesLaws
 pub mod FitLaws
 pub mod Part
 pub mod PartLaws
-pub mod Track
-pub mod TrackLaws
-pub mod RunLaws
-pub mod SpreadLaws
 pub mod Disc
 pub mod DiscLaws
 pub mod Walk

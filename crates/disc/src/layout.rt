@@ -48,7 +48,7 @@ pub(crate) fn address_at(d: &[u8], j: usize) -> usize
 }
 
 // POINT p is a track's number.
-pub(crate) fn is_track(p: usize) -> bool
+pub fn is_track(p: usize) -> bool
     ensures { λ r. ⌜ r ≡ isTrack p ⌝ }
 {
     if 1 <= p {

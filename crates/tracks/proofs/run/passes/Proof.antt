@@ -1,0 +1,46 @@
+-- `tracks::run::passes` meets its contract: each way out is one law of the definition, and start - a < n says start < a + n.
+use mathlib.Core.Path.{sym, ap, _∙_}
+use native.Mathlib.Omega.{arith}
+use Rattle.disc.specs.Layout.{isTrack}
+use Rattle.tracks.specs.RunLaws.{passes-before, passes-past, passes-track, passes-other}
+use borrow.Author.Needs.{needs}
+use Rattle.tracks.proofs.run.passes.Statement.{statement}
+use Rattle.tracks.proofs.run.passes.Tie as tie
+use Rattle.tracks.proofs.run.passes.Reads as reads
+use Rattle.tracks.proofs.run.passes.Lts as lts
+use Rattle.disc.proofs.layout.is_track.Reads as is-track-reads
+use Rattle.ground.proofs.number.wide.Reads as wide-reads
+use Rattle.tracks.proofs.track.is_data.Reads as is-data-reads
+
+returns : tie.Need-returns
+returns c = sym (passes-before _ _ _ (c .if1 .taken))
+
+returns-2 : tie.Need-returns-2
+returns-2 c = sym (passes-past _ _ _ (omega arith))
+
+wide-requires : tie.Need-wide-requires
+wide-requires c κs = search needs
+
+is-track-requires : tie.Need-is-track-requires
+is-track-requires c κs = search needs
+
+is-data-requires : tie.Need-is-data-requires
+is-data-requires c κs = search needs
+
+returns-3 : tie.Need-returns-3
+returns-3 c = c .is-data .ensures ∙ sym (passes-track _ _ _ (omega arith) (omega arith) (ap isTrack (sym (c .before .before .before .wide .ensures .same)) ∙ sym (c .before .before .is-track .ensures) ∙ c .before .if3 .taken))
+
+returns-4 : tie.Need-returns-4
+returns-4 c = sym (passes-other _ _ _ (omega arith) (omega arith) (ap isTrack (sym (c .before .before .before .wide .ensures .same)) ∙ sym (c .before .before .is-track .ensures) ∙ c .before .if3 .left))
+
+pub passes-spec : {M : Type 1} → statement M
+passes-spec =
+    tie.close
+    (tie.spec
+    returns
+    returns-2
+    wide-requires
+    is-track-requires
+    is-data-requires
+    returns-3
+    returns-4)

@@ -1,0 +1,16 @@
+-- `tracks::track::is_data` meets its contract: the byte is the number that it writes.
+use borrow.Author.Needs.{needs}
+use Rattle.tracks.proofs.track.is_data.Statement.{statement}
+use Rattle.tracks.proofs.track.is_data.Tie as tie
+use Rattle.tracks.proofs.track.is_data.Reads as reads
+use Rattle.tracks.proofs.track.is_data.Lts as lts
+use Rattle.ground.proofs.number.wide.Reads as wide-reads
+
+wide-requires : tie.Need-wide-requires
+wide-requires c κs = search needs
+
+returns : tie.Need-returns
+returns c = rw (c .wide .ensures .same)
+
+pub is-data-spec : {M : Type 1} → statement M
+is-data-spec = tie.close (tie.spec wide-requires returns)

@@ -1,0 +1,49 @@
+-- `tracks::track::wanted` meets its contract: a descriptor that is no track is not wanted, and of a track the test decides that goes with what it is asked for by.
+use mathlib.Core.Path.{sym, ap, _∙_}
+use Rattle.disc.specs.Layout.{isTrack}
+use Rattle.tracks.specs.TrackLaws.{wanted-not, wanted-block, wanted-number}
+use borrow.Author.Needs.{needs}
+use Rattle.tracks.proofs.track.wanted.Statement.{statement}
+use Rattle.tracks.proofs.track.wanted.Tie as tie
+use Rattle.tracks.proofs.track.wanted.Reads as reads
+use Rattle.tracks.proofs.track.wanted.Lts as lts
+use Rattle.disc.proofs.layout.is_track.Reads as is-track-reads
+use Rattle.ground.proofs.number.wide.Reads as wide-reads
+use Rattle.tracks.proofs.track.covers.Reads as covers-reads
+
+wide-requires : tie.Need-wide-requires
+wide-requires c κs = search needs
+
+is-track-requires : tie.Need-is-track-requires
+is-track-requires c κs = search needs
+
+enum-known-ask : tie.Need-enum-known-ask
+enum-known-ask c = search needs
+
+covers-requires : tie.Need-covers-requires
+covers-requires c κs = search needs
+
+enum-known-ask-2 : tie.Need-enum-known-ask-2
+enum-known-ask-2 c = search needs
+
+returns : tie.Need-returns
+returns c = rw (c .covers .ensures, c .before .before .ask .given .1) (wanted-block _ _ _ (ap isTrack (sym (c .before .before .before .before .before .before .wide .ensures .same)) ∙ sym (c .before .before .before .before .before .is-track .ensures) ∙ c .before .before .before .before .if1 .taken))
+
+returns-2 : tie.Need-returns-2
+returns-2 c = rw (c .before .before .ask2 .given .1) (wanted-number _ _ _ (ap isTrack (sym (c .before .before .before .before .before .before .wide .ensures .same)) ∙ sym (c .before .before .before .before .before .is-track .ensures) ∙ c .before .before .before .before .if1 .taken))
+
+returns-3 : tie.Need-returns-3
+returns-3 c = wanted-not _ _ _ (ap isTrack (sym (c .before .before .wide .ensures .same)) ∙ sym (c .before .is-track .ensures) ∙ c .if1 .left)
+
+pub wanted-spec : {M : Type 1} → statement M
+wanted-spec =
+    tie.close
+    (tie.spec
+    wide-requires
+    is-track-requires
+    enum-known-ask
+    covers-requires
+    enum-known-ask-2
+    returns
+    returns-2
+    returns-3)

@@ -1,0 +1,4 @@
+pub mod Track
+pub mod TrackLaws
+pub mod RunLaws
+pub mod SpreadLaws
