@@ -10,9 +10,9 @@ use Rattle.disc.specs.Session.{tracks, session}
 use Rattle.disc.specs.SessionLaws.{rowsBefore}
 use Rattle.disc.specs.Rules.{leadOut}
 use Rattle.disc.specs.RulesLaws.{Fit}
-use Rattle.disc.specs.Track.{isData, outAt, noTrack, trackAt, trackOf, inData, allInData, runIsData}
-use Rattle.disc.specs.TrackLaws.{Greatest, trackOf-of, trackOf-no, only-greatest}
-use Rattle.disc.specs.SpreadLaws.{fit-spread, fit-out, fit-run-agrees}
+use Rattle.tracks.specs.Track.{isData, outAt, noTrack, trackAt, trackOf, inData, allInData, runIsData}
+use Rattle.tracks.specs.TrackLaws.{Greatest, trackOf-of, trackOf-no, only-greatest}
+use Rattle.tracks.specs.SpreadLaws.{fit-spread, fit-out, fit-run-agrees}
 
 -- among the descriptors d, i is the track with the greatest start not above block b
 pub record NotAbove (d : List ℕ) (b i : ℕ) : Type 0 where

@@ -13,7 +13,7 @@ use Rattle.drive.specs.Unit.{attend}
 use Rattle.disc.specs.Layout.{addressAt, isTrack}
 use Rattle.disc.specs.Session.{size, names, listed, isSession, starts, before, follows, inPlace, inOrder}
 use Rattle.disc.specs.Rules.{rule1, rule2, plain, headA0, headed, addressed, rowTest, rises, outBefore, beginsAfter, rising, rule7, firstBroken, lateRules, rowRules, fault, isFit}
-use Rattle.disc.specs.Track.{nextOut, outAt, covers, wanted, nextFound, found, trackOf, inData, allInData}
+use Rattle.tracks.specs.Track.{nextOut, outAt, covers, wanted, nextFound, found, trackOf, inData, allInData}
 use Rattle.gate.specs.Unit.{pendingOf}
 use Rattle.gate.specs.Gate.{gate}
 use Rattle.command.specs.Command.{decode}

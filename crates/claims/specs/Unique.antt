@@ -30,14 +30,14 @@ use Rattle.gate.specs.declared.unit.Giving.{Giving}
 use Rattle.gate.specs.Gate.{Reply}
 use Rattle.gate.specs.Fault.{senseOf}
 use Rattle.gate.specs.Unit.{hold, clear, pendingOf, told, attentionSense, give}
-use Rattle.disc.specs.declared.track.Track.{Track}
+use Rattle.tracks.specs.declared.track.Track.{Track}
 use Rattle.disc.specs.declared.disc.Disc.{Disc}
 use Rattle.disc.specs.declared.disc.Reading.{Reading}
-use Rattle.disc.specs.Layout.{descriptors}
+use Rattle.disc.specs.Layout.{descriptors, isTrack}
 use Rattle.disc.specs.Session.{starts}
 use Rattle.disc.specs.Rules.{fault}
 use Rattle.disc.specs.Part.{PartOf, partRefusal, partStart, partSize}
-use Rattle.disc.specs.Track.{isData, trackOf, trackNumbered, runIsData}
+use Rattle.tracks.specs.Track.{isData, trackOf, trackNumbered, runIsData}
 use Rattle.disc.specs.Disc.{reading}
 use Rattle.command.specs.declared.decode.Command.{Command}
 use Rattle.command.specs.declared.decode.Kind.{Kind}
@@ -211,6 +211,14 @@ unique-session-part t r s k = part-once
 pub unique-starts-after : (d : List ℕ) (n r s : ℕ) → r ≡ starts d n → s ≡ starts d n → r ≡ s
 unique-starts-after d n r s = value-once
 
+pub unique-is-track : (p : ℕ) (r s : Bool) → r ≡ isTrack p → s ≡ isTrack p → r ≡ s
+unique-is-track p r s = value-once
+
+pub unique-read : (t : List ℕ) (r s : Reading) → r ≡ reading t → s ≡ reading t → r ≡ s
+unique-read t r s = value-once
+
+-- ---- tracks
+
 pub unique-is-data : (flags : ℕ) (r s : Bool) → r ≡ isData flags → s ≡ isData flags → r ≡ s
 unique-is-data flags r s = value-once
 
@@ -222,9 +230,6 @@ unique-track-numbered t n r s = value-once
 
 pub unique-run-is-data : (t : List ℕ) (a n : ℕ) (r s : Bool) → r ≡ runIsData (descriptors t) a n → s ≡ runIsData (descriptors t) a n → r ≡ s
 unique-run-is-data t a n r s = value-once
-
-pub unique-read : (t : List ℕ) (r s : Reading) → r ≡ reading t → s ≡ reading t → r ≡ s
-unique-read t r s = value-once
 
 -- ---- command
 

@@ -7,8 +7,8 @@ use Rattle.disc.specs.Layout.{bound, header, descriptors}
 use Rattle.disc.specs.Rules.{leadOut}
 use Rattle.disc.specs.RulesLaws.{Fit, isFit-true, fit-sized}
 use Rattle.disc.specs.FitLaws.{fit-lead-out}
-use Rattle.disc.specs.Track.{allInData, runIsData}
-use Rattle.disc.specs.SpreadLaws.{fit-run-agrees}
+use Rattle.tracks.specs.Track.{allInData, runIsData}
+use Rattle.tracks.specs.SpreadLaws.{fit-run-agrees}
 use Rattle.disc.specs.declared.disc.Disc.{Disc}
 use Rattle.disc.specs.declared.disc.Reading.the-variants as reads
 use Rattle.disc.specs.Disc.{discOf, lastPart, reading}

@@ -12,7 +12,7 @@ use Rattle.drive.specs.declared.state.Mechanics.{Mechanics}
 use Rattle.drive.specs.State.{isLoaded}
 use Rattle.disc.specs.Layout.{descriptors}
 use Rattle.disc.specs.Rules.{leadOut}
-use Rattle.disc.specs.Track.{allInData}
+use Rattle.tracks.specs.Track.{allInData}
 use Rattle.disc.specs.Disc.{lastPart}
 use Rattle.gate.specs.declared.fault.Fault.the-variants.{UnknownCode, OutOfRange, BadField, IllegalMode}
 use Rattle.gate.specs.Gate.{Result, fails, goes}

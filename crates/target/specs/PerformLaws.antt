@@ -11,7 +11,7 @@ use Rattle.ground.specs.Tests.{when, unless, either, and-both, and-off, and-lat
 use Rattle.disc.specs.declared.disc.Disc.{Disc}
 use Rattle.disc.specs.Layout.{bound, header, descriptors}
 use Rattle.disc.specs.Disc.{discOf}
-use Rattle.disc.specs.Track.{allInData}
+use Rattle.tracks.specs.Track.{allInData}
 use Rattle.ground.specs.Memory.{Laid, fill, fill-none, laid-none}
 use Rattle.drive.specs.declared.state.Mechanics.{Mechanics}
 use Rattle.drive.specs.State.{isLoaded}

@@ -75,9 +75,9 @@ none (x ∷ l) h = absurd (omega arith)
 -- a part that begins past the end is the one that begins at the end
 pub drop-held : (k : ℕ) (l : List ℕ) → drop (min k (length l)) l ≡ drop k l
 drop-held k l = elim (decLe k (length l)) [
-      | yes h ↦ within h
-      | no h ↦ past h
-    ]
+  | yes h ↦ within h
+  | no h ↦ past h
+]
   where
     within : k ≤ length l → drop (min k (length l)) l ≡ drop k l
     within h = let e : min k (length l) ≡ k = omega arith in rw e

@@ -71,7 +71,13 @@ fn put_format1(disc: Disc, msf: bool, part: &mut [u8]) -> usize
 {
     let mut at = put_head(2 + 8, 1, disc.sessions, part);
     let a = disc.last_first_start;
-    at += put_described(msf, disc.last_first_flags, disc.last_first, a, &mut part[at..]);
+    at += put_described(
+        msf,
+        disc.last_first_flags,
+        disc.last_first,
+        a,
+        &mut part[at..],
+    );
     at
 }
 

@@ -7,7 +7,7 @@ use Rattle.target.proofs.perform.read.Statement.{statement}
 use Rattle.target.proofs.perform.read.Tie as tie
 use Rattle.target.proofs.perform.read.Reads as reads
 use Rattle.target.proofs.perform.read.Lts as lts
-use Rattle.disc.proofs.track.run_is_data.Reads as run-is-data-reads
+use Rattle.tracks.proofs.run.run_is_data.Reads as run-is-data-reads
 
 sub-if1 : tie.Need-sub-if1
 sub-if1 c = rw (readOff-leads (c .before .before .pre .0)) (c .before .before .pre .0 .fits .leads)
