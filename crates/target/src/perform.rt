@@ -27,6 +27,46 @@ ghost use Rattle.target.specs.FitFacts.{ReadOff};
 ghost use Rattle.target.specs.PerformLaws.{Met, Ready};
 ghost use Rattle.target.specs.Perform.{Performed, inquiry, readCapacity, seek, read, work, perform};
 
+// What INQUIRY tells: 8 bytes, then "LECTERN " (8), "PACKET TARGET   " (16) and "0100".
+const INQUIRY: [u8; 36] = [
+    0x05,
+    0x80,
+    0x00,
+    0x21,
+    0x1F,
+    0x00,
+    0x00,
+    0x00,
+    0x4C,
+    0x45,
+    0x43,
+    0x54,
+    0x45,
+    0x52,
+    0x4E,
+    0x20,
+    0x50,
+    0x41,
+    0x43,
+    0x4B,
+    0x45,
+    0x54,
+    0x20,
+    0x54,
+    0x41,
+    0x52,
+    0x47,
+    0x45,
+    0x54,
+    0x20,
+    0x20,
+    0x20,
+    0x30,
+    0x31,
+    0x30,
+    0x30,
+];
+
 // INQUIRY: the 36 bytes, cut to the allocation length.
 fn inquiry(p: &[u8], m: Mechanics, mem: &mut [u8]) -> Done
     requires { ⌜ (length (now p) ≡ 12) × (bound ≤ length (now mem)) ⌝ }
@@ -35,45 +75,7 @@ fn inquiry(p: &[u8], m: Mechanics, mem: &mut [u8]) -> Done
     if bit0(p[1]) {
         return Done::Fails(Fault::BadField);
     }
-    let full = [
-        0x05,
-        0x80,
-        0x00,
-        0x21,
-        0x1F,
-        0x00,
-        0x00,
-        0x00,
-        0x4C,
-        0x45,
-        0x43,
-        0x54,
-        0x45,
-        0x52,
-        0x4E,
-        0x20,
-        0x50,
-        0x41,
-        0x43,
-        0x4B,
-        0x45,
-        0x54,
-        0x20,
-        0x54,
-        0x41,
-        0x52,
-        0x47,
-        0x45,
-        0x54,
-        0x20,
-        0x20,
-        0x20,
-        0x30,
-        0x31,
-        0x30,
-        0x30,
-    ];
-    let len = put_cut(&full, wide(p[4]), mem);
+    let len = put_cut(&INQUIRY, wide(p[4]), mem);
     Done::Goes(Went {
         next: m,
         loading: false,
