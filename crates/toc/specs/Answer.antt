@@ -31,7 +31,7 @@ unfoldable pub format1 : Disc → Bool → List ℕ
 format1 disc msf =
     headed 1 (disc .sessions) (described msf (disc .«last_first_flags») (disc .«last_first») (disc .«last_first_start»))
 
--- the descriptors that are there whole: of a fit table all
+-- the descriptors that are there whole: of a fit table all (`whole-fit`)
 abbrev pub whole : List ℕ → List ℕ
 whole s = take (row * rows s) s
 

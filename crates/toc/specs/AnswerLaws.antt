@@ -2,17 +2,20 @@
 use mathlib.Core.Path.{_≡_, refl, sym, ap, _∙_}
 use mathlib.Core.Bool.{Bool, true, false}
 use mathlib.Core.List.{List, [], _∷_, _++_, append-assoc}
-use Prim.Native.Nat.{ℕ, _+_, _-_, _*_, _/_, _%_, _≤_, min}
+use Prim.Native.Nat.{ℕ, _+_, _-_, _*_, _/_, _%_, _≤_, _<_, min}
 use native.Mathlib.Omega.{arith}
 use native.Mathlib.Decide.{decLe}
 use native.Mathlib.Nat.{lt-of-not-le}
 use lib.Dec.{eqb}
-use lib.ListN.{length, drop, length-append, length-take, length-drop}
+use lib.ListN.{length, take, drop, length-append, length-take, length-drop}
+use lib.Seq.{take-length}
 use borrow.Author.Tests.{eq-eqb, ne-eqb}
 use Rattle.ground.specs.Tests.{if_then_else_, when, unless, either}
 use Rattle.disc.specs.declared.disc.Disc.{Disc}
-use Rattle.disc.specs.Layout.{bound, header, row, rows}
+use Rattle.disc.specs.Layout.{bound, header, row, rows, descriptors, lastSession}
 use Rattle.disc.specs.Session.{starts, session}
+use Rattle.disc.specs.SessionLaws.{starts-rows}
+use Rattle.disc.specs.RulesLaws.{Fit, fit-rows}
 use Rattle.toc.specs.declared.shown.Show.the-variants.{Tracks, Whole}
 use Rattle.toc.specs.Shown.{described, shownTracks}
 use Rattle.toc.specs.ShownLaws.{shownCount, shownCount-within, shownTracks-length, described-length, listed, listed-tracks, listed-whole}
@@ -56,6 +59,17 @@ format1-laid disc msf =
 
 whole-length : (s : List ℕ) → length (whole s) ≡ row * rows s
 whole-length s = let e = length-take (row * rows s) s in omega arith
+
+-- of a fit table every descriptor is there whole, from each session on
+pub whole-fit : {t : List ℕ} → Fit t → (k : ℕ) → k < lastSession t → whole (session (descriptors t) k) ≡ session (descriptors t) k
+whole-fit {t} f k h =
+    let s = session (descriptors t) k in
+    let e : row * rows s ≡ length s =
+    let w = fit-rows f in
+    let r = starts-rows (descriptors t) k in
+    let l = length-drop (starts (descriptors t) k) (descriptors t) in
+    omega arith in
+    ap (λ (n : ℕ). take n s) e ∙ take-length s
 
 pub format2-laid :
     (disc : Disc) (n : ℕ) (d : List ℕ)
