@@ -1,5 +1,5 @@
 -- The ten packets, by operation code, and their fields.
-use Prim.Native.Nat.{ℕ, _/_, _%_}
+use Prim.Native.Nat.{ℕ, _+_, _/_, _%_}
 use mathlib.Core.Bool.{Bool, true, false, not}
 use mathlib.Core.List.{List}
 use lib.ListN.{getD}
@@ -40,16 +40,20 @@ bit0 b = eqb (b % 2) 1
 abbrev pub bit1 : ℕ → Bool
 bit1 b = eqb (b / 2 % 2) 1
 
+-- the number in a packet's four bytes from i on
+abbrev pub wordAt : List ℕ → ℕ → ℕ
+wordAt p i = word32 (byte p i) (byte p (i + 1)) (byte p (i + 2)) (byte p (i + 3))
+
 -- "address in bytes 2 to 5"
 abbrev pub addressIn : List ℕ → ℕ
-addressIn p = word32 (byte p 2) (byte p 3) (byte p 4) (byte p 5)
+addressIn p = wordAt p 2
 
 -- "count in 7 to 8 (28h) or 6 to 9 (A8h)"
 abbrev pub count10 : List ℕ → ℕ
 count10 p = word16 (byte p 7) (byte p 8)
 
 abbrev pub count12 : List ℕ → ℕ
-count12 p = word32 (byte p 6) (byte p 7) (byte p 8) (byte p 9)
+count12 p = wordAt p 6
 
 -- "1Bh: byte 4 bit 1 LoEj, bit 0 Start"
 abbrev pub loEj : List ℕ → Bool

@@ -6,7 +6,7 @@ use lib.ListN.{length, getD, drop}
 use lib.Dec.{leb, eqb}
 use Rattle.ground.specs.Tests.{_and_, _or_}
 use Rattle.ground.specs.Number.{word16}
-use Rattle.address.specs.Address.{addressOf}
+use Rattle.address.specs.Address.{frames, addressOf}
 
 -- "it is 4 to 4,360 bytes long": the most bytes of a table, of an answer and of the response memory
 abbrev pub bound : ℕ
@@ -62,6 +62,10 @@ psecAt d j = getD d (row * j + 9) 0
 
 abbrev pub pframeAt : List ℕ → ℕ → ℕ
 pframeAt d j = getD d (row * j + 10) 0
+
+-- the address of descriptor j, counted in frames from 00:00:00 on
+unfoldable pub framesAt : List ℕ → ℕ → ℕ
+framesAt d j = frames (pminAt d j) (psecAt d j) (pframeAt d j)
 
 -- the block address that descriptor j holds
 unfoldable pub addressAt : List ℕ → ℕ → ℕ

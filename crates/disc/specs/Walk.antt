@@ -5,8 +5,7 @@ use mathlib.Core.List.{List}
 use lib.ListN.{length}
 use lib.Dec.{leb, eqb}
 use Rattle.ground.specs.Tests.{_and_, every, if_then_else_}
-use Rattle.address.specs.Address.{frames}
-use Rattle.disc.specs.Layout.{pminAt, psecAt, pframeAt, A0, A1, A2}
+use Rattle.disc.specs.Layout.{pminAt, psecAt, pframeAt, framesAt, A0, A1, A2}
 use Rattle.disc.specs.Session.{first, last, tracks, size, names, starts, session, before, follows}
 use Rattle.disc.specs.declared.walk.Verdict.{Verdict}
 use Rattle.disc.specs.Rules.{plain, headA0}
@@ -14,10 +13,6 @@ use Rattle.disc.specs.Rules.{plain, headA0}
 -- descriptor j is of session k, has POINT p, and keeps rule 3
 unfoldable pub kept : List ℕ → ℕ → ℕ → ℕ → Bool
 kept d k j p = names d k j p and plain d j
-
--- the address of descriptor j, counted in frames from 00:00:00 on
-unfoldable pub framesAt : List ℕ → ℕ → ℕ
-framesAt d j = frames (pminAt d j) (psecAt d j) (pframeAt d j)
 
 -- descriptor j holds an address of rule 6 that is `low` or later, which is 00:02:00 or later itself
 unfoldable pub holds : List ℕ → ℕ → ℕ → Bool

@@ -11,7 +11,8 @@ use Rattle.ground.specs.Tests.{if_then_else_, when, every, and-on, and-off, and
 use Rattle.disc.specs.Session.{first, last, tracks, size, starts, session, before, follows}
 use Rattle.disc.specs.SessionLaws.{Walked, walked-none, walked-next, walked-all, before-next}
 use Rattle.disc.specs.RulesLaws.{same-test}
-use Rattle.disc.specs.Walk.{kept, framesAt, holds, headsKept, floorAt, trackKept, tracksKept, sessionKept, floorOf, stepKept, walkKept, verdict}
+use Rattle.disc.specs.Layout.{framesAt}
+use Rattle.disc.specs.Walk.{kept, holds, headsKept, floorAt, trackKept, tracksKept, sessionKept, floorOf, stepKept, walkKept, verdict}
 use Rattle.disc.specs.declared.walk.Verdict.{Verdict}
 use Rattle.disc.specs.WalkLaws.{Sound, floorAt-next, floorOf-next, sessionKept-sound}
 

@@ -3,7 +3,7 @@ use ground::number::wide;
 ghost use mathlib.Core.Path.{_≡_};
 ghost use Prim.Native.Nat.{_+_, _*_, _≤_};
 ghost use lib.ListN.{length};
-ghost use Rattle.disc.specs.Layout.{row, addressAt, isTrack};
+ghost use Rattle.disc.specs.Layout.{row, framesAt, addressAt, isTrack};
 
 // The most bytes of a table, of an answer and of the response memory.
 pub const BOUND: usize = 4360;
@@ -34,13 +34,21 @@ pub const A1: u8 = 0xA1;
 
 pub const A2: u8 = 0xA2;
 
+// The address of descriptor j, counted in frames from 00:00:00 on.
+pub(crate) fn frames_at(d: &[u8], j: usize) -> usize
+    requires { ⌜ row * j + row ≤ length (now d) ⌝ }
+    ensures { λ r. ⌜ (r ≡ framesAt (now (d .entry)) j) × (r ≤ 1166880) ⌝ }
+{
+    let at = ROW * j;
+    (wide(d[at + PMIN]) * 60 + wide(d[at + PSEC])) * 75 + wide(d[at + PFRAME])
+}
+
 // The block address that descriptor j holds.
 pub(crate) fn address_at(d: &[u8], j: usize) -> usize
     requires { ⌜ row * j + row ≤ length (now d) ⌝ }
     ensures { λ r. ⌜ r ≡ addressAt (now (d .entry)) j ⌝ }
 {
-    let at = ROW * j;
-    let frames = (wide(d[at + PMIN]) * 60 + wide(d[at + PSEC])) * 75 + wide(d[at + PFRAME]);
+    let frames = frames_at(d, j);
     if frames < 150 {
         return 0;
     }

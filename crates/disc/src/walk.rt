@@ -8,6 +8,7 @@ use crate::layout::PMIN;
 use crate::layout::POINT;
 use crate::layout::PSEC;
 use crate::layout::ROW;
+use crate::layout::frames_at;
 use crate::rules::head_a0;
 use crate::rules::plain;
 use crate::rules::rule1;
@@ -23,7 +24,7 @@ ghost use Rattle.disc.specs.Layout.{row};
 ghost use Rattle.disc.specs.Session.{starts};
 ghost use Rattle.disc.specs.Rules.{isFit};
 ghost use Rattle.disc.specs.Disc.{lastAt};
-ghost use Rattle.disc.specs.Walk.{kept, framesAt, holds, headsHold, headsKept, tracksKept, sessionKept, walkKept, verdict};
+ghost use Rattle.disc.specs.Walk.{kept, holds, headsHold, headsKept, tracksKept, sessionKept, walkKept, verdict};
 
 // 00:02:00, before which no track starts.
 const FLOOR: usize = 150;
@@ -56,15 +57,6 @@ fn kept(d: &[u8], k: u8, j: usize, p: u8) -> bool
         return false;
     }
     false
-}
-
-// The address of descriptor j, counted in frames from 00:00:00 on.
-fn frames_at(d: &[u8], j: usize) -> usize
-    requires { ⌜ row * j + row ≤ length (now d) ⌝ }
-    ensures { λ r. ⌜ (r ≡ framesAt (now (d .entry)) j) × (r ≤ 1166880) ⌝ }
-{
-    let at = ROW * j;
-    (wide(d[at + PMIN]) * 60 + wide(d[at + PSEC])) * 75 + wide(d[at + PFRAME])
 }
 
 // Descriptor j holds an address of rule 6 that is `low` or later.

@@ -18,10 +18,10 @@ use ground::number::wide;
 use ground::number::word32;
 use tracks::run::run_is_data;
 ghost use mathlib.Core.Path.{_≡_};
-ghost use Prim.Native.Nat.{_≤_, _<_};
+ghost use Prim.Native.Nat.{_+_, _≤_, _<_};
 ghost use lib.ListN.{length};
 ghost use Rattle.disc.specs.Layout.{bound};
-ghost use Rattle.command.specs.Command.{addressIn, count10, count12};
+ghost use Rattle.command.specs.Command.{wordAt, addressIn, count10, count12};
 ghost use Rattle.command.specs.Done.{doneOf};
 ghost use Rattle.target.specs.FitFacts.{ReadOff};
 ghost use Rattle.target.specs.PerformLaws.{Met, Ready};
@@ -136,13 +136,21 @@ fn read(a: usize, n: usize, m: Mechanics, t: &[u8], disc: Disc) -> Done
     Done::Fails(Fault::IllegalMode)
 }
 
+// The number in the packet's four bytes from i on.
+fn word_at(p: &[u8], i: usize) -> usize
+    requires { ⌜ i + 4 ≤ length (now p) ⌝ }
+    ensures same { λ r. ⌜ r ≡ wordAt (now (p .entry)) i ⌝ }
+    ensures small { λ r. ⌜ r < 4294967296 ⌝ }
+{
+    word32(p[i], p[i + 1], p[i + 2], p[i + 3])
+}
+
 // READ(10).
 fn read10(p: &[u8], m: Mechanics, t: &[u8], disc: Disc) -> Done
     requires { ⌜ ReadOff (now t) disc × (length (now p) ≡ 12) ⌝ }
     ensures { λ r. ⌜ r ≡ doneOf (read (addressIn (now (p .entry))) (count10 (now (p .entry))) m (now (t .entry))) ⌝ }
 {
-    let a = word32(p[2], p[3], p[4], p[5]);
-    read(a, word32(0, 0, p[7], p[8]), m, t, disc)
+    read(word_at(p, 2), word32(0, 0, p[7], p[8]), m, t, disc)
 }
 
 // READ(12).
@@ -150,8 +158,7 @@ fn read12(p: &[u8], m: Mechanics, t: &[u8], disc: Disc) -> Done
     requires { ⌜ ReadOff (now t) disc × (length (now p) ≡ 12) ⌝ }
     ensures { λ r. ⌜ r ≡ doneOf (read (addressIn (now (p .entry))) (count12 (now (p .entry))) m (now (t .entry))) ⌝ }
 {
-    let a = word32(p[2], p[3], p[4], p[5]);
-    read(a, word32(p[6], p[7], p[8], p[9]), m, t, disc)
+    read(word_at(p, 2), word_at(p, 6), m, t, disc)
 }
 
 // Step 5: each command's own work.
@@ -167,7 +174,7 @@ fn work(c: Command, p: &[u8], m: Mechanics, t: &[u8], disc: Disc, mem: &mut [u8]
         Command::Prevent => prevent(p[4], m),
         Command::ReadCapacity => read_capacity(m, disc, mem),
         Command::Read10 => read10(p, m, t, disc),
-        Command::Seek => seek(word32(p[2], p[3], p[4], p[5]), m, disc),
+        Command::Seek => seek(word_at(p, 2), m, disc),
         Command::ReadToc => read_toc(p, m, t, disc, mem),
         Command::Read12 => read12(p, m, t, disc),
         Command::Unknown => Done::Fails(Fault::UnknownCode),

@@ -7,7 +7,7 @@ use Rattle.disc.proofs.walk.holds.Statement.{statement}
 use Rattle.disc.proofs.walk.holds.Tie as tie
 use Rattle.disc.proofs.walk.holds.Reads as reads
 use Rattle.disc.proofs.walk.holds.Lts as lts
-use Rattle.disc.proofs.walk.frames_at.Reads as frames-at-reads
+use Rattle.disc.proofs.layout.frames_at.Reads as frames-at-reads
 
 mul-at : tie.Need-mul-at
 mul-at c = search needs

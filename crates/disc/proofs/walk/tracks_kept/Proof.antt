@@ -8,7 +8,7 @@ use Rattle.disc.proofs.walk.tracks_kept.Statement.{statement}
 use Rattle.disc.proofs.walk.tracks_kept.Tie as tie
 use Rattle.disc.proofs.walk.tracks_kept.Reads as reads
 use Rattle.disc.proofs.walk.tracks_kept.Lts as lts
-use Rattle.disc.proofs.walk.frames_at.Reads as frames-at-reads
+use Rattle.disc.proofs.layout.frames_at.Reads as frames-at-reads
 use Rattle.disc.proofs.walk.holds.Reads as holds-reads
 use Rattle.disc.proofs.walk.kept.Reads as kept-reads
 

@@ -18,7 +18,7 @@ use Rattle.disc.proofs.walk.walk.Reads as reads
 use Rattle.disc.proofs.walk.walk.Lts as lts
 use Rattle.disc.proofs.session.follows.Reads as follows-reads
 use Rattle.disc.proofs.session.session_bytes.Reads as session-bytes-reads
-use Rattle.disc.proofs.walk.frames_at.Reads as frames-at-reads
+use Rattle.disc.proofs.layout.frames_at.Reads as frames-at-reads
 use Rattle.disc.proofs.walk.session_kept.Reads as session-kept-reads
 use Rattle.disc.proofs.walk.unfit.Reads as unfit-reads
 use Rattle.ground.proofs.number.wide.Reads as wide-reads

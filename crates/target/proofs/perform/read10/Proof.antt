@@ -10,6 +10,10 @@ use Rattle.target.proofs.perform.read10.Reads as reads
 use Rattle.target.proofs.perform.read10.Lts as lts
 use Rattle.ground.proofs.number.word32.Reads as word32-reads
 use Rattle.target.proofs.perform.read.Reads as read-reads
+use Rattle.target.proofs.perform.word_at.Reads as word-at-reads
+
+word-at-requires : tie.Need-word-at-requires
+word-at-requires c κs = search needs
 
 shared-slice-read-word32 : tie.Need-shared-slice-read-word32
 shared-slice-read-word32 c = search needs
@@ -17,44 +21,23 @@ shared-slice-read-word32 c = search needs
 shared-slice-read-word32-2 : tie.Need-shared-slice-read-word32-2
 shared-slice-read-word32-2 c = search needs
 
-shared-slice-read-word32-3 : tie.Need-shared-slice-read-word32-3
-shared-slice-read-word32-3 c = search needs
-
-shared-slice-read-word32-4 : tie.Need-shared-slice-read-word32-4
-shared-slice-read-word32-4 c = search needs
-
 word32-requires : tie.Need-word32-requires
 word32-requires c κs = search needs
-
-shared-slice-read-word32-5 : tie.Need-shared-slice-read-word32-5
-shared-slice-read-word32-5 c = search needs
-
-shared-slice-read-word32-6 : tie.Need-shared-slice-read-word32-6
-shared-slice-read-word32-6 c = search needs
-
-word32-requires-2 : tie.Need-word32-requires-2
-word32-requires-2 c κs = search needs
 
 read-requires : tie.Need-read-requires
 read-requires c κs = search needs
 
 returns : tie.Need-returns
-returns c =
-    let x = c .before .before .before .before .before .before .before .before .before .before .before .args in
-    let n = c .before .word322 .ensures .0 ∙ zero-add (count10 (now (x .p))) in
-    c .read .ensures ∙ rw (c .before .before .before .before .word32 .ensures .0, n)
+returns c = let n = c .before .word32 .ensures .0 ∙ zero-add (count10 (now (c .before .before .before .before .before .before .before .args .p))) in
+    c .read .ensures ∙ rw (c .before .before .before .before .word-at .ensures .0, n)
 
 pub read10-spec : {M : Type 1} → statement M
 read10-spec =
     tie.close
     (tie.spec
+    word-at-requires
     shared-slice-read-word32
     shared-slice-read-word32-2
-    shared-slice-read-word32-3
-    shared-slice-read-word32-4
     word32-requires
-    shared-slice-read-word32-5
-    shared-slice-read-word32-6
-    word32-requires-2
     read-requires
     returns)

@@ -10,7 +10,6 @@ use Rattle.target.proofs.perform.work.Statement.{statement}
 use Rattle.target.proofs.perform.work.Tie as tie
 use Rattle.target.proofs.perform.work.Reads as reads
 use Rattle.target.proofs.perform.work.Lts as lts
-use Rattle.ground.proofs.number.word32.Reads as word32-reads
 use Rattle.command.proofs.tray.prevent.Reads as prevent-reads
 use Rattle.command.proofs.tray.done.Reads as done-reads
 use Rattle.target.proofs.perform.inquiry.Reads as inquiry-reads
@@ -18,6 +17,7 @@ use Rattle.target.proofs.perform.read10.Reads as read10-reads
 use Rattle.target.proofs.perform.read12.Reads as read12-reads
 use Rattle.target.proofs.perform.read_capacity.Reads as read-capacity-reads
 use Rattle.target.proofs.perform.seek.Reads as seek-reads
+use Rattle.target.proofs.perform.word_at.Reads as word-at-reads
 use Rattle.command.proofs.tray.start_stop.Reads as start-stop-reads
 use Rattle.target.proofs.read_toc.read_toc.Reads as read-toc-reads
 
@@ -72,23 +72,11 @@ read10-requires c κs = (c .before .before .before .before .before .pre .ready (
 enum-told-8 : tie.Need-enum-told-8
 enum-told-8 c = search needs
 
-shared-slice-read-word32 : tie.Need-shared-slice-read-word32
-shared-slice-read-word32 c = search needs
-
-shared-slice-read-word32-2 : tie.Need-shared-slice-read-word32-2
-shared-slice-read-word32-2 c = search needs
-
-shared-slice-read-word32-3 : tie.Need-shared-slice-read-word32-3
-shared-slice-read-word32-3 c = search needs
-
-shared-slice-read-word32-4 : tie.Need-shared-slice-read-word32-4
-shared-slice-read-word32-4 c = search needs
-
-word32-requires : tie.Need-word32-requires
-word32-requires c κs = search needs
+word-at-requires : tie.Need-word-at-requires
+word-at-requires c κs = search needs
 
 seek-requires : tie.Need-seek-requires
-seek-requires c κs = readOff-least (c .before .before .before .before .before .before .before .before .before .before .pre .ready (ap (λ (k : Command). needsDisc k (now (c .before .before .before .before .before .before .before .before .before .before .args .p))) (c .before .before .before .before .before .enum-told8 .given .1)))
+seek-requires c κs = readOff-least (c .before .before .before .before .before .before .pre .ready (ap (λ (k : Command). needsDisc k (now (c .before .before .before .before .before .before .args .p))) (c .before .enum-told8 .given .1)))
 
 enum-told-9 : tie.Need-enum-told-9
 enum-told-9 c = search needs
@@ -133,8 +121,8 @@ returns-7 : tie.Need-returns-7
 returns-7 c = rw (c .before .enum-told7 .given .1) (performed-quiet _ (read-quiet _ _ _ _) (c .read10 .ensures))
 
 returns-8 : tie.Need-returns-8
-returns-8 c = let e = rw (c .before .word32 .ensures .0, readOff-leads (c .before .before .before .before .before .before .before .before .before .before .before .pre .ready (ap (λ (k : Command). needsDisc k (now (c .before .before .before .before .before .before .before .before .before .before .before .args .p))) (c .before .before .before .before .before .before .enum-told8 .given .1)))) at (c .seek .ensures) in
-    rw (c .before .before .before .before .before .before .enum-told8 .given .1) (performed-quiet _ (seek-quiet _ _ _) e)
+returns-8 c = let e = rw (c .before .word-at .ensures .0, readOff-leads (c .before .before .before .before .before .before .before .pre .ready (ap (λ (k : Command). needsDisc k (now (c .before .before .before .before .before .before .before .args .p))) (c .before .before .enum-told8 .given .1)))) at (c .seek .ensures) in
+    rw (c .before .before .enum-told8 .given .1) (performed-quiet _ (seek-quiet _ _ _) e)
 
 same-length-3 : tie.Need-same-length-3
 same-length-3 c = search needs
@@ -169,11 +157,7 @@ work-spec =
     enum-told-7
     read10-requires
     enum-told-8
-    shared-slice-read-word32
-    shared-slice-read-word32-2
-    shared-slice-read-word32-3
-    shared-slice-read-word32-4
-    word32-requires
+    word-at-requires
     seek-requires
     enum-told-9
     read-toc-requires

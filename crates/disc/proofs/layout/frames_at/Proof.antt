@@ -1,11 +1,11 @@
--- `disc::walk::frames_at` meets its contract: it computes the definition's formula of three bytes.
+-- `disc::layout::frames_at` meets its contract: it computes the definition's formula of three bytes.
 use native.Mathlib.Omega.{arith}
-use Rattle.disc.specs.Walk.{framesAt}
+use Rattle.disc.specs.Layout.{framesAt}
 use borrow.Author.Needs.{needs}
-use Rattle.disc.proofs.walk.frames_at.Statement.{statement}
-use Rattle.disc.proofs.walk.frames_at.Tie as tie
-use Rattle.disc.proofs.walk.frames_at.Reads as reads
-use Rattle.disc.proofs.walk.frames_at.Lts as lts
+use Rattle.disc.proofs.layout.frames_at.Statement.{statement}
+use Rattle.disc.proofs.layout.frames_at.Tie as tie
+use Rattle.disc.proofs.layout.frames_at.Reads as reads
+use Rattle.disc.proofs.layout.frames_at.Lts as lts
 use Rattle.ground.proofs.number.wide.Reads as wide-reads
 
 mul-at : tie.Need-mul-at
