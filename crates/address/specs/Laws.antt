@@ -2,13 +2,13 @@
 use mathlib.Core.Path.{_≡_, refl, sym, ap, _∙_}
 use mathlib.Core.Bool.{Bool, true, false}
 use mathlib.Core.Logic.{_⊎_, inl, inr, ⊎-elim}
-use Prim.Native.Nat.{ℕ, _+_, _-_, _*_, _/_, _%_, _≤_, _<_}
+use Prim.Native.Nat.{ℕ, _+_, _*_, _/_, _≤_, _<_}
 use native.Mathlib.Omega.{arith}
 use native.Mathlib.Nat.{lt-of-not-le}
 use native.Mathlib.Decide.{decLe}
 use borrow.Author.Tests.{le-leb, lt-leb, leb-true}
 use lib.Dec.{leb}
-use Rattle.ground.specs.Tests.{_and_, if_then_else_, when, unless, and-head, and-tail, and-both}
+use Rattle.ground.specs.Tests.{if_then_else_, when, unless, and-head, and-tail, and-both}
 use Rattle.address.specs.Address.{BlockAnswer, refused, last, frames, addressOf, isMsf, minuteOf, secondOf, frameOf, msfAt, msfRefused, blockAt, blockRefused, toMsf, toBlock}
 
 -- rule 6 of an M:S:F, its parts by name

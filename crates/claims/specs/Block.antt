@@ -1,5 +1,5 @@
 -- "A block belongs to the track with the greatest start not above it, if it lies below that track's session's lead-out; else to no track."
-use mathlib.Core.Path.{_≡_, refl, sym, _∙_}
+use mathlib.Core.Path.{_≡_}
 use mathlib.Core.Bool.{true}
 use mathlib.Core.List.{List}
 use Prim.Native.Nat.{ℕ, _+_, _≤_, _<_}

@@ -1,5 +1,5 @@
 -- 1Bh, START/STOP UNIT, 1Eh, PREVENT/ALLOW, and a drive with no disc.
-use mathlib.Core.Bool.{Bool, true, false}
+use mathlib.Core.Bool.{false}
 use Prim.Native.Nat.{ℕ}
 use mathlib.Core.List.{[]}
 use Rattle.ground.specs.Tests.{if_then_else_}

@@ -1,6 +1,6 @@
 -- What a fit table's descriptors are: where each stands, which POINT it has, which tracks there are, and how the addresses rise.
 use mathlib.Core.Path.{_≡_, refl, sym, ap, _∙_}
-use mathlib.Core.Bool.{Bool, true, false}
+use mathlib.Core.Bool.{true}
 use mathlib.Core.List.{List}
 use Prim.Native.Nat.{ℕ, zero, suc, _+_, _-_, _*_, _≤_, _<_}
 use native.Mathlib.Omega.{arith}
@@ -13,7 +13,7 @@ use lib.Seq.{getD-drop}
 use lib.Dec.{ltb, eqb}
 use Rattle.ground.specs.Tests.{_or_, if_then_else_, and-head, and-tail, and-both, when, every-at, or-left, or-right, or-else}
 use Rattle.address.specs.Laws.{InRange, isMsf-range, toBlock-range}
-use Rattle.disc.specs.Layout.{row, lastSession, descriptors, rows, sessionAt, flagsAt, pointAt, pminAt, psecAt, pframeAt, addressAt, A0, A1, A2, isTrack}
+use Rattle.disc.specs.Layout.{row, lastSession, descriptors, rows, flagsAt, pointAt, pminAt, psecAt, pframeAt, addressAt, A0, A1, A2, isTrack}
 use Rattle.disc.specs.Session.{first, last, tracks, starts, session, follows}
 use Rattle.disc.specs.SessionLaws.{starts-none, Listed, listed-parts, inPlace-follows, before-next, rowsBefore, rowsBefore-next, starts-rows}
 use Rattle.disc.specs.Rules.{rowTest, addressed, leadOut, trackStart, rises, outBefore, beginsAfter, rising, rule7}
@@ -25,9 +25,6 @@ use Rattle.disc.specs.Disc.{lastPart}
 -- a field of descriptor i of the session after k others is that field of descriptor rowsBefore d k + i
 pub field-at : (d : List ℕ) (k i x : ℕ) → getD (session d k) (row * i + x) 0 ≡ getD d (row * (rowsBefore d k + i) + x) 0
 field-at d k i x = getD-drop (starts d k) d (row * i + x) 0 ∙ ap (λ (n : ℕ). getD d n 0) (let e = starts-rows d k in omega arith)
-
-pub sessionAt-session : (d : List ℕ) (k i : ℕ) → sessionAt (session d k) i ≡ sessionAt d (rowsBefore d k + i)
-sessionAt-session d k i = getD-drop (starts d k) d (row * i) 0 ∙ ap (λ (n : ℕ). getD d n 0) (let e = starts-rows d k in omega arith)
 
 pub flagsAt-session : (d : List ℕ) (k i : ℕ) → flagsAt (session d k) i ≡ flagsAt d (rowsBefore d k + i)
 flagsAt-session d k i = field-at d k i 1

@@ -1,10 +1,10 @@
 -- "The lent disc table": its layout.
-use Prim.Native.Nat.{ℕ, _+_, _-_, _*_, _/_}
+use Prim.Native.Nat.{ℕ, _+_, _*_, _/_}
 use mathlib.Core.Bool.{Bool}
 use mathlib.Core.List.{List}
 use lib.ListN.{length, getD, drop}
-use lib.Dec.{leb, eqb}
-use Rattle.ground.specs.Tests.{_and_, _or_}
+use lib.Dec.{leb}
+use Rattle.ground.specs.Tests.{_and_}
 use Rattle.ground.specs.Number.{word16}
 use Rattle.address.specs.Address.{frames, addressOf}
 

@@ -9,10 +9,10 @@ use borrow.Author.Tests.{leb-true, eq-eqb, ne-eqb, eqb-true}
 use lib.ListN.{length, drop, length-drop}
 use lib.Dec.{eqb}
 use Rattle.ground.specs.Number.{Byte}
-use Rattle.ground.specs.Tests.{_and_, every, and-head, and-tail, and-both, every-none, every-more, every-at, every-all, every-breaks}
+use Rattle.ground.specs.Tests.{_and_, every, and-head, and-tail, and-both, every-none, every-more, every-breaks}
 use Rattle.disc.specs.Layout.{bound, dataLength, firstSession, lastSession, header, row, descriptors, rows}
 use Rattle.disc.specs.Session.{tracks, size, starts, session, inPlace, inOrder}
-use Rattle.disc.specs.SessionLaws.{IsSession, size-least, size-within, Walked, walked-none, walked-next, walked-all, starts-within, placed, inOrder-places, inOrder-end, rowsBefore, starts-rows}
+use Rattle.disc.specs.SessionLaws.{IsSession, size-least, Walked, walked-none, walked-next, walked-all, starts-within, placed, inOrder-places, inOrder-end, rowsBefore, starts-rows}
 use Rattle.disc.specs.Rules.{rule1, rule2, rowTest, leadOut, trackStart, rises, outBefore, beginsAfter, rising, rule7, firstBroken, lateRules, rowRules, fault, isFit}
 
 -- ---- the first broken rule
@@ -197,9 +197,6 @@ module _ {t : List ℕ} (f : Fit t) where
   pub fit-places : every (lastSession t) (inPlace (descriptors t)) ≡ true
   fit-places = inOrder-places _ _ (f .rule4)
 
-  pub fit-places-below : (k : ℕ) → k ≤ lastSession t → every k (inPlace (descriptors t)) ≡ true
-  fit-places-below k h = every-all _ _ (λ i l. every-at _ _ fit-places i (omega arith))
-
   pub fit-end : starts (descriptors t) (lastSession t) ≡ length (descriptors t)
   fit-end = inOrder-end _ _ (f .rule4)
 
@@ -212,9 +209,6 @@ module _ {t : List ℕ} (f : Fit t) where
 
   pub fit-session : {k : ℕ} → k < lastSession t → IsSession (k + 1) (session (descriptors t) k)
   fit-session h = placed _ _ fit-places h
-
-  pub fit-ends : {k : ℕ} → k < lastSession t → starts (descriptors t) k + size (session (descriptors t) k) ≤ length (descriptors t)
-  fit-ends {k} h = size-within _ _ (fit-starts k (omega arith)) (fit-session h)
 
   -- and has four descriptors at least
   pub fit-least : {k : ℕ} → k < lastSession t → 44 ≤ size (session (descriptors t) k)

@@ -7,14 +7,14 @@ use native.Mathlib.Omega.{arith}
 use native.Mathlib.Numerals.{add-one}
 use borrow.Author.Tests.{lt-ltb, eq-eqb, eqb-true}
 use lib.ListN.{length}
-use Rattle.ground.specs.Tests.{_and_, every, and-head, and-tail, and-both, every-at, every-all, or-left, or-right}
+use Rattle.ground.specs.Tests.{every, and-head, and-tail, and-both, every-at, every-all, or-left, or-right}
 use Rattle.disc.specs.Layout.{lastSession, descriptors, rows, framesAt}
-use Rattle.disc.specs.Session.{first, tracks, starts, session, before, inPlace, inOrder}
+use Rattle.disc.specs.Session.{tracks, starts, session, inPlace, inOrder}
 use Rattle.disc.specs.SessionLaws.{isSession-true, inPlace-follows, rowsBefore, starts-rows}
 use Rattle.disc.specs.Rules.{rule1, rule2, plain, headed, addressed, rowTest, leadOut, trackStart, outBefore, beginsAfter, rising, rule7, isFit}
 use Rattle.disc.specs.RulesLaws.{Fit, same-test, isFit-true, fit-isFit, fit-places, fit-end, fit-session}
 use Rattle.disc.specs.FitLaws.{addressed-session, Place, locate, rowTest-6, fit-row, fit-listed, fit-range, fit-rises, fit-begins}
-use Rattle.disc.specs.Walk.{kept, holds, headsHold, floorAt, floorOf, stepKept, walkKept}
+use Rattle.disc.specs.Walk.{holds, headsHold, floorAt, floorOf, stepKept, walkKept}
 use Rattle.disc.specs.WalkLaws.{floorAt-next, addressAt-frames, holds-low, range-holds, range-least, Sound, sessionKept-sound, sound-sessionKept, plain-session, headed-session, rowTest-3, rowTest-5, headed-A0, headed-A1, sound-lead, sound-headed, sound-addressed, sound-rises}
 
 -- ---- a walk that is kept keeps rules 3 to 7

@@ -13,8 +13,8 @@ use lib.Dec.{ltb, eqb}
 use Rattle.ground.specs.Tests.{_and_, _or_, if_then_else_, and-head, and-tail, and-both, when, unless, every-at, every-all}
 use Rattle.address.specs.Address.{frames, isMsf}
 use Rattle.address.specs.Laws.{InRange}
-use Rattle.disc.specs.Layout.{descriptors, pointAt, pminAt, psecAt, pframeAt, addressAt, A0, A1, A2, isTrack, framesAt}
-use Rattle.disc.specs.Session.{first, tracks, names, listed, starts, session, before}
+use Rattle.disc.specs.Layout.{pointAt, pminAt, psecAt, pframeAt, addressAt, A0, A1, A2, isTrack, framesAt}
+use Rattle.disc.specs.Session.{first, tracks, names, listed, session, before}
 use Rattle.disc.specs.SessionLaws.{IsSession, listed-parts, size-least, rowsBefore}
 use Rattle.disc.specs.Rules.{plain, headA0, headed, addressed, rowTest, trackStart, rises}
 use Rattle.disc.specs.FitLaws.{field-at, Kind, isA0, isA1, isA2, isTrackAfter, listed-kind}

@@ -13,7 +13,7 @@ ghost use lib.ListN.{length, getD, drop};
 ghost use Rattle.ground.specs.Number.{Byte};
 ghost use Rattle.ground.specs.Tests.{every};
 ghost use Rattle.disc.specs.Layout.{row};
-ghost use Rattle.disc.specs.Session.{first, last, size, names, listed, follows, inOrder, readSession, starts, inPlace};
+ghost use Rattle.disc.specs.Session.{first, last, size, names, listed, follows, inOrder, readSession, starts};
 
 // What reading a session finds: its first and last track and how many bytes its descriptors take.
 pub enum Session {

@@ -2,7 +2,6 @@
 use Prim.Native.Nat.{ℕ}
 use mathlib.Core.Bool.{Bool, true, false, not}
 use Rattle.ground.specs.Tests.{_and_, if_then_else_}
-use Rattle.drive.specs.declared.state.Unit.{Unit}
 use Rattle.drive.specs.declared.state.Mechanics.{Mechanics}
 use Rattle.drive.specs.declared.state.Drive.{Drive}
 use Rattle.drive.specs.declared.state.Shifted.{Shifted}

@@ -1,5 +1,5 @@
 -- The laws of the calls: what each does in each case, and what each keeps.
-use mathlib.Core.Path.{_≡_, refl, sym, ap, _∙_}
+use mathlib.Core.Path.{_≡_, refl, _∙_}
 use mathlib.Core.Bool.{Bool, true, false, not, _||_}
 use Prim.Native.Nat.{ℕ}
 use Rattle.ground.specs.Tests.{_and_, if_then_else_, when, unless, either}
@@ -10,7 +10,7 @@ use Rattle.drive.specs.declared.state.Shifted.{Shifted}
 use Rattle.drive.specs.declared.state.Moved.{Moved}
 use Rattle.drive.specs.Sense.{isKnown}
 use Rattle.drive.specs.Unit.{poweredOn, attend}
-use Rattle.drive.specs.State.{unknownSense, locked, cannotLay, cannotLift, isLoaded, opening, closing, shift, holding, powerOn, refuse, moves, tested, button, lay, lift}
+use Rattle.drive.specs.State.{unknownSense, locked, cannotLay, cannotLift, opening, closing, shift, holding, powerOn, refuse, moves, button, lay, lift}
 
 -- the two states have the same disc, lock, power attention and held sense
 pub record PressKeeps (d e : Drive) : Type 0 where

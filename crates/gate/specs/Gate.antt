@@ -2,7 +2,6 @@
 use Prim.Native.Nat.{ℕ}
 use mathlib.Core.Bool.{Bool}
 use mathlib.Core.List.{List, [], _∷_}
-use lib.ListN.{length}
 use Rattle.drive.specs.declared.sense.Sense.{Sense}
 use Rattle.drive.specs.declared.state.Unit.{Unit}
 use Rattle.drive.specs.Unit.{attend}

@@ -1,5 +1,5 @@
 -- What the steps do to the attention unit.
-use mathlib.Core.Bool.{Bool, true, false}
+use mathlib.Core.Bool.{false}
 use Rattle.ground.specs.Tests.{if_then_else_}
 use Rattle.drive.specs.declared.sense.Sense.{Sense}
 use Rattle.drive.specs.declared.state.Unit.{Unit}

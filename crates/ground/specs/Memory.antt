@@ -1,13 +1,13 @@
 -- The response memory: bytes laid into it, and the laws for cutting and for lending the rest.
-use mathlib.Core.Path.{_≡_, refl, sym, ap, _∙_}
-use mathlib.Core.List.{List, [], _∷_, _++_, append-assoc, append-nil}
+use mathlib.Core.Path.{_≡_, sym, ap, _∙_}
+use mathlib.Core.List.{List, [], _++_, append-assoc, append-nil}
 use Prim.Native.Nat.{ℕ, zero, suc, _+_, _-_, _≤_, _<_, min}
 use native.Mathlib.Omega.{arith}
 use native.Mathlib.Nat.{lt-of-not-le, zero-add}
 use native.Mathlib.Numerals.{add-one}
 use native.Mathlib.Decide.{decLe}
 use lib.ListN.{length, take, drop, set, getD, length-append, length-take, length-drop, take-append-drop, drop-of-length-le}
-use lib.Seq.{take-all, take-append-le, drop-append-le, take-take, drop-drop, take-at, drop-at, length-take-le, take-append-add, take-append-seam, drop-append-seam, paste-suc, take-suc, set-split}
+use lib.Seq.{take-all, take-append-le, drop-append-le, take-take, drop-drop, length-take-le, take-append-add, take-append-seam, drop-append-seam, paste-suc}
 
 -- as many of the bytes b as m holds, and then what m held past them
 unfoldable pub fill : List ℕ → List ℕ → List ℕ

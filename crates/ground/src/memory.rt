@@ -1,5 +1,5 @@
 // Bytes laid into lent memory: as many as it holds, what lies past them stays.
-ghost use Prim.Native.Nat.{_≤_, _<_};
+ghost use Prim.Native.Nat.{_<_};
 ghost use lib.ListN.{take};
 ghost use Rattle.ground.specs.Memory.{Laid};
 

@@ -1,6 +1,5 @@
 -- A packet's line: "its number, status, sense held afterwards (three, hex), byte count, bytes in hex or -, start, count".
 use Prim.Native.Nat.{ℕ, _+_, _*_, _≤_}
-use mathlib.Core.Path.{_≡_}
 use mathlib.Core.List.{List, [], _∷_}
 use native.Mathlib.Omega.{arith}
 use lib.Dec.{eqb}

@@ -1,6 +1,4 @@
 // A file that an argument names, read into lent memory.
-ghost use Prim.Native.Nat.{_≤_};
-ghost use lib.ListN.{length};
 
 // How many bytes were read, and whether nothing failed.
 pub struct Loaded {

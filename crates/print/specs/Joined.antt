@@ -1,6 +1,6 @@
 -- Pieces of a line, one after the other.
 use Prim.Native.Nat.{ℕ}
-use mathlib.Core.List.{List, [], _∷_, _++_}
+use mathlib.Core.List.{List, _∷_, _++_}
 
 infixl 30 _next_
 -- one piece, and the next one after it

@@ -1,7 +1,7 @@
 -- Adler-32: two sums modulo 65,521, the one of the bytes, begun at 1, and the one of its values.
 use Prim.Native.Nat.{ℕ, zero, suc, _+_, _*_, _%_}
 use mathlib.Core.Path.{_≡_, refl}
-use mathlib.Core.List.{List, []}
+use mathlib.Core.List.{List}
 use native.Mathlib.Numerals.{add-one}
 use lib.ListN.{length, getD}
 

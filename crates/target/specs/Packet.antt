@@ -1,7 +1,7 @@
 -- A packet met by the drive: "Numbers of refusal", then "Steps for a packet".
 use Prim.Native.Nat.{ℕ, min}
 use mathlib.Core.Path.{_≡_}
-use mathlib.Core.Bool.{Bool, true, false, not}
+use mathlib.Core.Bool.{not}
 use mathlib.Core.List.{List}
 use lib.ListN.{length, take}
 use lib.Dec.{eqb, ltb}
@@ -15,7 +15,7 @@ use Rattle.drive.specs.State.{isLoaded, unknownSense}
 use Rattle.disc.specs.Layout.{bound}
 use Rattle.disc.specs.Rules.{isFit}
 use Rattle.disc.specs.Part.{unfit}
-use Rattle.gate.specs.Gate.{Result, Reply, refuse, gate, pass, requestSense}
+use Rattle.gate.specs.Gate.{Reply, refuse, gate, pass, requestSense}
 use Rattle.command.specs.declared.decode.Command.{Command}
 use Rattle.command.specs.declared.decode.Kind.{Kind}
 use Rattle.command.specs.declared.decode.Kind.the-variants.{Asks, Passes, Gates}

@@ -1,7 +1,7 @@
 -- How the code's outcomes meet an answer.
 use mathlib.Core.Path.{_≡_, refl, sym, ap, _∙_}
 use mathlib.Core.Bool.{Bool, true, false, not}
-use mathlib.Core.List.{List, []}
+use mathlib.Core.List.{List}
 use Prim.Native.Nat.{ℕ, _≤_, _<_, min}
 use native.Mathlib.Omega.{arith}
 use lib.ListN.{length, take, length-take}
@@ -24,7 +24,7 @@ use Rattle.gate.specs.Fault.{senseOf}
 use Rattle.gate.specs.declared.unit.Pending.{Pending}
 use Rattle.gate.specs.declared.unit.Pending.the-variants.{Power, Change, Nothing}
 use Rattle.gate.specs.Unit.{hold, clear, pendingOf, attentionSense, told}
-use Rattle.gate.specs.Gate.{Result, fails, goes, Reply, refuse, check, good, settle, pass, meet, gate, requestSense}
+use Rattle.gate.specs.Gate.{Result, fails, goes, Reply, refuse, check, good, settle, pass, meet, gate}
 use Rattle.command.specs.declared.decode.Command.{Command}
 use Rattle.command.specs.declared.decode.Kind.{Kind}
 use Rattle.command.specs.declared.decode.Kind.the-variants.{Asks, Passes, Gates}

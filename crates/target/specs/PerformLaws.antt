@@ -12,7 +12,7 @@ use Rattle.disc.specs.declared.disc.Disc.{Disc}
 use Rattle.disc.specs.Layout.{bound, header, descriptors}
 use Rattle.disc.specs.Disc.{discOf}
 use Rattle.tracks.specs.Track.{allInData}
-use Rattle.ground.specs.Memory.{Laid, fill, fill-none, laid-none}
+use Rattle.ground.specs.Memory.{Laid, fill, fill-none}
 use Rattle.drive.specs.declared.state.Mechanics.{Mechanics}
 use Rattle.drive.specs.State.{isLoaded}
 use Rattle.gate.specs.declared.fault.Fault.{Fault}
@@ -71,13 +71,6 @@ performed-goes {r} {next} {loading} {limit} {start} {count} {n} full {m} {m′} 
       outcome = rw k (ap doneOf (sym e));
       memory = l .bytes ∙ ap (λ (x : Result Mechanics). fill m (written x)) (sym e);
     }
-
--- a command with no answer writes nothing
-pub performed-none :
-    {r : Result Mechanics} {next : Mechanics} {loading : Bool} {start count : ℕ} (m : List ℕ)
-    → r ≡ goes next loading [] 0 start count
-    → Performed r m (Goes (record { next = next; loading = loading; len = 0; start = start; count = count })) m
-performed-none m e = performed-goes [] e (omega arith) (laid-none m)
 
 -- ---- INQUIRY
 

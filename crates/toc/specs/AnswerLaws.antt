@@ -1,6 +1,6 @@
 -- The laws of READ TOC's answers: each is its parts, laid one after the other, and none is long.
 use mathlib.Core.Path.{_≡_, refl, sym, ap, _∙_}
-use mathlib.Core.Bool.{Bool, true, false}
+use mathlib.Core.Bool.{Bool}
 use mathlib.Core.List.{List, [], _∷_, _++_, append-assoc}
 use Prim.Native.Nat.{ℕ, _+_, _-_, _*_, _/_, _%_, _≤_, _<_, min}
 use native.Mathlib.Omega.{arith}
@@ -10,7 +10,7 @@ use lib.Dec.{eqb}
 use lib.ListN.{length, take, drop, length-append, length-take, length-drop}
 use lib.Seq.{take-length}
 use borrow.Author.Tests.{eq-eqb, ne-eqb}
-use Rattle.ground.specs.Tests.{if_then_else_, when, unless, either}
+use Rattle.ground.specs.Tests.{when, unless, either}
 use Rattle.disc.specs.declared.disc.Disc.{Disc}
 use Rattle.disc.specs.Layout.{bound, header, row, rows, descriptors, lastSession}
 use Rattle.disc.specs.Session.{starts, session}

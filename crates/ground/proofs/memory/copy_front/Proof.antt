@@ -1,6 +1,6 @@
 -- `ground::memory::copy_front` meets its contract: after i turns the first i bytes are laid, each turn stores the next one
 -- (`laid-next`), and the loop ends where the memory is full (`laid-full`) or the bytes are at their end (`laid-end`).
-use mathlib.Core.Path.{_≡_, refl, _∙_}
+use mathlib.Core.Path.{_≡_, refl}
 use Prim.Native.Nat.{_≤_, _-_}
 use native.Mathlib.Omega.{arith}
 use lib.ListN.{length, take, length-set}

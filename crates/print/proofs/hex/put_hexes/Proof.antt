@@ -1,7 +1,7 @@
 -- `print::hex::put_hexes` meets its contract: the digits of the first i bytes are laid, and the next byte's go into the
 -- rest that begins where they ended (`laid-more`).
-use mathlib.Core.Path.{_≡_, refl, sym}
-use Prim.Native.Nat.{ℕ, _≤_, _-_}
+use mathlib.Core.Path.{_≡_, refl}
+use Prim.Native.Nat.{_≤_, _-_}
 use native.Mathlib.Omega.{arith}
 use denote.Ref.{now}
 use borrow.Author.Needs.{needs}

@@ -1,7 +1,7 @@
 -- `toc::shown::put_all` meets its contract: what is shown of the first j descriptors is laid, and the next one goes
 -- into the rest that begins where they ended (`laid-more`).
-use mathlib.Core.Path.{_≡_, refl, sym, ap, _∙_}
-use Prim.Native.Nat.{ℕ, _≤_, _+_, _-_, _/_}
+use mathlib.Core.Path.{_≡_, refl}
+use Prim.Native.Nat.{_≤_, _-_, _/_}
 use native.Mathlib.Omega.{arith}
 use borrow.Author.Needs.{needs}
 use lib.ListN.{length}

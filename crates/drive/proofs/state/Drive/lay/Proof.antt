@@ -1,9 +1,6 @@
 -- `drive::state::Drive::lay` meets its contract: each way out is one case of the laws of laying.
 use mathlib.Core.Path.{sym, ap, _∙_}
-use Rattle.drive.specs.declared.state.Drive.{Drive}
-use Rattle.drive.specs.declared.state.Mechanics.{Mechanics}
-use Rattle.drive.specs.declared.state.Shifted.{Shifted}
-use Rattle.drive.specs.State.{opening, closing, shift, holding, moves, refuse}
+use Rattle.drive.specs.State.{moves, refuse}
 use Rattle.drive.specs.StateLaws.{lay-full, lay-lays, lay-closed, lay-unknown}
 use borrow.Author.Needs.{needs}
 use Rattle.drive.proofs.state.Drive.lay.Statement.{statement}
