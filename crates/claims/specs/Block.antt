@@ -45,7 +45,7 @@ module _ {t : List ℕ} (f : Fit t) where
   block-before b h =
       trackOf-no (descriptors t) b (λ j k. let l = h j (k .listed) (k .reaches .track) in let s = k .reaches .start in absurd (omega arith))
 
-  -- "that track's session's lead-out": the descriptor after a session's heads and m tracks has the address of that session's A2
+  -- "that track's session's lead-out": of the descriptor after a session's heads and m tracks it is the address of that session's A2
   pub block-lead-out :
       {k m : ℕ} → k < lastSession t → m < tracks (session (descriptors t) k)
       → outAt (descriptors t) (rowsBefore (descriptors t) k + (3 + m)) ≡ leadOut (session (descriptors t) k)

@@ -1,4 +1,4 @@
--- The ten packets, by operation code, and their fields.
+-- The ten packets, by operation code, and the fields that stand in them (READ TOC's own with its answer).
 use Prim.Native.Nat.{ℕ, _+_, _/_, _%_}
 use mathlib.Core.Bool.{Bool, true, false, not}
 use mathlib.Core.List.{List}

@@ -8,7 +8,7 @@ use Rattle.ground.specs.Tests.{_and_}
 use Rattle.ground.specs.Number.{word16}
 use Rattle.address.specs.Address.{frames, addressOf}
 
--- "it is 4 to 4,360 bytes long": the most bytes of a table, of an answer and of the response memory
+-- "it is 4 to 4,360 bytes long": the most bytes of a table and of an answer, and the least of the response memory
 abbrev pub bound : ℕ
 bound = 4360
 

@@ -5,7 +5,7 @@ ghost use Prim.Native.Nat.{_+_, _*_, _≤_};
 ghost use lib.ListN.{length};
 ghost use Rattle.disc.specs.Layout.{row, framesAt, addressAt, isTrack};
 
-// The most bytes of a table, of an answer and of the response memory.
+// The most bytes of a table and of an answer, and the least of the response memory.
 pub const BOUND: usize = 4360;
 
 pub const HEADER: usize = 4;

@@ -1,4 +1,4 @@
-// The triples with which a command fails: the seven of the table that are no attention.
+// The triples with which a command fails: the seven of the table that are neither an attention nor 00/00/00.
 use drive::sense::BAD_FIELD;
 use drive::sense::ILLEGAL_MODE;
 use drive::sense::NO_MEDIUM_CLOSED;

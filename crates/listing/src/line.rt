@@ -70,7 +70,7 @@ fn put_refused(n: usize, number: u8, out: &mut [u8]) -> usize
 }
 
 // Packet n's line, with the bytes that it wrote.
-pub fn put_line(n: usize, o: Outcome, bytes: &[u8], out: &mut [u8]) -> usize
+pub(crate) fn put_line(n: usize, o: Outcome, bytes: &[u8], out: &mut [u8]) -> usize
     ensures { λ r. ⌜ Laid (now (out .entry)) (lineOf n o (now (bytes .entry))) r (now (out .exit)) ⌝ }
 {
     if o.number == 0 {

@@ -39,7 +39,7 @@ pub struct Turn {
 }
 
 // Everything zero, no table and no memory.
-pub fn empty() -> Bench {
+pub(crate) fn empty() -> Bench {
     let sense = Sense {
         key: 0,
         asc: 0,
@@ -72,7 +72,7 @@ fn printed(len: usize, bench: Bench) -> Turn {
 }
 
 // The run ends with nothing more.
-pub fn ended(bench: Bench) -> Turn {
+pub(crate) fn ended(bench: Bench) -> Turn {
     Turn {
         over: true,
         len: 0,
@@ -81,7 +81,7 @@ pub fn ended(bench: Bench) -> Turn {
 }
 
 // The run ends with a line that says so.
-pub fn bad(bench: Bench, line: &mut [u8]) -> Turn {
+pub(crate) fn bad(bench: Bench, line: &mut [u8]) -> Turn {
     Turn {
         over: true,
         len: copy_front(b"bad record\n", line),
@@ -289,7 +289,7 @@ fn call_part(body: &[u8], bench: Bench, table: &[u8], line: &mut [u8]) -> Turn {
 }
 
 // A record of the kind, met.
-pub fn meet(
+pub(crate) fn meet(
     kind: u8,
     body: &[u8],
     bench: Bench,

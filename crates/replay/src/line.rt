@@ -75,7 +75,7 @@ fn next_decimals(a: usize, b: usize, c: usize, out: &mut [u8]) -> usize
 }
 
 // The line of power-on, button, laying or lifting.
-pub fn put_moved(letter: u8, number: u8, d: Drive, out: &mut [u8]) -> usize
+pub(crate) fn put_moved(letter: u8, number: u8, d: Drive, out: &mut [u8]) -> usize
     ensures { λ r. ⌜ Laid (now (out .entry)) (movedLine letter number d) r (now (out .exit)) ⌝ }
 {
     let mut at = put_call(letter, number, out);
@@ -105,7 +105,7 @@ fn next_memory(bytes: &[u8], memory: &[u8], out: &mut [u8]) -> usize
 }
 
 // A packet's line, with the response memory afterwards.
-pub fn put_packet(o: Outcome, memory: &[u8], out: &mut [u8]) -> usize
+pub(crate) fn put_packet(o: Outcome, memory: &[u8], out: &mut [u8]) -> usize
     ensures { λ r. ⌜ Laid (now (out .entry)) (packetLine o (now (memory .entry))) r (now (out .exit)) ⌝ }
 {
     let state = o.state;
@@ -116,7 +116,7 @@ pub fn put_packet(o: Outcome, memory: &[u8], out: &mut [u8]) -> usize
 }
 
 // The line of an address to M:S:F.
-pub fn put_msf(number: u8, m: u8, s: u8, f: u8, out: &mut [u8]) -> usize
+pub(crate) fn put_msf(number: u8, m: u8, s: u8, f: u8, out: &mut [u8]) -> usize
     ensures { λ r. ⌜ Laid (now (out .entry)) (msfLine number m s f) r (now (out .exit)) ⌝ }
 {
     let mut at = put_call(b'a', number, out);
@@ -126,7 +126,7 @@ pub fn put_msf(number: u8, m: u8, s: u8, f: u8, out: &mut [u8]) -> usize
 }
 
 // The line of an M:S:F to its address.
-pub fn put_address(number: u8, a: usize, out: &mut [u8]) -> usize
+pub(crate) fn put_address(number: u8, a: usize, out: &mut [u8]) -> usize
     ensures { λ r. ⌜ Laid (now (out .entry)) (addressLine number a) r (now (out .exit)) ⌝ }
 {
     let mut at = put_call(b'c', number, out);
@@ -145,7 +145,7 @@ fn next_part(part: &[u8], out: &mut [u8]) -> usize
 }
 
 // The line of a session's part.
-pub fn put_part(number: u8, part: &[u8], out: &mut [u8]) -> usize
+pub(crate) fn put_part(number: u8, part: &[u8], out: &mut [u8]) -> usize
     ensures { λ r. ⌜ Laid (now (out .entry)) (partLine number (now (part .entry))) r (now (out .exit)) ⌝ }
 {
     let mut at = put_call(b's', number, out);

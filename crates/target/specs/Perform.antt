@@ -1,4 +1,4 @@
--- Steps 3 to 5: what a packet comes to once no attention stands before it.
+-- Steps 3 to 5: what a packet comes to that is performed. (INQUIRY also with an attention pending, any other once none is.)
 use Prim.Native.Nat.{ℕ, _+_, _-_}
 use mathlib.Core.Path.{_≡_}
 use mathlib.Core.Bool.{false, not}
@@ -56,7 +56,7 @@ read a n m t =
     if ltb (L t - 1) a or ltb (L t) (a + n) then fails OutOfRange
     else (if allInData (descriptors t) a n then goes m false [] 0 a n else fails IllegalMode)
 
--- step 5: each command's own work
+-- step 5: each command's own work (REQUEST SENSE never comes here: `stepsBy` answers it by `requestSense`)
 abbrev pub work : Command → List ℕ → Mechanics → List ℕ → Result Mechanics
 work TestUnitReady p m t = done m
 work RequestSense p m t = done m

@@ -1,4 +1,4 @@
-// Steps 3 to 5: what each command does once no attention stands before it.
+// Steps 3 to 5: what each command does that is performed.
 use crate::read_toc::read_toc;
 use command::decode::Command;
 use command::decode::needs_disc;

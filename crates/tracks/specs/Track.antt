@@ -43,10 +43,11 @@ unfoldable pub wanted : Ask → Track → Track → Bool
 wanted (Block b) c u = isTrack (c .number) and covers (c .start) b (u .start)
 wanted (Number n) c u = isTrack (c .number) and eqb (c .number) n
 
--- the track found among the first n descriptors: by block, the one with the greatest start not above it
+-- what is found once descriptor c has been looked at too
 unfoldable pub nextFound : Ask → Track → Track → Track
 nextFound a c u = if wanted a c u then c else u
 
+-- the track found among the first n descriptors: by block, the one with the greatest start not above it
 unfoldable pub found : Ask → List ℕ → ℕ → Track
 found a d zero = noTrack
 found a d (suc j) = nextFound a (trackAt d j) (found a d j)
