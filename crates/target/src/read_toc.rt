@@ -1,6 +1,7 @@
 // READ TOC: what the packet asks for, and the answer.
 use command::done::Done;
 use command::done::Went;
+use command::field::bit1;
 use disc::disc::Disc;
 use disc::layout::HEADER;
 use drive::state::Mechanics;
@@ -25,7 +26,7 @@ fn toc_ask(p: &[u8]) -> TocAsk
 {
     TocAsk {
         format: wide(p[2]) % 16,
-        msf: wide(p[1]) / 2 % 2 == 1,
+        msf: bit1(p[1]),
         number: p[6],
     }
 }

@@ -9,8 +9,10 @@ use disc::layout::PMIN;
 use disc::layout::POINT;
 use disc::layout::PSEC;
 use disc::layout::ROW;
+use disc::layout::is_track;
 use ground::memory::copy_front;
 use ground::number::bytes32;
+use ground::number::wide;
 ghost use mathlib.Core.Path.{_≡_};
 ghost use Prim.Native.Nat.{_+_, _*_, _≤_};
 ghost use lib.ListN.{length, take, drop};
@@ -58,10 +60,8 @@ fn is_shown(d: &[u8], n: u8, j: usize) -> bool
 {
     let at = ROW * j;
     let p = d[at + POINT];
-    if 1 <= p {
-        if p <= 99 {
-            return n <= p;
-        }
+    if is_track(wide(p)) {
+        return n <= p;
     }
     false
 }

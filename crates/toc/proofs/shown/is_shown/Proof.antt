@@ -1,14 +1,20 @@
 -- `toc::shown::is_shown` meets its contract: its tests are the definition's, in its order.
-use mathlib.Core.Path.{refl, sym}
-use borrow.Author.Tests.{le-leb, lt-leb}
-use Rattle.ground.specs.Tests.{and-on, and-off, and-late, and-both}
-use Rattle.disc.specs.Layout.{isTrack}
+use mathlib.Core.Path.{_≡_, refl, sym, ap, _∙_}
+use denote.Ref.{now}
+use Rattle.ground.specs.Tests.{and-on, and-off}
+use Rattle.disc.specs.Layout.{pointAt, isTrack}
 use Rattle.toc.specs.Shown.{isShown}
 use borrow.Author.Needs.{needs}
 use Rattle.toc.proofs.shown.is_shown.Statement.{statement}
 use Rattle.toc.proofs.shown.is_shown.Tie as tie
 use Rattle.toc.proofs.shown.is_shown.Reads as reads
 use Rattle.toc.proofs.shown.is_shown.Lts as lts
+use Rattle.disc.proofs.layout.is_track.Reads as is-track-reads
+use Rattle.ground.proofs.number.wide.Reads as wide-reads
+
+-- what the test of the widened POINT told
+told : (c : tie.After-is-track) → c .is-track .result ≡ isTrack (pointAt (now (c .before .before .before .before .args .d)) (c .before .before .before .before .args .j))
+told c = c .is-track .ensures ∙ ap isTrack (c .before .wide .ensures .same)
 
 mul-at : tie.Need-mul-at
 mul-at c = search needs
@@ -19,17 +25,21 @@ add-p c = search needs
 shared-slice-read-p : tie.Need-shared-slice-read-p
 shared-slice-read-p c = search needs
 
+wide-requires : tie.Need-wide-requires
+wide-requires c κs = search needs
+
+is-track-requires : tie.Need-is-track-requires
+is-track-requires c κs = search needs
+
 returns : tie.Need-returns
-unfolding isShown isTrack
-returns c = and-on _ _ (and-both _ _ (le-leb _ _ (c .before .if1 .taken)) (le-leb _ _ (c .if2 .taken))) refl
+unfolding isShown
+returns c = and-on _ _ (sym (told (c .before)) ∙ c .if1 .taken) refl
 
 returns-2 : tie.Need-returns-2
-unfolding isShown isTrack
-returns-2 c = and-off _ _ (sym (and-late _ _ (sym (lt-leb _ _ (c .if2 .left)))))
-
-returns-3 : tie.Need-returns-3
-unfolding isShown isTrack
-returns-3 c = and-off _ _ (sym (and-off _ _ (lt-leb _ _ (c .if1 .left))))
+unfolding isShown
+returns-2 c = and-off _ _ (sym (told (c .before)) ∙ c .if1 .left)
 
 pub is-shown-spec : {M : Type 1} → statement M
-is-shown-spec = tie.close (tie.spec mul-at add-p shared-slice-read-p returns returns-2 returns-3)
+is-shown-spec =
+    tie.close
+    (tie.spec mul-at add-p shared-slice-read-p wide-requires is-track-requires returns returns-2)
