@@ -9,15 +9,6 @@ use Rattle.address.proofs.is_msf.Reads as reads
 use Rattle.address.proofs.is_msf.Lts as lts
 use Rattle.address.proofs.to_block.Reads as to-block-reads
 
-to-block-requires : tie.Need-to-block-requires
-to-block-requires c κs = search needs
-
-enum-told : tie.Need-enum-told
-enum-told c = search needs
-
-enum-told-2 : tie.Need-enum-told-2
-enum-told-2 c = search needs
-
 returns : tie.Need-returns
 returns c = toBlock-accepts _ _ _ _ (sym (ap blockMeaning (c .enum-told .given .1)) ∙ c .before .before .to-block .ensures)
 
@@ -25,4 +16,4 @@ returns-2 : tie.Need-returns-2
 returns-2 c = toBlock-refuses _ _ _ (sym (ap blockMeaning (c .enum-told2 .given .1)) ∙ c .before .before .to-block .ensures)
 
 pub is-msf-spec : {M : Type 1} → statement M
-is-msf-spec = tie.close (tie.spec to-block-requires enum-told enum-told-2 returns returns-2)
+is-msf-spec = tie.close (tie.spec (λ c κs. search needs) (λ c. search needs) (λ c. search needs) returns returns-2)

@@ -20,9 +20,6 @@ returns-2 c = sym (toBlock-refused _ _ _ (λ r. omega arith))
 returns-3 : tie.Need-returns-3
 returns-3 c = sym (toBlock-refused _ _ _ (λ r. omega arith))
 
-frames-of-requires : tie.Need-frames-of-requires
-frames-of-requires c κs = search needs
-
 returns-4 : tie.Need-returns-4
 returns-4 c = sym (toBlock-refused _ _ _ (λ r. let e = c .before .frames-of .ensures in omega arith))
 
@@ -35,4 +32,4 @@ returns-5 c =
 
 pub to-block-spec : {M : Type 1} → statement M
 to-block-spec =
-    tie.close (tie.spec returns returns-2 returns-3 frames-of-requires returns-4 returns-5)
+    tie.close (tie.spec returns returns-2 returns-3 (λ c κs. search needs) returns-4 returns-5)

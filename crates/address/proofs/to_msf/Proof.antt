@@ -10,20 +10,8 @@ use Rattle.address.proofs.to_msf.Lts as lts
 returns : tie.Need-returns
 returns c = sym (toMsf-refused _ (c .if1 .taken))
 
-add-frames : tie.Need-add-frames
-add-frames c = search needs
-
-cast-t6 : tie.Need-cast-t6
-cast-t6 c = search needs
-
-cast-t9 : tie.Need-cast-t9
-cast-t9 c = search needs
-
-cast-t11 : tie.Need-cast-t11
-cast-t11 c = search needs
-
 returns-2 : tie.Need-returns-2
 returns-2 c = sym (toMsf-at _ (c .if1 .left))
 
 pub to-msf-spec : {M : Type 1} → statement M
-to-msf-spec = tie.close (tie.spec returns add-frames cast-t6 cast-t9 cast-t11 returns-2)
+to-msf-spec = tie.close (tie.spec returns (λ c. search needs) (λ c. search needs) (λ c. search needs) (λ c. search needs) returns-2)

@@ -9,15 +9,9 @@ use Rattle.command.proofs.decode.starting.Lts as lts
 use Rattle.command.proofs.field.bit0.Reads as bit0-reads
 use Rattle.command.proofs.field.bit1.Reads as bit1-reads
 
-bit1-requires : tie.Need-bit1-requires
-bit1-requires c κs = search needs
-
 returns : tie.Need-returns
 unfolding _and_
 returns c = rw (sym (c .before .bit1 .ensures) ∙ c .if1 .taken)
-
-bit0-requires : tie.Need-bit0-requires
-bit0-requires c κs = search needs
 
 returns-2 : tie.Need-returns-2
 unfolding _and_
@@ -25,4 +19,4 @@ returns-2 c = c .bit0 .ensures ∙ rw (sym (c .before .before .bit1 .ensures) �
 
 pub starting-spec : {M : Type 1} → statement M
 starting-spec =
-    tie.close (tie.spec bit1-requires returns bit0-requires returns-2)
+    tie.close (tie.spec (λ c κs. search needs) returns (λ c κs. search needs) returns-2)

@@ -6,11 +6,8 @@ use Rattle.command.proofs.field.bit0.Reads as reads
 use Rattle.command.proofs.field.bit0.Lts as lts
 use Rattle.ground.proofs.number.wide.Reads as wide-reads
 
-wide-requires : tie.Need-wide-requires
-wide-requires c κs = search needs
-
 returns : tie.Need-returns
 returns c = rw (c .wide .ensures .same)
 
 pub bit0-spec : {M : Type 1} → statement M
-bit0-spec = tie.close (tie.spec wide-requires returns)
+bit0-spec = tie.close (tie.spec (λ c κs. search needs) returns)

@@ -13,9 +13,6 @@ use Rattle.drive.proofs.state.Mechanics.opening.Reads as opening-reads
 use Rattle.command.proofs.tray.done.Reads as done-reads
 use Rattle.command.proofs.tray.moving.Reads as moving-reads
 
-done-requires : tie.Need-done-requires
-done-requires c κs = search needs
-
 returns : tie.Need-returns
 unfolding eject
 returns c = c .done .ensures ∙ ap doneOf (sym (when _ _ _ (c .before .if1 .taken)))
@@ -24,16 +21,10 @@ returns-2 : tie.Need-returns-2
 unfolding eject
 returns-2 c = ap doneOf (sym (unless _ _ _ (c .before .if1 .left) ∙ when _ _ _ (c .if2 .taken)))
 
-opening-requires : tie.Need-opening-requires
-opening-requires c κs = search needs
-
-moving-requires : tie.Need-moving-requires
-moving-requires c κs = search needs
-
 returns-3 : tie.Need-returns-3
 unfolding eject
 returns-3 c = c .moving .ensures ∙ ap (λ (s : Shifted). doneOf (moving s)) (c .before .opening .ensures) ∙ ap doneOf (sym (unless _ _ _ (c .before .before .before .if1 .left) ∙ unless _ _ _ (c .before .before .if2 .left)))
 
 pub eject-spec : {M : Type 1} → statement M
 eject-spec =
-    tie.close (tie.spec done-requires returns returns-2 opening-requires moving-requires returns-3)
+    tie.close (tie.spec (λ c κs. search needs) returns returns-2 (λ c κs. search needs) (λ c κs. search needs) returns-3)

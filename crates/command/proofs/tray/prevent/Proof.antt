@@ -13,18 +13,9 @@ use Rattle.command.proofs.field.bit0.Reads as bit0-reads
 use Rattle.command.proofs.tray.done.Reads as done-reads
 use Rattle.drive.proofs.state.Mechanics.with_lock.Reads as with-lock-reads
 
-bit0-requires : tie.Need-bit0-requires
-bit0-requires c κs = search needs
-
-with-lock-requires : tie.Need-with-lock-requires
-with-lock-requires c κs = search needs
-
-done-requires : tie.Need-done-requires
-done-requires c κs = search needs
-
 returns : tie.Need-returns
 returns c = let l = c .before .with-lock .ensures ∙ ap (withLock (c .before .before .before .args .m)) (c .before .before .bit0 .ensures) in
     c .done .ensures ∙ ap (λ (k : Mechanics). doneOf (done k)) l
 
 pub prevent-spec : {M : Type 1} → statement M
-prevent-spec = tie.close (tie.spec bit0-requires with-lock-requires done-requires returns)
+prevent-spec = tie.close (tie.spec (λ c κs. search needs) (λ c κs. search needs) (λ c κs. search needs) returns)

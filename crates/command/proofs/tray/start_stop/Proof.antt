@@ -14,28 +14,13 @@ use Rattle.command.proofs.tray.done.Reads as done-reads
 use Rattle.command.proofs.tray.eject.Reads as eject-reads
 use Rattle.command.proofs.tray.load.Reads as load-reads
 
-bit1-requires : tie.Need-bit1-requires
-bit1-requires c κs = search needs
-
-bit0-requires : tie.Need-bit0-requires
-bit0-requires c κs = search needs
-
-load-requires : tie.Need-load-requires
-load-requires c κs = search needs
-
 returns : tie.Need-returns
 unfolding startStop
 returns c = c .load .ensures ∙ ap doneOf (sym (when _ _ _ (sym (c .before .before .before .before .bit1 .ensures) ∙ c .before .before .before .if1 .taken) ∙ when _ _ _ (sym (c .before .before .bit0 .ensures) ∙ c .before .if2 .taken)))
 
-eject-requires : tie.Need-eject-requires
-eject-requires c κs = search needs
-
 returns-2 : tie.Need-returns-2
 unfolding startStop
 returns-2 c = c .eject .ensures ∙ ap doneOf (sym (when _ _ _ (sym (c .before .before .before .before .bit1 .ensures) ∙ c .before .before .before .if1 .taken) ∙ unless _ _ _ (sym (c .before .before .bit0 .ensures) ∙ c .before .if2 .left)))
-
-done-requires : tie.Need-done-requires
-done-requires c κs = search needs
 
 returns-3 : tie.Need-returns-3
 unfolding startStop
@@ -44,12 +29,5 @@ returns-3 c = c .done .ensures ∙ ap doneOf (sym (unless _ _ _ (sym (c .before 
 pub start-stop-spec : {M : Type 1} → statement M
 start-stop-spec =
     tie.close
-    (tie.spec
-    bit1-requires
-    bit0-requires
-    load-requires
-    returns
-    eject-requires
-    returns-2
-    done-requires
-    returns-3)
+    (tie.spec (λ c κs. search needs) (λ c κs. search needs) (λ c κs. search needs) returns (λ c κs. search needs) returns-2
+    (λ c κs. search needs) returns-3)

@@ -41,23 +41,14 @@ sub-d c = fit-sized (fit (c .before)) .least
 part-d-start : tie.Need-part-d-start
 part-d-start c = let l = fit-sized (fit (c .before)) in search needs
 
-part-d-end : tie.Need-part-d-end
-part-d-end c = search needs
-
 sub-s : tie.Need-sub-s
 sub-s c = within (c .before .before)
 
 part-s-start : tie.Need-part-s-start
 part-s-start c = let w = within (c .before .before) in search needs
 
-part-s-end : tie.Need-part-s-end
-part-s-end c = search needs
-
 shared-slice-read-t7 : tie.Need-shared-slice-read-t7
 shared-slice-read-t7 c = let l = rows (c .before .before .before .before) in search needs
-
-add-t9 : tie.Need-add-t9
-add-t9 c = search needs
 
 shared-slice-read-t15 : tie.Need-shared-slice-read-t15
 shared-slice-read-t15 c = rw rest-rest (let l = long (c .before .before .before .before .before) in omega arith)
@@ -65,29 +56,11 @@ shared-slice-read-t15 c = rw rest-rest (let l = long (c .before .before .before 
 address-at-requires : tie.Need-address-at-requires
 address-at-requires c κs = rw rest-rest (let l = long (c .before .before .before .before .before) in omega arith)
 
-mul-t17 : tie.Need-mul-t17
-mul-t17 c = search needs
-
-add-t18 : tie.Need-add-t18
-add-t18 c = search needs
-
 shared-slice-read-t20 : tie.Need-shared-slice-read-t20
 shared-slice-read-t20 c = rw rest-rest (let l = long (c .before .before .before .before .before .before .before) in omega arith)
 
-mul-t21 : tie.Need-mul-t21
-mul-t21 c = search needs
-
-add-t22 : tie.Need-add-t22
-add-t22 c = search needs
-
 shared-slice-read-t24 : tie.Need-shared-slice-read-t24
 shared-slice-read-t24 c = rw rest-rest (let l = long (c .before .before .before .before .before .before .before .before) in omega arith)
-
-mul-t25 : tie.Need-mul-t25
-mul-t25 c = search needs
-
-add-t26 : tie.Need-add-t26
-add-t26 c = search needs
 
 shared-slice-read-t28 : tie.Need-shared-slice-read-t28
 shared-slice-read-t28 c = rw rest-rest (let l = long (c .before .before .before .before .before .before .before .before .before) in omega arith)
@@ -104,26 +77,7 @@ returns c = let q = c .before .before .before .before .before .before .before .b
 pub disc-of-spec : {M : Type 1} → statement M
 disc-of-spec =
     tie.close
-    (tie.spec
-    shared-slice-read-sessions
-    sub-d
-    part-d-start
-    part-d-end
-    sub-s
-    part-s-start
-    part-s-end
-    shared-slice-read-t7
-    add-t9
-    shared-slice-read-t15
-    address-at-requires
-    mul-t17
-    add-t18
-    shared-slice-read-t20
-    mul-t21
-    add-t22
-    shared-slice-read-t24
-    mul-t25
-    add-t26
-    shared-slice-read-t28
-    address-at-requires-2
-    returns)
+    (tie.spec shared-slice-read-sessions sub-d part-d-start (λ c. search needs) sub-s part-s-start (λ c. search needs) shared-slice-read-t7
+    (λ c. search needs) shared-slice-read-t15 address-at-requires (λ c. search needs) (λ c. search needs) shared-slice-read-t20
+    (λ c. search needs) (λ c. search needs) shared-slice-read-t24 (λ c. search needs) (λ c. search needs) shared-slice-read-t28
+    address-at-requires-2 returns)

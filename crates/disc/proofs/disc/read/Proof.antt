@@ -13,9 +13,6 @@ use Rattle.disc.proofs.disc.disc_of.Reads as disc-of-reads
 use Rattle.disc.proofs.rules.fault.Reads as fault-reads
 use Rattle.disc.proofs.walk.judge.Reads as judge-reads
 
-judge-requires : tie.Need-judge-requires
-judge-requires c κs = search needs
-
 disc-of-requires : tie.Need-disc-of-requires
 disc-of-requires c κs = (verdict-told _ (c .before .judge .ensures) (c .if1 .taken), verdict-at (c .before .judge .ensures) (c .if1 .taken))
 
@@ -23,12 +20,9 @@ returns : tie.Need-returns
 unfolding reading
 returns c = ap Fit (c .disc-of .ensures) ∙ sym (when _ _ _ (verdict-told _ (c .before .before .judge .ensures) (c .before .if1 .taken)))
 
-fault-requires : tie.Need-fault-requires
-fault-requires c κs = search needs
-
 returns-2 : tie.Need-returns-2
 unfolding reading
 returns-2 c = ap Unfit (c .fault .ensures) ∙ sym (unless _ _ _ (verdict-told _ (c .before .before .judge .ensures) (c .before .if1 .left)))
 
 pub read-spec : {M : Type 1} → statement M
-read-spec = tie.close (tie.spec judge-requires disc-of-requires returns fault-requires returns-2)
+read-spec = tie.close (tie.spec (λ c κs. search needs) disc-of-requires returns (λ c κs. search needs) returns-2)

@@ -8,9 +8,6 @@ use Rattle.disc.proofs.layout.address_at.Reads as reads
 use Rattle.disc.proofs.layout.address_at.Lts as lts
 use Rattle.disc.proofs.layout.frames_at.Reads as frames-at-reads
 
-frames-at-requires : tie.Need-frames-at-requires
-frames-at-requires c κs = search needs
-
 returns : tie.Need-returns
 unfolding framesAt addressAt
 returns c = let e = c .before .frames-at .ensures .0 in let h = c .if1 .taken in omega arith
@@ -20,4 +17,4 @@ unfolding framesAt addressAt
 returns-2 c = let e = c .before .frames-at .ensures .0 in omega arith
 
 pub address-at-spec : {M : Type 1} → statement M
-address-at-spec = tie.close (tie.spec frames-at-requires returns returns-2)
+address-at-spec = tie.close (tie.spec (λ c κs. search needs) returns returns-2)

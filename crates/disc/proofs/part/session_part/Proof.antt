@@ -64,20 +64,11 @@ ends c =
     let s = fit-sized (given (c .before .before .before .before .before) .fit) in
     omega arith
 
-session-refusal-requires : tie.Need-session-refusal-requires
-session-refusal-requires c κs = search needs
-
 sub-d : tie.Need-sub-d
 sub-d c = fit-sized (given c .fit) .least
 
 part-d-start : tie.Need-part-d-start
 part-d-start c = let l = fit-sized (given c .fit) in search needs
-
-part-d-end : tie.Need-part-d-end
-part-d-end c = search needs
-
-wide-requires : tie.Need-wide-requires
-wide-requires c κs = search needs
 
 sub-starts-at : tie.Need-sub-starts-at
 sub-starts-at c = let g = given (c .before .before) in search needs
@@ -91,9 +82,6 @@ sub-session-bytes c = within c
 part-session-bytes-start : tie.Need-part-session-bytes-start
 part-session-bytes-start c = let w = within c in search needs
 
-part-session-bytes-end : tie.Need-part-session-bytes-end
-part-session-bytes-end c = search needs
-
 session-bytes-requires : tie.Need-session-bytes-requires
 session-bytes-requires c κs = rw rest-rest (isSession-heads (here (c .before)))
 
@@ -102,12 +90,6 @@ add-at c = let e = ends c in search needs
 
 add-result : tie.Need-add-result
 add-result c = let e = ends c in search needs
-
-sub-result : tie.Need-sub-result
-sub-result c = search needs
-
-part-result-start : tie.Need-part-result-start
-part-result-start c = search needs
 
 part-result-end : tie.Need-part-result-end
 part-result-end c = let e = ends c in search needs
@@ -122,9 +104,6 @@ returns c =
     (from (c .before .before .before)) ∙ partSize-given _ _ n in
     rw (sym a, sym b) (record { block = refl; offset = refl; shows = rw add-sub-cancel-left })
 
-slice-aggregate-result : tie.Need-slice-aggregate-result
-slice-aggregate-result c = search needs
-
 returns-2 : tie.Need-returns-2
 returns-2 c =
     let n : partRefusal (c .before .before .before .before .args .t .now) (c .before .before .before .before .args .k) ≡ 0
@@ -134,23 +113,6 @@ returns-2 c =
 pub session-part-spec : {M : Type 1} → statement M
 session-part-spec =
     tie.close
-    (tie.spec
-    session-refusal-requires
-    sub-d
-    part-d-start
-    part-d-end
-    wide-requires
-    sub-starts-at
-    starts-at-requires
-    sub-session-bytes
-    part-session-bytes-start
-    part-session-bytes-end
-    session-bytes-requires
-    add-at
-    add-result
-    sub-result
-    part-result-start
-    part-result-end
-    returns
-    slice-aggregate-result
-    returns-2)
+    (tie.spec (λ c κs. search needs) sub-d part-d-start (λ c. search needs) (λ c κs. search needs) sub-starts-at starts-at-requires
+    sub-session-bytes part-session-bytes-start (λ c. search needs) session-bytes-requires add-at add-result (λ c. search needs)
+    (λ c. search needs) part-result-end returns (λ c. search needs) returns-2)

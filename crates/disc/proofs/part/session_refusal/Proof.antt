@@ -13,19 +13,10 @@ use Rattle.disc.proofs.part.session_refusal.Lts as lts
 use Rattle.disc.proofs.walk.is_fit.Reads as is-fit-reads
 use Rattle.ground.proofs.number.wide.Reads as wide-reads
 
-is-fit-requires : tie.Need-is-fit-requires
-is-fit-requires c κs = search needs
-
-wide-requires : tie.Need-wide-requires
-wide-requires c κs = search needs
-
 shared-slice-read-wide : tie.Need-shared-slice-read-wide
 shared-slice-read-wide c =
     let s = fit-sized (isFit-true (sym (c .before .before .before .before .is-fit .ensures) ∙ c .before .before .before .if1 .taken)) in
     search needs
-
-wide-requires-2 : tie.Need-wide-requires-2
-wide-requires-2 c κs = search needs
 
 returns : tie.Need-returns
 returns c =
@@ -59,12 +50,5 @@ returns-4 c = sym (unless _ _ _ (sym (c .before .is-fit .ensures) ∙ c .if1 .le
 pub session-refusal-spec : {M : Type 1} → statement M
 session-refusal-spec =
     tie.close
-    (tie.spec
-    is-fit-requires
-    wide-requires
-    shared-slice-read-wide
-    wide-requires-2
-    returns
-    returns-2
-    returns-3
+    (tie.spec (λ c κs. search needs) (λ c κs. search needs) shared-slice-read-wide (λ c κs. search needs) returns returns-2 returns-3
     returns-4)

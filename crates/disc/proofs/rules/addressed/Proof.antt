@@ -20,71 +20,11 @@ use Rattle.ground.proofs.number.wide.Reads as wide-reads
 is-a-track : {p q : ℕ} {r b : Bool} → Byte p q → r ≡ isTrack q → r ≡ b → isTrack p ≡ b
 is-a-track w e h = ap isTrack (sym (w .same)) ∙ sym e ∙ h
 
-mul-at : tie.Need-mul-at
-mul-at c = search needs
-
-add-wide : tie.Need-add-wide
-add-wide c = search needs
-
-shared-slice-read-wide : tie.Need-shared-slice-read-wide
-shared-slice-read-wide c = search needs
-
-wide-requires : tie.Need-wide-requires
-wide-requires c κs = search needs
-
-wide-requires-2 : tie.Need-wide-requires-2
-wide-requires-2 c κs = search needs
-
-add-is-msf : tie.Need-add-is-msf
-add-is-msf c = search needs
-
-shared-slice-read-is-msf : tie.Need-shared-slice-read-is-msf
-shared-slice-read-is-msf c = search needs
-
-add-is-msf-2 : tie.Need-add-is-msf-2
-add-is-msf-2 c = search needs
-
-shared-slice-read-is-msf-2 : tie.Need-shared-slice-read-is-msf-2
-shared-slice-read-is-msf-2 c = search needs
-
-add-is-msf-3 : tie.Need-add-is-msf-3
-add-is-msf-3 c = search needs
-
-shared-slice-read-is-msf-3 : tie.Need-shared-slice-read-is-msf-3
-shared-slice-read-is-msf-3 c = search needs
-
-is-msf-requires : tie.Need-is-msf-requires
-is-msf-requires c κs = search needs
-
 returns : tie.Need-returns
 unfolding addressed _or_ if_then_else_
 returns c =
     rw (byte-is (c .before .before .before .before .before .before .wide .ensures) (c .before .before .before .before .before .wide2 .ensures)
     (c .before .before .before .before .if1 .taken)) (c .is-msf .ensures)
-
-is-track-requires : tie.Need-is-track-requires
-is-track-requires c κs = search needs
-
-add-is-msf-4 : tie.Need-add-is-msf-4
-add-is-msf-4 c = search needs
-
-shared-slice-read-is-msf-4 : tie.Need-shared-slice-read-is-msf-4
-shared-slice-read-is-msf-4 c = search needs
-
-add-is-msf-5 : tie.Need-add-is-msf-5
-add-is-msf-5 c = search needs
-
-shared-slice-read-is-msf-5 : tie.Need-shared-slice-read-is-msf-5
-shared-slice-read-is-msf-5 c = search needs
-
-add-is-msf-6 : tie.Need-add-is-msf-6
-add-is-msf-6 c = search needs
-
-shared-slice-read-is-msf-6 : tie.Need-shared-slice-read-is-msf-6
-shared-slice-read-is-msf-6 c = search needs
-
-is-msf-requires-2 : tie.Need-is-msf-requires-2
-is-msf-requires-2 c κs = search needs
 
 returns-2 : tie.Need-returns-2
 unfolding addressed _or_ if_then_else_
@@ -110,27 +50,7 @@ returns-3 c =
 pub addressed-spec : {M : Type 1} → statement M
 addressed-spec =
     tie.close
-    (tie.spec
-    mul-at
-    add-wide
-    shared-slice-read-wide
-    wide-requires
-    wide-requires-2
-    add-is-msf
-    shared-slice-read-is-msf
-    add-is-msf-2
-    shared-slice-read-is-msf-2
-    add-is-msf-3
-    shared-slice-read-is-msf-3
-    is-msf-requires
-    returns
-    is-track-requires
-    add-is-msf-4
-    shared-slice-read-is-msf-4
-    add-is-msf-5
-    shared-slice-read-is-msf-5
-    add-is-msf-6
-    shared-slice-read-is-msf-6
-    is-msf-requires-2
-    returns-2
-    returns-3)
+    (tie.spec (λ c. search needs) (λ c. search needs) (λ c. search needs) (λ c κs. search needs) (λ c κs. search needs) (λ c. search needs)
+    (λ c. search needs) (λ c. search needs) (λ c. search needs) (λ c. search needs) (λ c. search needs) (λ c κs. search needs) returns
+    (λ c κs. search needs) (λ c. search needs) (λ c. search needs) (λ c. search needs) (λ c. search needs) (λ c. search needs)
+    (λ c. search needs) (λ c κs. search needs) returns-2 returns-3)

@@ -13,18 +13,12 @@ use Rattle.disc.proofs.rules.rule1.Reads as rule1-reads
 use Rattle.disc.proofs.rules.rule2.Reads as rule2-reads
 use Rattle.ground.proofs.number.wide.Reads as wide-reads
 
-rule1-requires : tie.Need-rule1-requires
-rule1-requires c κs = search needs
-
 rule2-requires : tie.Need-rule2-requires
 rule2-requires c κs = rule1-parts (sym (c .before .rule1 .ensures) ∙ c .if1 .taken) .least
 
 shared-slice-read-wide : tie.Need-shared-slice-read-wide
 shared-slice-read-wide c =
     let s = rule1-parts (sym (c .before .before .before .before .rule1 .ensures) ∙ c .before .before .before .if1 .taken) in search needs
-
-wide-requires : tie.Need-wide-requires
-wide-requires c κs = search needs
 
 sub-fault-of-rows : tie.Need-sub-fault-of-rows
 sub-fault-of-rows c =
@@ -34,12 +28,6 @@ part-fault-of-rows-start : tie.Need-part-fault-of-rows-start
 part-fault-of-rows-start c =
     let s = rule1-parts (sym (c .before .before .before .before .before .rule1 .ensures) ∙ c .before .before .before .before .if1 .taken) in
     search needs
-
-part-fault-of-rows-end : tie.Need-part-fault-of-rows-end
-part-fault-of-rows-end c = search needs
-
-fault-of-rows-requires : tie.Need-fault-of-rows-requires
-fault-of-rows-requires c κs = search needs
 
 returns : tie.Need-returns
 unfolding fault
@@ -62,15 +50,5 @@ returns-3 c = firstBroken-off _ _ _ (sym (c .before .rule1 .ensures) ∙ c .if1 
 pub fault-spec : {M : Type 1} → statement M
 fault-spec =
     tie.close
-    (tie.spec
-    rule1-requires
-    rule2-requires
-    shared-slice-read-wide
-    wide-requires
-    sub-fault-of-rows
-    part-fault-of-rows-start
-    part-fault-of-rows-end
-    fault-of-rows-requires
-    returns
-    returns-2
-    returns-3)
+    (tie.spec (λ c κs. search needs) rule2-requires shared-slice-read-wide (λ c κs. search needs) sub-fault-of-rows part-fault-of-rows-start
+    (λ c. search needs) (λ c κs. search needs) returns returns-2 returns-3)

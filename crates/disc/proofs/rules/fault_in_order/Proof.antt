@@ -10,15 +10,6 @@ use Rattle.disc.proofs.rules.fault_in_order.Lts as lts
 use Rattle.disc.proofs.rules.every_row.Reads as every-row-reads
 use Rattle.disc.proofs.rules.rule7.Reads as rule7-reads
 
-every-row-requires : tie.Need-every-row-requires
-every-row-requires c κs = search needs
-
-every-row-requires-2 : tie.Need-every-row-requires-2
-every-row-requires-2 c κs = search needs
-
-rule7-requires : tie.Need-rule7-requires
-rule7-requires c κs = search needs
-
 returns : tie.Need-returns
 unfolding lateRules
 returns c =
@@ -46,11 +37,4 @@ returns-4 c = firstBroken-off _ _ _ (sym (c .before .every-row .ensures) ∙ c .
 pub fault-in-order-spec : {M : Type 1} → statement M
 fault-in-order-spec =
     tie.close
-    (tie.spec
-    every-row-requires
-    every-row-requires-2
-    rule7-requires
-    returns
-    returns-2
-    returns-3
-    returns-4)
+    (tie.spec (λ c κs. search needs) (λ c κs. search needs) (λ c κs. search needs) returns returns-2 returns-3 returns-4)

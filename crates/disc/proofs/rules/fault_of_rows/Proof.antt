@@ -11,12 +11,6 @@ use Rattle.disc.proofs.rules.every_row.Reads as every-row-reads
 use Rattle.disc.proofs.rules.fault_in_order.Reads as fault-in-order-reads
 use Rattle.disc.proofs.session.in_order.Reads as in-order-reads
 
-every-row-requires : tie.Need-every-row-requires
-every-row-requires c κs = search needs
-
-in-order-requires : tie.Need-in-order-requires
-in-order-requires c κs = search needs
-
 fault-in-order-requires : tie.Need-fault-in-order-requires
 fault-in-order-requires c κs = sym (c .before .in-order .ensures) ∙ c .if2 .taken
 
@@ -39,10 +33,4 @@ returns-3 c = firstBroken-off _ _ _ (sym (c .before .every-row .ensures) ∙ c .
 pub fault-of-rows-spec : {M : Type 1} → statement M
 fault-of-rows-spec =
     tie.close
-    (tie.spec
-    every-row-requires
-    in-order-requires
-    fault-in-order-requires
-    returns
-    returns-2
-    returns-3)
+    (tie.spec (λ c κs. search needs) (λ c κs. search needs) fault-in-order-requires returns returns-2 returns-3)

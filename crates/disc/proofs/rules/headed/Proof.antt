@@ -12,42 +12,6 @@ use Rattle.disc.proofs.rules.headed.Lts as lts
 use Rattle.disc.proofs.rules.head_a0.Reads as head-a0-reads
 use Rattle.ground.proofs.number.wide.Reads as wide-reads
 
-mul-at : tie.Need-mul-at
-mul-at c = search needs
-
-add-wide : tie.Need-add-wide
-add-wide c = search needs
-
-shared-slice-read-wide : tie.Need-shared-slice-read-wide
-shared-slice-read-wide c = search needs
-
-wide-requires : tie.Need-wide-requires
-wide-requires c κs = search needs
-
-add-wide-2 : tie.Need-add-wide-2
-add-wide-2 c = search needs
-
-shared-slice-read-wide-2 : tie.Need-shared-slice-read-wide-2
-shared-slice-read-wide-2 c = search needs
-
-wide-requires-2 : tie.Need-wide-requires-2
-wide-requires-2 c κs = search needs
-
-add-wide-3 : tie.Need-add-wide-3
-add-wide-3 c = search needs
-
-shared-slice-read-wide-3 : tie.Need-shared-slice-read-wide-3
-shared-slice-read-wide-3 c = search needs
-
-wide-requires-3 : tie.Need-wide-requires-3
-wide-requires-3 c κs = search needs
-
-wide-requires-4 : tie.Need-wide-requires-4
-wide-requires-4 c κs = search needs
-
-head-a0-requires : tie.Need-head-a0-requires
-head-a0-requires c κs = search needs
-
 returns : tie.Need-returns
 unfolding headed
 returns c =
@@ -55,9 +19,6 @@ returns c =
     (c .head-a0 .ensures)
     ∙ sym (when _ _ _ (byte-is (c .before .before .before .before .before .before .before .wide .ensures) (c .before .before .wide4 .ensures)
     (c .before .if1 .taken)))
-
-wide-requires-5 : tie.Need-wide-requires-5
-wide-requires-5 c κs = search needs
 
 returns-2 : tie.Need-returns-2
 unfolding headed
@@ -89,21 +50,6 @@ returns-4 c =
 pub headed-spec : {M : Type 1} → statement M
 headed-spec =
     tie.close
-    (tie.spec
-    mul-at
-    add-wide
-    shared-slice-read-wide
-    wide-requires
-    add-wide-2
-    shared-slice-read-wide-2
-    wide-requires-2
-    add-wide-3
-    shared-slice-read-wide-3
-    wide-requires-3
-    wide-requires-4
-    head-a0-requires
-    returns
-    wide-requires-5
-    returns-2
-    returns-3
-    returns-4)
+    (tie.spec (λ c. search needs) (λ c. search needs) (λ c. search needs) (λ c κs. search needs) (λ c. search needs) (λ c. search needs)
+    (λ c κs. search needs) (λ c. search needs) (λ c. search needs) (λ c κs. search needs) (λ c κs. search needs) (λ c κs. search needs)
+    returns (λ c κs. search needs) returns-2 returns-3 returns-4)

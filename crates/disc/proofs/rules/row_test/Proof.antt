@@ -12,22 +12,13 @@ use Rattle.disc.proofs.rules.addressed.Reads as addressed-reads
 use Rattle.disc.proofs.rules.headed.Reads as headed-reads
 use Rattle.disc.proofs.rules.plain.Reads as plain-reads
 
-plain-requires : tie.Need-plain-requires
-plain-requires c κs = search needs
-
 returns : tie.Need-returns
 unfolding rowTest
 returns c = c .plain .ensures ∙ sym (when _ _ _ (eq-eqb _ _ (c .before .if1 .taken)))
 
-headed-requires : tie.Need-headed-requires
-headed-requires c κs = search needs
-
 returns-2 : tie.Need-returns-2
 unfolding rowTest
 returns-2 c = c .headed .ensures ∙ sym (unless _ _ _ (ne-eqb _ _ (c .before .before .if1 .left)) ∙ when _ _ _ (eq-eqb _ _ (c .before .if2 .taken)))
-
-addressed-requires : tie.Need-addressed-requires
-addressed-requires c κs = search needs
 
 returns-3 : tie.Need-returns-3
 unfolding rowTest
@@ -37,4 +28,4 @@ returns-3 c =
 pub row-test-spec : {M : Type 1} → statement M
 row-test-spec =
     tie.close
-    (tie.spec plain-requires returns headed-requires returns-2 addressed-requires returns-3)
+    (tie.spec (λ c κs. search needs) returns (λ c κs. search needs) returns-2 (λ c κs. search needs) returns-3)

@@ -17,18 +17,6 @@ returns-2 : tie.Need-returns-2
 unfolding rule1
 returns-2 c = and-late _ _ (and-off _ _ (lt-leb _ _ (c .if2 .taken)))
 
-shared-slice-read-word16 : tie.Need-shared-slice-read-word16
-shared-slice-read-word16 c = search needs
-
-shared-slice-read-word16-2 : tie.Need-shared-slice-read-word16-2
-shared-slice-read-word16-2 c = search needs
-
-word16-requires : tie.Need-word16-requires
-word16-requires c κs = search needs
-
-sub-result : tie.Need-sub-result
-sub-result c = search needs
-
 returns-3 : tie.Need-returns-3
 unfolding rule1
 returns-3 c =
@@ -43,12 +31,4 @@ returns-4 c = and-late _ _ (and-late _ _ (and-off _ _ (ne-eqb _ _ (c .if3 .left)
 pub rule1-spec : {M : Type 1} → statement M
 rule1-spec =
     tie.close
-    (tie.spec
-    returns
-    returns-2
-    shared-slice-read-word16
-    shared-slice-read-word16-2
-    word16-requires
-    sub-result
-    returns-3
-    returns-4)
+    (tie.spec returns returns-2 (λ c. search needs) (λ c. search needs) (λ c κs. search needs) (λ c. search needs) returns-3 returns-4)

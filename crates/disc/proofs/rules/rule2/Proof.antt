@@ -10,18 +10,6 @@ use Rattle.disc.proofs.rules.rule2.Reads as reads
 use Rattle.disc.proofs.rules.rule2.Lts as lts
 use Rattle.ground.proofs.number.wide.Reads as wide-reads
 
-shared-slice-read-wide : tie.Need-shared-slice-read-wide
-shared-slice-read-wide c = search needs
-
-wide-requires : tie.Need-wide-requires
-wide-requires c κs = search needs
-
-shared-slice-read-wide-2 : tie.Need-shared-slice-read-wide-2
-shared-slice-read-wide-2 c = search needs
-
-wide-requires-2 : tie.Need-wide-requires-2
-wide-requires-2 c κs = search needs
-
 returns : tie.Need-returns
 unfolding rule2
 returns c =
@@ -39,11 +27,4 @@ returns-3 c = and-off _ _ (ne-eqb _ _ (λ e. c .if1 .left (c .before .wide .ensu
 pub rule2-spec : {M : Type 1} → statement M
 rule2-spec =
     tie.close
-    (tie.spec
-    shared-slice-read-wide
-    wide-requires
-    shared-slice-read-wide-2
-    wide-requires-2
-    returns
-    returns-2
-    returns-3)
+    (tie.spec (λ c. search needs) (λ c κs. search needs) (λ c. search needs) (λ c κs. search needs) returns returns-2 returns-3)

@@ -10,17 +10,8 @@ use Rattle.disc.proofs.session.byte_at.Reads as reads
 use Rattle.disc.proofs.session.byte_at.Lts as lts
 use Rattle.ground.proofs.number.wide.Reads as wide-reads
 
-shared-slice-read-wide : tie.Need-shared-slice-read-wide
-shared-slice-read-wide c = search needs
-
-wide-requires : tie.Need-wide-requires
-wide-requires c κs = search needs
-
-returns : tie.Need-returns
-returns c = search needs
-
 returns-2 : tie.Need-returns-2
 returns-2 c = record { same = sym (List·getD-eq-default (now (c .before .before .args .d)) 0 (c .if1 .left)); small = omega arith }
 
 pub byte-at-spec : {M : Type 1} → statement M
-byte-at-spec = tie.close (tie.spec shared-slice-read-wide wide-requires returns returns-2)
+byte-at-spec = tie.close (tie.spec (λ c. search needs) (λ c κs. search needs) (λ c. search needs) returns-2)

@@ -13,18 +13,9 @@ returns : tie.Need-returns
 unfolding follows _or_
 returns c = rw (eq-eqb _ _ (c .if1 .taken))
 
-wide-requires : tie.Need-wide-requires
-wide-requires c κs = search needs
-
-wide-requires-2 : tie.Need-wide-requires-2
-wide-requires-2 c κs = search needs
-
-add-result : tie.Need-add-result
-add-result c = search needs
-
 returns-2 : tie.Need-returns-2
 unfolding follows _or_
 returns-2 c = rw (ne-eqb _ _ (c .before .before .if1 .left), c .before .wide .ensures .same, c .wide2 .ensures .same)
 
 pub follows-spec : {M : Type 1} → statement M
-follows-spec = tie.close (tie.spec returns wide-requires wide-requires-2 add-result returns-2)
+follows-spec = tie.close (tie.spec returns (λ c κs. search needs) (λ c κs. search needs) (λ c. search needs) returns-2)

@@ -19,27 +19,6 @@ use Rattle.ground.proofs.number.wide.Reads as wide-reads
 told : (d : List ℕ) (k j : ℕ) {p q : ℕ} {r b : Bool} → Byte p q → r ≡ names d k j q → r ≡ b → names d k j p ≡ b
 told d k j w e h = ap (names d k j) (sym (w .same)) ∙ sym e ∙ h
 
-wide-requires : tie.Need-wide-requires
-wide-requires c κs = search needs
-
-names-requires : tie.Need-names-requires
-names-requires c κs = search needs
-
-wide-requires-2 : tie.Need-wide-requires-2
-wide-requires-2 c κs = search needs
-
-names-requires-2 : tie.Need-names-requires-2
-names-requires-2 c κs = search needs
-
-wide-requires-3 : tie.Need-wide-requires-3
-wide-requires-3 c κs = search needs
-
-names-requires-3 : tie.Need-names-requires-3
-names-requires-3 c κs = search needs
-
-lists-tracks-requires : tie.Need-lists-tracks-requires
-lists-tracks-requires c κs = search needs
-
 returns : tie.Need-returns
 unfolding listed
 returns c =
@@ -66,15 +45,5 @@ returns-4 c = and-off _ _ (told _ _ _ (c .before .before .wide .ensures) (c .bef
 pub listed-spec : {M : Type 1} → statement M
 listed-spec =
     tie.close
-    (tie.spec
-    wide-requires
-    names-requires
-    wide-requires-2
-    names-requires-2
-    wide-requires-3
-    names-requires-3
-    lists-tracks-requires
-    returns
-    returns-2
-    returns-3
-    returns-4)
+    (tie.spec (λ c κs. search needs) (λ c κs. search needs) (λ c κs. search needs) (λ c κs. search needs) (λ c κs. search needs)
+    (λ c κs. search needs) (λ c κs. search needs) returns returns-2 returns-3 returns-4)

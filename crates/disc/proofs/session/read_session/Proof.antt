@@ -21,26 +21,8 @@ told :
     → listed d k f (l + 1 - f) ≡ b
 told d k v w e h = rw (v .same, w .same) at (sym e ∙ h)
 
-mul-if1 : tie.Need-mul-if1
-mul-if1 c = search needs
-
 returns : tie.Need-returns
 returns c = readSession-not _ _ (λ s. let e = size-least s in let f = s .fits in omega arith)
-
-shared-slice-read-first : tie.Need-shared-slice-read-first
-shared-slice-read-first c = search needs
-
-add-last : tie.Need-add-last
-add-last c = search needs
-
-shared-slice-read-last : tie.Need-shared-slice-read-last
-shared-slice-read-last c = search needs
-
-wide-requires : tie.Need-wide-requires
-wide-requires c κs = search needs
-
-wide-requires-2 : tie.Need-wide-requires-2
-wide-requires-2 c κs = search needs
 
 returns-2 : tie.Need-returns-2
 returns-2 c = readSession-not _ _ (λ s. omega arith)
@@ -51,24 +33,9 @@ returns-3 c = readSession-not _ _ (λ s. omega arith)
 returns-4 : tie.Need-returns-4
 returns-4 c = readSession-not _ _ (λ s. omega arith)
 
-add-n : tie.Need-add-n
-add-n c = search needs
-
-sub-n : tie.Need-sub-n
-sub-n c = search needs
-
-add-bytes : tie.Need-add-bytes
-add-bytes c = search needs
-
-mul-bytes : tie.Need-mul-bytes
-mul-bytes c = search needs
-
 returns-5 : tie.Need-returns-5
 unfolding size
 returns-5 c = readSession-not _ _ (λ s. omega arith)
-
-listed-requires : tie.Need-listed-requires
-listed-requires c κs = search needs
 
 returns-6 : tie.Need-returns-6
 unfolding size
@@ -93,22 +60,6 @@ returns-7 c =
 pub read-session-spec : {M : Type 1} → statement M
 read-session-spec =
     tie.close
-    (tie.spec
-    mul-if1
-    returns
-    shared-slice-read-first
-    add-last
-    shared-slice-read-last
-    wide-requires
-    wide-requires-2
-    returns-2
-    returns-3
-    returns-4
-    add-n
-    sub-n
-    add-bytes
-    mul-bytes
-    returns-5
-    listed-requires
-    returns-6
-    returns-7)
+    (tie.spec (λ c. search needs) returns (λ c. search needs) (λ c. search needs) (λ c. search needs) (λ c κs. search needs)
+    (λ c κs. search needs) returns-2 returns-3 returns-4 (λ c. search needs) (λ c. search needs) (λ c. search needs) (λ c. search needs)
+    returns-5 (λ c κs. search needs) returns-6 returns-7)

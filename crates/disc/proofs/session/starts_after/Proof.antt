@@ -10,14 +10,8 @@ use Rattle.disc.proofs.session.starts_after.Lts as lts
 use Rattle.disc.proofs.session.starts_at.Reads as starts-at-reads
 use Rattle.ground.proofs.number.wide.Reads as wide-reads
 
-wide-requires : tie.Need-wide-requires
-wide-requires c κs = search needs
-
-starts-at-requires : tie.Need-starts-at-requires
-starts-at-requires c κs = search needs
-
 returns : tie.Need-returns
 returns c = let x = c .before .before .before .args in c .starts-at .ensures ∙ ap (starts (now (x .d))) (c .before .wide .ensures .same)
 
 pub starts-after-spec : {M : Type 1} → statement M
-starts-after-spec = tie.close (tie.spec wide-requires starts-at-requires returns)
+starts-after-spec = tie.close (tie.spec (λ c κs. search needs) (λ c κs. search needs) returns)

@@ -20,33 +20,6 @@ a0 :
     → headA0 (psecAt (c .before .before .before .before .before .before .args .d .now) 0) (pframeAt (c .before .before .before .before .before .before .args .d .now) 0) ≡ b
 a0 c h = sym (rw (c .before .before .before .wide .ensures .same, c .before .wide2 .ensures .same) at (c .head-a0 .ensures)) ∙ h
 
-shared-slice-read-wide : tie.Need-shared-slice-read-wide
-shared-slice-read-wide c = search needs
-
-wide-requires : tie.Need-wide-requires
-wide-requires c κs = search needs
-
-shared-slice-read-wide-2 : tie.Need-shared-slice-read-wide-2
-shared-slice-read-wide-2 c = search needs
-
-wide-requires-2 : tie.Need-wide-requires-2
-wide-requires-2 c κs = search needs
-
-head-a0-requires : tie.Need-head-a0-requires
-head-a0-requires c κs = search needs
-
-add-if2 : tie.Need-add-if2
-add-if2 c = search needs
-
-shared-slice-read-if2 : tie.Need-shared-slice-read-if2
-shared-slice-read-if2 c = search needs
-
-add-result : tie.Need-add-result
-add-result c = search needs
-
-shared-slice-read-result : tie.Need-shared-slice-read-result
-shared-slice-read-result c = search needs
-
 returns : tie.Need-returns
 unfolding headsHold
 returns c = and-on _ _ (a0 (c .before .before .before .before) (c .before .before .before .if1 .taken)) (and-on _ _ (eq-eqb _ _ (c .before .if2 .taken)) refl)
@@ -62,16 +35,5 @@ returns-3 c = and-off _ _ (a0 (c .before) (c .if1 .left))
 pub heads-hold-spec : {M : Type 1} → statement M
 heads-hold-spec =
     tie.close
-    (tie.spec
-    shared-slice-read-wide
-    wide-requires
-    shared-slice-read-wide-2
-    wide-requires-2
-    head-a0-requires
-    add-if2
-    shared-slice-read-if2
-    add-result
-    shared-slice-read-result
-    returns
-    returns-2
-    returns-3)
+    (tie.spec (λ c. search needs) (λ c κs. search needs) (λ c. search needs) (λ c κs. search needs) (λ c κs. search needs)
+    (λ c. search needs) (λ c. search needs) (λ c. search needs) (λ c. search needs) returns returns-2 returns-3)

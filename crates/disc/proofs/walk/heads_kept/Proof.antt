@@ -10,18 +10,6 @@ use Rattle.disc.proofs.walk.heads_kept.Lts as lts
 use Rattle.disc.proofs.walk.heads_hold.Reads as heads-hold-reads
 use Rattle.disc.proofs.walk.kept.Reads as kept-reads
 
-kept-requires : tie.Need-kept-requires
-kept-requires c κs = search needs
-
-kept-requires-2 : tie.Need-kept-requires-2
-kept-requires-2 c κs = search needs
-
-kept-requires-3 : tie.Need-kept-requires-3
-kept-requires-3 c κs = search needs
-
-heads-hold-requires : tie.Need-heads-hold-requires
-heads-hold-requires c κs = search needs
-
 returns : tie.Need-returns
 unfolding headsKept
 returns c = and-on _ _ (sym (c .before .before .before .before .before .before .kept .ensures) ∙ c .before .before .before .before .before .if1 .taken) (and-on _ _ (sym (c .before .before .before .before .kept2 .ensures) ∙ c .before .before .before .if2 .taken) (and-on _ _ (sym (c .before .before .kept3 .ensures) ∙ c .before .if3 .taken) (c .heads-hold .ensures)))
@@ -41,12 +29,5 @@ returns-4 c = and-off _ _ (sym (c .before .kept .ensures) ∙ c .if1 .left)
 pub heads-kept-spec : {M : Type 1} → statement M
 heads-kept-spec =
     tie.close
-    (tie.spec
-    kept-requires
-    kept-requires-2
-    kept-requires-3
-    heads-hold-requires
-    returns
-    returns-2
-    returns-3
+    (tie.spec (λ c κs. search needs) (λ c κs. search needs) (λ c κs. search needs) (λ c κs. search needs) returns returns-2 returns-3
     returns-4)

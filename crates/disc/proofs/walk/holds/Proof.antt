@@ -9,41 +9,17 @@ use Rattle.disc.proofs.walk.holds.Reads as reads
 use Rattle.disc.proofs.walk.holds.Lts as lts
 use Rattle.disc.proofs.layout.frames_at.Reads as frames-at-reads
 
-mul-at : tie.Need-mul-at
-mul-at c = search needs
-
-add-if1 : tie.Need-add-if1
-add-if1 c = search needs
-
-shared-slice-read-if1 : tie.Need-shared-slice-read-if1
-shared-slice-read-if1 c = search needs
-
 returns : tie.Need-returns
 unfolding holds
 returns c = and-off _ _ (lt-leb _ _ (c .if1 .taken))
-
-add-if2 : tie.Need-add-if2
-add-if2 c = search needs
-
-shared-slice-read-if2 : tie.Need-shared-slice-read-if2
-shared-slice-read-if2 c = search needs
 
 returns-2 : tie.Need-returns-2
 unfolding holds
 returns-2 c = and-late _ _ (and-off _ _ (lt-leb _ _ (c .if2 .taken)))
 
-add-if3 : tie.Need-add-if3
-add-if3 c = search needs
-
-shared-slice-read-if3 : tie.Need-shared-slice-read-if3
-shared-slice-read-if3 c = search needs
-
 returns-3 : tie.Need-returns-3
 unfolding holds
 returns-3 c = and-late _ _ (and-late _ _ (and-off _ _ (lt-leb _ _ (c .if3 .taken))))
-
-frames-at-requires : tie.Need-frames-at-requires
-frames-at-requires c κs = search needs
 
 returns-4 : tie.Need-returns-4
 unfolding holds
@@ -52,16 +28,5 @@ returns-4 c = and-on _ _ (le-leb _ _ (c .before .before .before .before .before 
 pub holds-spec : {M : Type 1} → statement M
 holds-spec =
     tie.close
-    (tie.spec
-    mul-at
-    add-if1
-    shared-slice-read-if1
-    returns
-    add-if2
-    shared-slice-read-if2
-    returns-2
-    add-if3
-    shared-slice-read-if3
-    returns-3
-    frames-at-requires
-    returns-4)
+    (tie.spec (λ c. search needs) (λ c. search needs) (λ c. search needs) returns (λ c. search needs) (λ c. search needs) returns-2
+    (λ c. search needs) (λ c. search needs) returns-3 (λ c κs. search needs) returns-4)

@@ -8,11 +8,8 @@ use Rattle.disc.proofs.walk.is_fit.Reads as reads
 use Rattle.disc.proofs.walk.is_fit.Lts as lts
 use Rattle.disc.proofs.walk.judge.Reads as judge-reads
 
-judge-requires : tie.Need-judge-requires
-judge-requires c κs = search needs
-
 returns : tie.Need-returns
 returns c = ap (λ (v : Verdict). v .fit) (c .judge .ensures)
 
 pub is-fit-spec : {M : Type 1} → statement M
-is-fit-spec = tie.close (tie.spec judge-requires returns)
+is-fit-spec = tie.close (tie.spec (λ c κs. search needs) returns)

@@ -17,9 +17,6 @@ use Rattle.disc.proofs.rules.rule2.Reads as rule2-reads
 use Rattle.disc.proofs.walk.unfit.Reads as unfit-reads
 use Rattle.disc.proofs.walk.walk.Reads as walk-reads
 
-rule1-requires : tie.Need-rule1-requires
-rule1-requires c κs = search needs
-
 rule2-requires : tie.Need-rule2-requires
 rule2-requires c κs = rule1-parts (sym (c .before .rule1 .ensures) ∙ c .if1 .taken) .least
 
@@ -32,23 +29,11 @@ sub-walk c = rule1-parts (sym (c .before .before .before .before .rule1 .ensures
 part-walk-start : tie.Need-part-walk-start
 part-walk-start c = let s = rule1-parts (sym (c .before .before .before .before .rule1 .ensures) ∙ c .before .before .before .if1 .taken) in search needs
 
-part-walk-end : tie.Need-part-walk-end
-part-walk-end c = search needs
-
-walk-requires : tie.Need-walk-requires
-walk-requires c κs = search needs
-
 returns : tie.Need-returns
 returns c = rw rest-all at (c .walk .ensures) ∙ ap (λ (b : Bool). verdict b (lastAt (c .before .before .before .before .before .before .before .before .args .t .now))) (walk-fit _ (sym (c .before .before .before .before .before .before .rule1 .ensures) ∙ c .before .before .before .before .before .if1 .taken) (sym (c .before .before .before .before .rule2 .ensures) ∙ c .before .before .before .if2 .taken))
 
-unfit-requires : tie.Need-unfit-requires
-unfit-requires c κs = search needs
-
 returns-2 : tie.Need-returns-2
 returns-2 c = c .unfit .ensures ∙ verdict-no _ (unfit-rule2 _ (sym (c .before .before .rule2 .ensures) ∙ c .before .if2 .left))
-
-unfit-requires-2 : tie.Need-unfit-requires-2
-unfit-requires-2 c κs = search needs
 
 returns-3 : tie.Need-returns-3
 returns-3 c = c .unfit2 .ensures ∙ verdict-no _ (unfit-rule1 _ (sym (c .before .before .rule1 .ensures) ∙ c .before .if1 .left))
@@ -56,16 +41,5 @@ returns-3 c = c .unfit2 .ensures ∙ verdict-no _ (unfit-rule1 _ (sym (c .before
 pub judge-spec : {M : Type 1} → statement M
 judge-spec =
     tie.close
-    (tie.spec
-    rule1-requires
-    rule2-requires
-    shared-slice-read-n
-    sub-walk
-    part-walk-start
-    part-walk-end
-    walk-requires
-    returns
-    unfit-requires
-    returns-2
-    unfit-requires-2
-    returns-3)
+    (tie.spec (λ c κs. search needs) rule2-requires shared-slice-read-n sub-walk part-walk-start (λ c. search needs) (λ c κs. search needs)
+    returns (λ c κs. search needs) returns-2 (λ c κs. search needs) returns-3)

@@ -11,21 +11,6 @@ use Rattle.disc.proofs.walk.kept.Reads as reads
 use Rattle.disc.proofs.walk.kept.Lts as lts
 use Rattle.disc.proofs.rules.plain.Reads as plain-reads
 
-mul-at : tie.Need-mul-at
-mul-at c = search needs
-
-shared-slice-read-if1 : tie.Need-shared-slice-read-if1
-shared-slice-read-if1 c = search needs
-
-add-if2 : tie.Need-add-if2
-add-if2 c = search needs
-
-shared-slice-read-if2 : tie.Need-shared-slice-read-if2
-shared-slice-read-if2 c = search needs
-
-plain-requires : tie.Need-plain-requires
-plain-requires c κs = search needs
-
 returns : tie.Need-returns
 unfolding kept names
 returns c = and-on _ _ (and-both _ _ (eq-eqb _ _ (c .before .before .before .if1 .taken)) (eq-eqb _ _ (c .before .if2 .taken))) (c .plain .ensures)
@@ -41,12 +26,5 @@ returns-3 c = and-off _ _ (sym (and-off _ _ (ne-eqb _ _ (c .if1 .left))))
 pub kept-spec : {M : Type 1} → statement M
 kept-spec =
     tie.close
-    (tie.spec
-    mul-at
-    shared-slice-read-if1
-    add-if2
-    shared-slice-read-if2
-    plain-requires
-    returns
-    returns-2
+    (tie.spec (λ c. search needs) (λ c. search needs) (λ c. search needs) (λ c. search needs) (λ c κs. search needs) returns returns-2
     returns-3)

@@ -13,20 +13,8 @@ use Rattle.disc.proofs.walk.heads_kept.Reads as heads-kept-reads
 use Rattle.disc.proofs.walk.tracks_kept.Reads as tracks-kept-reads
 use Rattle.ground.proofs.number.wide.Reads as wide-reads
 
-mul-if1 : tie.Need-mul-if1
-mul-if1 c = search needs
-
 returns : tie.Need-returns
 returns c = sessionKept-not _ _ _ (λ s. let e = size-least (s .is) in let f = s .is .fits in omega arith)
-
-shared-slice-read-f : tie.Need-shared-slice-read-f
-shared-slice-read-f c = search needs
-
-add-l : tie.Need-add-l
-add-l c = search needs
-
-shared-slice-read-l : tie.Need-shared-slice-read-l
-shared-slice-read-l c = search needs
 
 returns-2 : tie.Need-returns-2
 returns-2 c = sessionKept-not _ _ _ (λ s. let i = s .is in omega arith)
@@ -37,33 +25,9 @@ returns-3 c = sessionKept-not _ _ _ (λ s. let i = s .is in omega arith)
 returns-4 : tie.Need-returns-4
 returns-4 c = sessionKept-not _ _ _ (λ s. let i = s .is in omega arith)
 
-wide-requires : tie.Need-wide-requires
-wide-requires c κs = search needs
-
-add-n : tie.Need-add-n
-add-n c = search needs
-
-wide-requires-2 : tie.Need-wide-requires-2
-wide-requires-2 c κs = search needs
-
-sub-n : tie.Need-sub-n
-sub-n c = search needs
-
-add-if5 : tie.Need-add-if5
-add-if5 c = search needs
-
-mul-if5 : tie.Need-mul-if5
-mul-if5 c = search needs
-
 returns-5 : tie.Need-returns-5
 unfolding size
 returns-5 c = sessionKept-not _ _ _ (λ s. let i = s .is .fits in omega arith)
-
-heads-kept-requires : tie.Need-heads-kept-requires
-heads-kept-requires c κs = search needs
-
-tracks-kept-requires : tie.Need-tracks-kept-requires
-tracks-kept-requires c κs = search needs
 
 returns-6 : tie.Need-returns-6
 unfolding size
@@ -75,23 +39,6 @@ returns-7 c = sessionKept-off _ _ _ (sym (c .before .heads-kept .ensures) ∙ c 
 pub session-kept-spec : {M : Type 1} → statement M
 session-kept-spec =
     tie.close
-    (tie.spec
-    mul-if1
-    returns
-    shared-slice-read-f
-    add-l
-    shared-slice-read-l
-    returns-2
-    returns-3
-    returns-4
-    wide-requires
-    add-n
-    wide-requires-2
-    sub-n
-    add-if5
-    mul-if5
-    returns-5
-    heads-kept-requires
-    tracks-kept-requires
-    returns-6
-    returns-7)
+    (tie.spec (λ c. search needs) returns (λ c. search needs) (λ c. search needs) (λ c. search needs) returns-2 returns-3 returns-4
+    (λ c κs. search needs) (λ c. search needs) (λ c κs. search needs) (λ c. search needs) (λ c. search needs) (λ c. search needs) returns-5
+    (λ c κs. search needs) (λ c κs. search needs) returns-6 returns-7)

@@ -8,48 +8,6 @@ use Rattle.gate.proofs.fault.sense_of.Reads as reads
 use Rattle.gate.proofs.fault.sense_of.Lts as lts
 use Rattle.drive.proofs.sense.sense_at.Reads as sense-at-reads
 
-enum-told : tie.Need-enum-told
-enum-told c = search needs
-
-sense-at-requires : tie.Need-sense-at-requires
-sense-at-requires c κs = search needs
-
-enum-told-2 : tie.Need-enum-told-2
-enum-told-2 c = search needs
-
-sense-at-requires-2 : tie.Need-sense-at-requires-2
-sense-at-requires-2 c κs = search needs
-
-enum-told-3 : tie.Need-enum-told-3
-enum-told-3 c = search needs
-
-sense-at-requires-3 : tie.Need-sense-at-requires-3
-sense-at-requires-3 c κs = search needs
-
-enum-told-4 : tie.Need-enum-told-4
-enum-told-4 c = search needs
-
-sense-at-requires-4 : tie.Need-sense-at-requires-4
-sense-at-requires-4 c κs = search needs
-
-enum-told-5 : tie.Need-enum-told-5
-enum-told-5 c = search needs
-
-sense-at-requires-5 : tie.Need-sense-at-requires-5
-sense-at-requires-5 c κs = search needs
-
-enum-told-6 : tie.Need-enum-told-6
-enum-told-6 c = search needs
-
-sense-at-requires-6 : tie.Need-sense-at-requires-6
-sense-at-requires-6 c κs = search needs
-
-enum-told-7 : tie.Need-enum-told-7
-enum-told-7 c = search needs
-
-sense-at-requires-7 : tie.Need-sense-at-requires-7
-sense-at-requires-7 c κs = search needs
-
 returns : tie.Need-returns
 returns c = c .sense-at .ensures ∙ sym (ap senseOf (c .before .enum-told .given .1))
 
@@ -74,25 +32,6 @@ returns-7 c = c .sense-at7 .ensures ∙ sym (ap senseOf (c .before .enum-told7 .
 pub sense-of-spec : {M : Type 1} → statement M
 sense-of-spec =
     tie.close
-    (tie.spec
-    enum-told
-    sense-at-requires
-    enum-told-2
-    sense-at-requires-2
-    enum-told-3
-    sense-at-requires-3
-    enum-told-4
-    sense-at-requires-4
-    enum-told-5
-    sense-at-requires-5
-    enum-told-6
-    sense-at-requires-6
-    enum-told-7
-    sense-at-requires-7
-    returns
-    returns-2
-    returns-3
-    returns-4
-    returns-5
-    returns-6
-    returns-7)
+    (tie.spec (λ c. search needs) (λ c κs. search needs) (λ c. search needs) (λ c κs. search needs) (λ c. search needs)
+    (λ c κs. search needs) (λ c. search needs) (λ c κs. search needs) (λ c. search needs) (λ c κs. search needs) (λ c. search needs)
+    (λ c κs. search needs) (λ c. search needs) (λ c κs. search needs) returns returns-2 returns-3 returns-4 returns-5 returns-6 returns-7)

@@ -10,14 +10,8 @@ use Rattle.gate.proofs.unit.clear.Lts as lts
 use Rattle.drive.proofs.sense.sense_at.Reads as sense-at-reads
 use Rattle.gate.proofs.unit.hold.Reads as hold-reads
 
-sense-at-requires : tie.Need-sense-at-requires
-sense-at-requires c κs = search needs
-
-hold-requires : tie.Need-hold-requires
-hold-requires c κs = search needs
-
 returns : tie.Need-returns
 returns c = c .hold .ensures ∙ ap (λ (s : Sense). hold s (c .before .before .args .u)) (c .before .sense-at .ensures)
 
 pub clear-spec : {M : Type 1} → statement M
-clear-spec = tie.close (tie.spec sense-at-requires hold-requires returns)
+clear-spec = tie.close (tie.spec (λ c κs. search needs) (λ c κs. search needs) returns)

@@ -17,24 +17,6 @@ use Rattle.gate.proofs.unit.first_pending.Reads as first-pending-reads
 use Rattle.gate.proofs.unit.sense_of_pending.Reads as sense-of-pending-reads
 use Rattle.gate.proofs.unit.told.Reads as told-reads
 
-sense-at-requires : tie.Need-sense-at-requires
-sense-at-requires c κs = search needs
-
-same-requires : tie.Need-same-requires
-same-requires c κs = search needs
-
-first-pending-requires : tie.Need-first-pending-requires
-first-pending-requires c κs = search needs
-
-sense-of-pending-requires : tie.Need-sense-of-pending-requires
-sense-of-pending-requires c κs = search needs
-
-told-requires : tie.Need-told-requires
-told-requires c κs = search needs
-
-clear-requires : tie.Need-clear-requires
-clear-requires c κs = search needs
-
 returns : tie.Need-returns
 unfolding give
 returns c = let u = c .before .before .before .before .before .before .before .before .args .u in
@@ -43,9 +25,6 @@ returns c = let u = c .before .before .before .before .before .before .before .b
     let s = c .before .before .sense-of-pending .ensures ∙ ap attentionSense p in
     let v = c .clear .ensures ∙ ap clear (c .before .told .ensures ∙ ap (λ (a : Pending). told a u) p) in
     rw (s, v) (sym (when _ _ _ k))
-
-clear-requires-2 : tie.Need-clear-requires-2
-clear-requires-2 c κs = search needs
 
 returns-2 : tie.Need-returns-2
 unfolding give
@@ -56,13 +35,5 @@ returns-2 c = let u = c .before .before .before .before .before .args .u in
 pub give-spec : {M : Type 1} → statement M
 give-spec =
     tie.close
-    (tie.spec
-    sense-at-requires
-    same-requires
-    first-pending-requires
-    sense-of-pending-requires
-    told-requires
-    clear-requires
-    returns
-    clear-requires-2
-    returns-2)
+    (tie.spec (λ c κs. search needs) (λ c κs. search needs) (λ c κs. search needs) (λ c κs. search needs) (λ c κs. search needs)
+    (λ c κs. search needs) returns (λ c κs. search needs) returns-2)

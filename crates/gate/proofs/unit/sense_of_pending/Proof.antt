@@ -8,24 +8,6 @@ use Rattle.gate.proofs.unit.sense_of_pending.Reads as reads
 use Rattle.gate.proofs.unit.sense_of_pending.Lts as lts
 use Rattle.drive.proofs.sense.sense_at.Reads as sense-at-reads
 
-enum-told : tie.Need-enum-told
-enum-told c = search needs
-
-sense-at-requires : tie.Need-sense-at-requires
-sense-at-requires c κs = search needs
-
-enum-told-2 : tie.Need-enum-told-2
-enum-told-2 c = search needs
-
-sense-at-requires-2 : tie.Need-sense-at-requires-2
-sense-at-requires-2 c κs = search needs
-
-enum-told-3 : tie.Need-enum-told-3
-enum-told-3 c = search needs
-
-sense-at-requires-3 : tie.Need-sense-at-requires-3
-sense-at-requires-3 c κs = search needs
-
 returns : tie.Need-returns
 returns c = c .sense-at .ensures ∙ sym (ap attentionSense (c .before .enum-told .given .1))
 
@@ -38,13 +20,5 @@ returns-3 c = c .sense-at3 .ensures ∙ sym (ap attentionSense (c .before .enum-
 pub sense-of-pending-spec : {M : Type 1} → statement M
 sense-of-pending-spec =
     tie.close
-    (tie.spec
-    enum-told
-    sense-at-requires
-    enum-told-2
-    sense-at-requires-2
-    enum-told-3
-    sense-at-requires-3
-    returns
-    returns-2
-    returns-3)
+    (tie.spec (λ c. search needs) (λ c κs. search needs) (λ c. search needs) (λ c κs. search needs) (λ c. search needs)
+    (λ c κs. search needs) returns returns-2 returns-3)

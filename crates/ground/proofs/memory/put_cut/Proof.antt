@@ -12,21 +12,6 @@ use Rattle.ground.proofs.memory.copy_front.Reads as copy-front-reads
 slice-aggregate-copy-front : tie.Need-slice-aggregate-copy-front
 slice-aggregate-copy-front c = sym (length-take-le _ _ (search needs))
 
-copy-front-requires : tie.Need-copy-front-requires
-copy-front-requires c κs = search needs
-
-same-length : tie.Need-same-length
-same-length c = search needs
-
-returns : tie.Need-returns
-returns c = search needs
-
-copy-front-requires-2 : tie.Need-copy-front-requires-2
-copy-front-requires-2 c κs = search needs
-
-same-length-2 : tie.Need-same-length-2
-same-length-2 c = search needs
-
 returns-2 : tie.Need-returns-2
 returns-2 c =
     let a = c .before .before .before .before .before .before .before .args in
@@ -35,11 +20,5 @@ returns-2 c =
 pub put-cut-spec : {M : Type 1} → statement M
 put-cut-spec =
     tie.close
-    (tie.spec
-    slice-aggregate-copy-front
-    copy-front-requires
-    same-length
-    returns
-    copy-front-requires-2
-    same-length-2
-    returns-2)
+    (tie.spec slice-aggregate-copy-front (λ c κs. search needs) (λ c. search needs) (λ c. search needs) (λ c κs. search needs)
+    (λ c. search needs) returns-2)

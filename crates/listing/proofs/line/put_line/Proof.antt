@@ -10,21 +10,9 @@ use Rattle.listing.proofs.line.put_line.Lts as lts
 use Rattle.listing.proofs.line.put_answered.Reads as put-answered-reads
 use Rattle.listing.proofs.line.put_refused.Reads as put-refused-reads
 
-put-answered-requires : tie.Need-put-answered-requires
-put-answered-requires c κs = search needs
-
-same-length : tie.Need-same-length
-same-length c = search needs
-
 returns : tie.Need-returns
 unfolding lineOf
 returns c = rw (when _ _ _ (eq-eqb _ _ (c .before .before .before .before .if1 .taken))) (c .before .before .put-answered .ensures)
-
-put-refused-requires : tie.Need-put-refused-requires
-put-refused-requires c κs = search needs
-
-same-length-2 : tie.Need-same-length-2
-same-length-2 c = search needs
 
 returns-2 : tie.Need-returns-2
 unfolding lineOf
@@ -33,10 +21,4 @@ returns-2 c = rw (unless _ _ _ (ne-eqb _ _ (c .before .before .before .before .i
 pub put-line-spec : {M : Type 1} → statement M
 put-line-spec =
     tie.close
-    (tie.spec
-    put-answered-requires
-    same-length
-    returns
-    put-refused-requires
-    same-length-2
-    returns-2)
+    (tie.spec (λ c κs. search needs) (λ c. search needs) returns (λ c κs. search needs) (λ c. search needs) returns-2)

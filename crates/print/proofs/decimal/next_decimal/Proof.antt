@@ -8,43 +8,11 @@ use Rattle.print.proofs.decimal.next_decimal.Lts as lts
 use Rattle.ground.proofs.memory.copy_front.Reads as copy-front-reads
 use Rattle.print.proofs.decimal.put_decimal.Reads as put-decimal-reads
 
-slice-aggregate-copy-front : tie.Need-slice-aggregate-copy-front
-slice-aggregate-copy-front c = search needs
-
-copy-front-requires : tie.Need-copy-front-requires
-copy-front-requires c κs = search needs
-
-sub-put-decimal : tie.Need-sub-put-decimal
-sub-put-decimal c = search needs
-
-part-put-decimal-start : tie.Need-part-put-decimal-start
-part-put-decimal-start c = search needs
-
-part-put-decimal-end : tie.Need-part-put-decimal-end
-part-put-decimal-end c = search needs
-
-put-decimal-requires : tie.Need-put-decimal-requires
-put-decimal-requires c κs = search needs
-
-add-at : tie.Need-add-at
-add-at c = search needs
-
-same-length : tie.Need-same-length
-same-length c = search needs
-
 returns : tie.Need-returns
 returns c = laid-more (c .before .before .before .before .before .before .copy-front .ensures) (c .before .before .put-decimal .ensures)
 
 pub next-decimal-spec : {M : Type 1} → statement M
 next-decimal-spec =
     tie.close
-    (tie.spec
-    slice-aggregate-copy-front
-    copy-front-requires
-    sub-put-decimal
-    part-put-decimal-start
-    part-put-decimal-end
-    put-decimal-requires
-    add-at
-    same-length
-    returns)
+    (tie.spec (λ c. search needs) (λ c κs. search needs) (λ c. search needs) (λ c. search needs) (λ c. search needs) (λ c κs. search needs)
+    (λ c. search needs) (λ c. search needs) returns)

@@ -8,21 +8,6 @@ use Rattle.print.proofs.decimal.put_decimal.Lts as lts
 use Rattle.ground.proofs.memory.copy_front.Reads as copy-front-reads
 use Rattle.io.proofs.decimal.Reads as decimal-reads
 
-decimal-requires : tie.Need-decimal-requires
-decimal-requires c κs = search needs
-
-array-share-prefix-text : tie.Need-array-share-prefix-text
-array-share-prefix-text c = search needs
-
-slice-aggregate-copy-front : tie.Need-slice-aggregate-copy-front
-slice-aggregate-copy-front c = search needs
-
-copy-front-requires : tie.Need-copy-front-requires
-copy-front-requires c κs = search needs
-
-same-length : tie.Need-same-length
-same-length c = search needs
-
 returns : tie.Need-returns
 returns c =
     let d = c .before .before .before .before .before .decimal in
@@ -32,10 +17,4 @@ returns c =
 pub put-decimal-spec : {M : Type 1} → statement M
 put-decimal-spec =
     tie.close
-    (tie.spec
-    decimal-requires
-    array-share-prefix-text
-    slice-aggregate-copy-front
-    copy-front-requires
-    same-length
-    returns)
+    (tie.spec (λ c κs. search needs) (λ c. search needs) (λ c. search needs) (λ c κs. search needs) (λ c. search needs) returns)

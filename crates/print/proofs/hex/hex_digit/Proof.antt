@@ -7,17 +7,11 @@ use Rattle.print.proofs.hex.hex_digit.Tie as tie
 use Rattle.print.proofs.hex.hex_digit.Reads as reads
 use Rattle.print.proofs.hex.hex_digit.Lts as lts
 
-add-result : tie.Need-add-result
-add-result c = search needs
-
 returns : tie.Need-returns
 returns c = sym (hexDigit-below _ (search needs))
-
-add-result-2 : tie.Need-add-result-2
-add-result-2 c = search needs
 
 returns-2 : tie.Need-returns-2
 returns-2 c = sym (hexDigit-above _ (search needs))
 
 pub hex-digit-spec : {M : Type 1} → statement M
-hex-digit-spec = tie.close (tie.spec add-result returns add-result-2 returns-2)
+hex-digit-spec = tie.close (tie.spec (λ c. search needs) returns (λ c. search needs) returns-2)

@@ -7,33 +7,6 @@ use Rattle.print.proofs.hex.next_three.Lts as lts
 use Rattle.ground.proofs.memory.copy_front.Reads as copy-front-reads
 use Rattle.print.proofs.hex.hex_digit.Reads as hex-digit-reads
 
-hex-digit-requires : tie.Need-hex-digit-requires
-hex-digit-requires c κs = search needs
-
-hex-digit-requires-2 : tie.Need-hex-digit-requires-2
-hex-digit-requires-2 c κs = search needs
-
-hex-digit-requires-3 : tie.Need-hex-digit-requires-3
-hex-digit-requires-3 c κs = search needs
-
-hex-digit-requires-4 : tie.Need-hex-digit-requires-4
-hex-digit-requires-4 c κs = search needs
-
-hex-digit-requires-5 : tie.Need-hex-digit-requires-5
-hex-digit-requires-5 c κs = search needs
-
-hex-digit-requires-6 : tie.Need-hex-digit-requires-6
-hex-digit-requires-6 c κs = search needs
-
-slice-aggregate-copy-front : tie.Need-slice-aggregate-copy-front
-slice-aggregate-copy-front c = search needs
-
-copy-front-requires : tie.Need-copy-front-requires
-copy-front-requires c κs = search needs
-
-same-length : tie.Need-same-length
-same-length c = search needs
-
 returns : tie.Need-returns
 returns c =
     rw (
@@ -49,14 +22,5 @@ returns c =
 pub next-three-spec : {M : Type 1} → statement M
 next-three-spec =
     tie.close
-    (tie.spec
-    hex-digit-requires
-    hex-digit-requires-2
-    hex-digit-requires-3
-    hex-digit-requires-4
-    hex-digit-requires-5
-    hex-digit-requires-6
-    slice-aggregate-copy-front
-    copy-front-requires
-    same-length
-    returns)
+    (tie.spec (λ c κs. search needs) (λ c κs. search needs) (λ c κs. search needs) (λ c κs. search needs) (λ c κs. search needs)
+    (λ c κs. search needs) (λ c. search needs) (λ c κs. search needs) (λ c. search needs) returns)

@@ -9,27 +9,6 @@ use Rattle.replay.proofs.line.next_part.Lts as lts
 use Rattle.print.proofs.decimal.next_decimal.Reads as next-decimal-reads
 use Rattle.replay.proofs.line.next_sum.Reads as next-sum-reads
 
-next-decimal-requires : tie.Need-next-decimal-requires
-next-decimal-requires c κs = search needs
-
-sub-next-sum : tie.Need-sub-next-sum
-sub-next-sum c = search needs
-
-part-next-sum-start : tie.Need-part-next-sum-start
-part-next-sum-start c = search needs
-
-part-next-sum-end : tie.Need-part-next-sum-end
-part-next-sum-end c = search needs
-
-next-sum-requires : tie.Need-next-sum-requires
-next-sum-requires c κs = search needs
-
-add-at : tie.Need-add-at
-add-at c = search needs
-
-same-length : tie.Need-same-length
-same-length c = search needs
-
 returns : tie.Need-returns
 unfolding partText
 returns c = laid-more (c .before .before .before .before .before .before .next-decimal .ensures) (c .before .before .next-sum .ensures)
@@ -37,12 +16,5 @@ returns c = laid-more (c .before .before .before .before .before .before .next-d
 pub next-part-spec : {M : Type 1} → statement M
 next-part-spec =
     tie.close
-    (tie.spec
-    next-decimal-requires
-    sub-next-sum
-    part-next-sum-start
-    part-next-sum-end
-    next-sum-requires
-    add-at
-    same-length
-    returns)
+    (tie.spec (λ c κs. search needs) (λ c. search needs) (λ c. search needs) (λ c. search needs) (λ c κs. search needs) (λ c. search needs)
+    (λ c. search needs) returns)

@@ -6,11 +6,8 @@ use Rattle.target.proofs.packet.check.Reads as reads
 use Rattle.target.proofs.packet.check.Lts as lts
 use Rattle.gate.proofs.unit.hold.Reads as hold-reads
 
-hold-requires : tie.Need-hold-requires
-hold-requires c κs = search needs
-
 returns : tie.Need-returns
 returns c = rw (c .hold .ensures)
 
 pub check-spec : {M : Type 1} → statement M
-check-spec = tie.close (tie.spec hold-requires returns)
+check-spec = tie.close (tie.spec (λ c κs. search needs) returns)

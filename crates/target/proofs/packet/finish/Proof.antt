@@ -11,21 +11,6 @@ use Rattle.drive.proofs.state.Unit.attend.Reads as attend-reads
 use Rattle.gate.proofs.fault.sense_of.Reads as sense-of-reads
 use Rattle.target.proofs.packet.check.Reads as check-reads
 
-enum-known-done : tie.Need-enum-known-done
-enum-known-done c = search needs
-
-sense-of-requires : tie.Need-sense-of-requires
-sense-of-requires c κs = search needs
-
-check-requires : tie.Need-check-requires
-check-requires c κs = search needs
-
-enum-known-done-2 : tie.Need-enum-known-done-2
-enum-known-done-2 c = search needs
-
-attend-requires : tie.Need-attend-requires
-attend-requires c κs = search needs
-
 returns : tie.Need-returns
 returns c = let x = c .before .before .before .before .before .args in
     c .check .ensures ∙ ap (λ (s : Sense). checked s (x .u) (x .mechanics)) (c .before .sense-of .ensures) ∙ sym (ap (finished (x .u) (x .v) (x .mechanics)) (c .before .before .before .done .given .1))
@@ -36,11 +21,4 @@ returns-2 c = let x = c .before .before .before .before .before .args in rw (c .
 pub finish-spec : {M : Type 1} → statement M
 finish-spec =
     tie.close
-    (tie.spec
-    enum-known-done
-    sense-of-requires
-    check-requires
-    enum-known-done-2
-    attend-requires
-    returns
-    returns-2)
+    (tie.spec (λ c. search needs) (λ c κs. search needs) (λ c κs. search needs) (λ c. search needs) (λ c κs. search needs) returns returns-2)

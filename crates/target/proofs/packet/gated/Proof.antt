@@ -18,33 +18,6 @@ use Rattle.target.proofs.packet.finish.Reads as finish-reads
 use Rattle.target.proofs.packet.tell.Reads as tell-reads
 use Rattle.target.proofs.perform.perform.Reads as perform-reads
 
-first-pending-requires : tie.Need-first-pending-requires
-first-pending-requires c κs = search needs
-
-enum-told : tie.Need-enum-told
-enum-told c = search needs
-
-tell-requires : tie.Need-tell-requires
-tell-requires c κs = search needs
-
-enum-told-2 : tie.Need-enum-told-2
-enum-told-2 c = search needs
-
-tell-requires-2 : tie.Need-tell-requires-2
-tell-requires-2 c κs = search needs
-
-enum-told-3 : tie.Need-enum-told-3
-enum-told-3 c = search needs
-
-perform-requires : tie.Need-perform-requires
-perform-requires c κs = search needs
-
-clear-requires : tie.Need-clear-requires
-clear-requires c κs = search needs
-
-finish-requires : tie.Need-finish-requires
-finish-requires c κs = search needs
-
 returns : tie.Need-returns
 returns c = let x = c .before .before .before .before .before .before .before .before .before .args in
     let e = sym (c .before .before .before .first-pending .ensures) ∙ c .before .enum-told .given .1 in
@@ -57,9 +30,6 @@ returns-2 c = let x = c .before .before .before .before .before .before .before 
     let a = c .tell2 .ensures ∙ ap (λ (a : Pending). checked (attentionSense a) (told a (x .d .unit)) (x .d .mechanics)) (c .before .enum-told2 .given .1) in
     rw (gate-tells _ _ _ _ e (λ h. let z : _≡_ {A = ℕ} 0 1 = cc in omega arith)) (answered-check _ (told Change (x .d .unit)) _ _ a)
 
-same-length : tie.Need-same-length
-same-length c = search needs
-
 returns-3 : tie.Need-returns-3
 returns-3 c = let x = c .before .before .before .before .before .before .before .before .before .before .before .before .before .before .args in
     let e = sym (c .before .before .before .before .before .before .before .before .first-pending .ensures) ∙ c .before .before .before .before .before .before .enum-told3 .given .1 in
@@ -69,17 +39,5 @@ returns-3 c = let x = c .before .before .before .before .before .before .before 
 pub gated-spec : {M : Type 1} → statement M
 gated-spec =
     tie.close
-    (tie.spec
-    first-pending-requires
-    enum-told
-    tell-requires
-    enum-told-2
-    tell-requires-2
-    enum-told-3
-    perform-requires
-    clear-requires
-    finish-requires
-    returns
-    returns-2
-    same-length
-    returns-3)
+    (tie.spec (λ c κs. search needs) (λ c. search needs) (λ c κs. search needs) (λ c. search needs) (λ c κs. search needs)
+    (λ c. search needs) (λ c κs. search needs) (λ c κs. search needs) (λ c κs. search needs) returns returns-2 (λ c. search needs) returns-3)

@@ -16,28 +16,10 @@ use Rattle.target.proofs.packet.refuse.Reads as refuse-reads
 use Rattle.target.proofs.packet.steps.Reads as steps-reads
 use Rattle.target.proofs.packet.unread.Reads as unread-reads
 
-is-loaded-requires : tie.Need-is-loaded-requires
-is-loaded-requires c κs = search needs
-
-read-requires : tie.Need-read-requires
-read-requires c κs = search needs
-
-enum-known-disc : tie.Need-enum-known-disc
-enum-known-disc c = search needs
-
 steps-requires : tie.Need-steps-requires
 steps-requires c κs = let q = c .before .before .before .before .before .before .before .before .before .before .pre in
     let r = read-off _ _ (sym (c .before .before .before .before .read .ensures) ∙ c .before .before .disc .given .1) in
     record { twelve = q .0; room = q .2; ready = λ h. r }
-
-enum-told : tie.Need-enum-told
-enum-told c = search needs
-
-refuse-requires : tie.Need-refuse-requires
-refuse-requires c κs = search needs
-
-same-length : tie.Need-same-length
-same-length c = search needs
 
 returns : tie.Need-returns
 returns c = let x = c .before .before .before .before .before .before .before .before .before .before .before .before .before .args in
@@ -53,16 +35,10 @@ returns-2 c = let x = c .before .before .before .before .before .before .before 
     let l = sym (c .before .before .before .before .before .is-loaded .ensures) ∙ c .before .before .before .before .if1 .taken in
     rw (answer-4 (x .d) (now (x .p)) (now (x .t)) _ (q .0) (q .1) (q .2) l r, c .refuse .ensures) (answered-refused _ _ _)
 
-unread-requires : tie.Need-unread-requires
-unread-requires c κs = search needs
-
 steps-requires-2 : tie.Need-steps-requires-2
 steps-requires-2 c κs = let q = c .before .before .before .before .before .before .before .pre in
     let l = sym (c .before .before .before .is-loaded .ensures) ∙ c .before .before .if1 .left in
     record { twelve = q .0; room = q .2; ready = λ h. absurd (true≢false (sym h ∙ l)) }
-
-same-length-2 : tie.Need-same-length-2
-same-length-2 c = search needs
 
 returns-3 : tie.Need-returns-3
 returns-3 c = let x = c .before .before .before .before .before .before .before .before .before .before .args in
@@ -74,17 +50,5 @@ returns-3 c = let x = c .before .before .before .before .before .before .before 
 pub meet-spec : {M : Type 1} → statement M
 meet-spec =
     tie.close
-    (tie.spec
-    is-loaded-requires
-    read-requires
-    enum-known-disc
-    steps-requires
-    enum-told
-    refuse-requires
-    same-length
-    returns
-    returns-2
-    unread-requires
-    steps-requires-2
-    same-length-2
-    returns-3)
+    (tie.spec (λ c κs. search needs) (λ c κs. search needs) (λ c. search needs) steps-requires (λ c. search needs) (λ c κs. search needs)
+    (λ c. search needs) returns returns-2 (λ c κs. search needs) steps-requires-2 (λ c. search needs) returns-3)

@@ -11,12 +11,6 @@ use Rattle.drive.proofs.sense.is_known.Reads as is-known-reads
 use Rattle.target.proofs.packet.meet.Reads as meet-reads
 use Rattle.target.proofs.packet.refuse.Reads as refuse-reads
 
-is-known-requires : tie.Need-is-known-requires
-is-known-requires c κs = search needs
-
-refuse-requires : tie.Need-refuse-requires
-refuse-requires c κs = search needs
-
 returns : tie.Need-returns
 returns c = let x = c .before .before .before .before .before .before .before .before .args in
     rw (answer-3 (x .d) (now (x .p)) (now (x .t)) _ (c .before .before .before .before .if1 .taken) (sym (c .before .before .before .is-known .ensures) ∙ c .before .before .if2 .taken) (c .before .if3 .taken), c .refuse .ensures) (answered-refused _ _ _)
@@ -24,21 +18,9 @@ returns c = let x = c .before .before .before .before .before .before .before .b
 meet-requires : tie.Need-meet-requires
 meet-requires c κs = (c .before .before .before .before .if1 .taken, sym (c .before .before .before .is-known .ensures) ∙ c .before .before .if2 .taken, c .before .if3 .left)
 
-same-length : tie.Need-same-length
-same-length c = search needs
-
-returns-2 : tie.Need-returns-2
-returns-2 c = search needs
-
-refuse-requires-2 : tie.Need-refuse-requires-2
-refuse-requires-2 c κs = search needs
-
 returns-3 : tie.Need-returns-3
 returns-3 c = let x = c .before .before .before .before .before .before .before .args in
     rw (answer-2 (x .d) (now (x .p)) (now (x .t)) _ (c .before .before .before .if1 .taken) (sym (c .before .before .is-known .ensures) ∙ c .before .if2 .left), c .refuse2 .ensures) (answered-refused _ _ _)
-
-refuse-requires-3 : tie.Need-refuse-requires-3
-refuse-requires-3 c κs = search needs
 
 returns-4 : tie.Need-returns-4
 returns-4 c = let x = c .before .before .before .before .before .args in
@@ -47,14 +29,5 @@ returns-4 c = let x = c .before .before .before .before .before .args in
 pub packet-spec : {M : Type 1} → statement M
 packet-spec =
     tie.close
-    (tie.spec
-    is-known-requires
-    refuse-requires
-    returns
-    meet-requires
-    same-length
-    returns-2
-    refuse-requires-2
-    returns-3
-    refuse-requires-3
-    returns-4)
+    (tie.spec (λ c κs. search needs) (λ c κs. search needs) returns meet-requires (λ c. search needs) (λ c. search needs)
+    (λ c κs. search needs) returns-3 (λ c κs. search needs) returns-4)

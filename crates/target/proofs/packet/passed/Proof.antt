@@ -8,17 +8,8 @@ use Rattle.target.proofs.packet.passed.Lts as lts
 use Rattle.target.proofs.packet.finish.Reads as finish-reads
 use Rattle.target.proofs.perform.perform.Reads as perform-reads
 
-perform-requires : tie.Need-perform-requires
-perform-requires c κs = search needs
-
-finish-requires : tie.Need-finish-requires
-finish-requires c κs = search needs
-
-same-length : tie.Need-same-length
-same-length c = search needs
-
 returns : tie.Need-returns
 returns c = answered-pass _ _ _ (c .before .before .before .perform .ensures) (c .finish .ensures)
 
 pub passed-spec : {M : Type 1} → statement M
-passed-spec = tie.close (tie.spec perform-requires finish-requires same-length returns)
+passed-spec = tie.close (tie.spec (λ c κs. search needs) (λ c κs. search needs) (λ c. search needs) returns)

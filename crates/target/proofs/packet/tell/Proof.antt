@@ -12,18 +12,9 @@ use Rattle.gate.proofs.unit.sense_of_pending.Reads as sense-of-pending-reads
 use Rattle.gate.proofs.unit.told.Reads as told-reads
 use Rattle.target.proofs.packet.check.Reads as check-reads
 
-sense-of-pending-requires : tie.Need-sense-of-pending-requires
-sense-of-pending-requires c κs = search needs
-
-told-requires : tie.Need-told-requires
-told-requires c κs = search needs
-
-check-requires : tie.Need-check-requires
-check-requires c κs = search needs
-
 returns : tie.Need-returns
 returns c = let x = c .before .before .before .args in
     c .check .ensures ∙ ap₂ (λ (s : Sense) (u : Unit). checked s u (x .mechanics)) (c .before .before .sense-of-pending .ensures) (c .before .told .ensures)
 
 pub tell-spec : {M : Type 1} → statement M
-tell-spec = tie.close (tie.spec sense-of-pending-requires told-requires check-requires returns)
+tell-spec = tie.close (tie.spec (λ c κs. search needs) (λ c κs. search needs) (λ c κs. search needs) returns)

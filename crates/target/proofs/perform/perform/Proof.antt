@@ -13,27 +13,12 @@ use Rattle.command.proofs.tray.no_medium.Reads as no-medium-reads
 use Rattle.drive.proofs.state.Mechanics.is_loaded.Reads as is-loaded-reads
 use Rattle.target.proofs.perform.work.Reads as work-reads
 
-shared-slice-read-needs-disc : tie.Need-shared-slice-read-needs-disc
-shared-slice-read-needs-disc c = search needs
-
-needs-disc-requires : tie.Need-needs-disc-requires
-needs-disc-requires c κs = search needs
-
-is-loaded-requires : tie.Need-is-loaded-requires
-is-loaded-requires c κs = search needs
-
 work-requires : tie.Need-work-requires
 work-requires c κs = let q = c .before .before .before .before .before .before .before .before .before .pre in record { twelve = q .twelve; room = q .room; ready = λ h. q .ready (sym (c .before .before .is-loaded .ensures) ∙ c .before .if2 .taken) }
-
-same-length : tie.Need-same-length
-same-length c = search needs
 
 returns : tie.Need-returns
 returns c = let x = c .before .before .before .before .before .before .before .before .before .before .before .before .args in
     rw (perform-loaded (x .c) (now (x .p)) (x .m) (now (x .t)) (sym (c .before .before .before .before .before .is-loaded .ensures) ∙ c .before .before .before .before .if2 .taken)) (c .before .before .work .ensures)
-
-no-medium-requires : tie.Need-no-medium-requires
-no-medium-requires c κs = search needs
 
 returns-2 : tie.Need-returns-2
 returns-2 c = rw (c .no-medium .ensures) (performed-fails _ (perform-empty _ _ _ _ (sym (c .before .before .before .before .needs-disc .ensures) ∙ c .before .before .before .if1 .taken) (sym (c .before .before .is-loaded .ensures) ∙ c .before .if2 .left)))
@@ -43,9 +28,6 @@ work-requires-2 c κs = let q = c .before .before .before .before .before .befor
     let n = sym (c .before .before .needs-disc .ensures) ∙ c .before .if1 .left in
     record { twelve = q .twelve; room = q .room; ready = λ h. absurd (true≢false (sym h ∙ n)) }
 
-same-length-2 : tie.Need-same-length-2
-same-length-2 c = search needs
-
 returns-3 : tie.Need-returns-3
 returns-3 c = let x = c .before .before .before .before .before .before .before .before .before .before .args in
     rw (perform-free (x .c) (now (x .p)) (x .m) (now (x .t)) (sym (c .before .before .before .before .before .needs-disc .ensures) ∙ c .before .before .before .before .if1 .left)) (c .before .before .work2 .ensures)
@@ -53,15 +35,5 @@ returns-3 c = let x = c .before .before .before .before .before .before .before 
 pub perform-spec : {M : Type 1} → statement M
 perform-spec =
     tie.close
-    (tie.spec
-    shared-slice-read-needs-disc
-    needs-disc-requires
-    is-loaded-requires
-    work-requires
-    same-length
-    returns
-    no-medium-requires
-    returns-2
-    work-requires-2
-    same-length-2
-    returns-3)
+    (tie.spec (λ c. search needs) (λ c κs. search needs) (λ c κs. search needs) work-requires (λ c. search needs) returns
+    (λ c κs. search needs) returns-2 work-requires-2 (λ c. search needs) returns-3)

@@ -15,14 +15,8 @@ sub-if1 c = rw (readOff-leads (c .before .before .pre .0)) (c .before .before .p
 returns : tie.Need-returns
 returns c = ap doneOf (sym (read-over _ _ _ _ (rw (readOff-leads (c .before .before .before .pre .0)) at (c .if1 .taken))))
 
-add-if2 : tie.Need-add-if2
-add-if2 c = search needs
-
 returns-2 : tie.Need-returns-2
 returns-2 c = ap doneOf (sym (read-past _ _ _ _ (rw (readOff-leads (c .before .before .before .before .before .pre .0)) at (c .if2 .taken))))
-
-run-is-data-requires : tie.Need-run-is-data-requires
-run-is-data-requires c κs = search needs
 
 returns-3 : tie.Need-returns-3
 returns-3 c = let x = c .before .before .before .before .before .before .before .args in let q = c .before .before .before .before .before .before .before .pre .0 in
@@ -34,4 +28,4 @@ returns-4 c = let x = c .before .before .before .before .before .before .before 
 
 pub read-spec : {M : Type 1} → statement M
 read-spec =
-    tie.close (tie.spec sub-if1 returns add-if2 returns-2 run-is-data-requires returns-3 returns-4)
+    tie.close (tie.spec sub-if1 returns (λ c. search needs) returns-2 (λ c κs. search needs) returns-3 returns-4)

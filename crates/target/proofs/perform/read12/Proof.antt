@@ -8,17 +8,8 @@ use Rattle.target.proofs.perform.read12.Lts as lts
 use Rattle.target.proofs.perform.read.Reads as read-reads
 use Rattle.target.proofs.perform.word_at.Reads as word-at-reads
 
-word-at-requires : tie.Need-word-at-requires
-word-at-requires c κs = search needs
-
-word-at-requires-2 : tie.Need-word-at-requires-2
-word-at-requires-2 c κs = search needs
-
-read-requires : tie.Need-read-requires
-read-requires c κs = search needs
-
 returns : tie.Need-returns
 returns c = c .read .ensures ∙ rw (c .before .before .word-at .ensures .0, c .before .word-at2 .ensures .0)
 
 pub read12-spec : {M : Type 1} → statement M
-read12-spec = tie.close (tie.spec word-at-requires word-at-requires-2 read-requires returns)
+read12-spec = tie.close (tie.spec (λ c κs. search needs) (λ c κs. search needs) (λ c κs. search needs) returns)

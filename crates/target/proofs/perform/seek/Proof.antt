@@ -11,19 +11,13 @@ use Rattle.target.proofs.perform.seek.Reads as reads
 use Rattle.target.proofs.perform.seek.Lts as lts
 use Rattle.command.proofs.tray.done.Reads as done-reads
 
-sub-if1 : tie.Need-sub-if1
-sub-if1 c = search needs
-
 returns : tie.Need-returns
 unfolding seek
 returns c = ap doneOf (sym (when _ _ _ (lt-ltb _ _ (c .if1 .taken))))
-
-done-requires : tie.Need-done-requires
-done-requires c κs = search needs
 
 returns-2 : tie.Need-returns-2
 unfolding seek
 returns-2 c = c .done .ensures ∙ ap doneOf (sym (unless _ _ _ (le-ltb _ _ (c .before .if1 .left))))
 
 pub seek-spec : {M : Type 1} → statement M
-seek-spec = tie.close (tie.spec sub-if1 returns done-requires returns-2)
+seek-spec = tie.close (tie.spec (λ c. search needs) returns (λ c κs. search needs) returns-2)

@@ -21,86 +21,29 @@ use Rattle.target.proofs.perform.word_at.Reads as word-at-reads
 use Rattle.command.proofs.tray.start_stop.Reads as start-stop-reads
 use Rattle.target.proofs.read_toc.read_toc.Reads as read-toc-reads
 
-enum-told : tie.Need-enum-told
-enum-told c = search needs
-
-done-requires : tie.Need-done-requires
-done-requires c κs = search needs
-
-enum-told-2 : tie.Need-enum-told-2
-enum-told-2 c = search needs
-
-done-requires-2 : tie.Need-done-requires-2
-done-requires-2 c κs = search needs
-
-enum-told-3 : tie.Need-enum-told-3
-enum-told-3 c = search needs
-
 inquiry-requires : tie.Need-inquiry-requires
 inquiry-requires c κs = (c .before .before .before .before .before .before .pre .twelve, c .before .before .before .before .before .before .pre .room)
-
-enum-told-4 : tie.Need-enum-told-4
-enum-told-4 c = search needs
-
-shared-slice-read-start-stop : tie.Need-shared-slice-read-start-stop
-shared-slice-read-start-stop c = search needs
-
-start-stop-requires : tie.Need-start-stop-requires
-start-stop-requires c κs = search needs
-
-enum-told-5 : tie.Need-enum-told-5
-enum-told-5 c = search needs
-
-shared-slice-read-prevent : tie.Need-shared-slice-read-prevent
-shared-slice-read-prevent c = search needs
-
-prevent-requires : tie.Need-prevent-requires
-prevent-requires c κs = search needs
-
-enum-told-6 : tie.Need-enum-told-6
-enum-told-6 c = search needs
 
 read-capacity-requires : tie.Need-read-capacity-requires
 read-capacity-requires c κs = (readOff-least (c .before .before .before .before .before .before .pre .ready (ap (λ (k : Command). needsDisc k (now (c .before .before .before .before .before .before .args .p))) (c .before .enum-told6 .given .1))), c .before .before .before .before .before .before .pre .room)
 
-enum-told-7 : tie.Need-enum-told-7
-enum-told-7 c = search needs
-
 read10-requires : tie.Need-read10-requires
 read10-requires c κs = (c .before .before .before .before .before .pre .ready (ap (λ (k : Command). needsDisc k (now (c .before .before .before .before .before .args .p))) (c .enum-told7 .given .1)), c .before .before .before .before .before .pre .twelve)
-
-enum-told-8 : tie.Need-enum-told-8
-enum-told-8 c = search needs
-
-word-at-requires : tie.Need-word-at-requires
-word-at-requires c κs = search needs
 
 seek-requires : tie.Need-seek-requires
 seek-requires c κs = readOff-least (c .before .before .before .before .before .before .pre .ready (ap (λ (k : Command). needsDisc k (now (c .before .before .before .before .before .before .args .p))) (c .before .enum-told8 .given .1)))
 
-enum-told-9 : tie.Need-enum-told-9
-enum-told-9 c = search needs
-
 read-toc-requires : tie.Need-read-toc-requires
 read-toc-requires c κs = (c .before .before .before .before .before .before .pre .ready (ap (λ (k : Command). needsDisc k (now (c .before .before .before .before .before .before .args .p))) (c .before .enum-told9 .given .1)), c .before .before .before .before .before .before .pre .twelve, c .before .before .before .before .before .before .pre .room)
 
-enum-told-10 : tie.Need-enum-told-10
-enum-told-10 c = search needs
-
 read12-requires : tie.Need-read12-requires
 read12-requires c κs = (c .before .before .before .before .before .pre .ready (ap (λ (k : Command). needsDisc k (now (c .before .before .before .before .before .args .p))) (c .enum-told10 .given .1)), c .before .before .before .before .before .pre .twelve)
-
-enum-told-11 : tie.Need-enum-told-11
-enum-told-11 c = search needs
 
 returns : tie.Need-returns
 returns c = rw (c .before .enum-told .given .1) (performed-quiet _ refl (c .done .ensures))
 
 returns-2 : tie.Need-returns-2
 returns-2 c = rw (c .before .enum-told2 .given .1) (performed-quiet _ refl (c .done2 .ensures))
-
-same-length : tie.Need-same-length
-same-length c = search needs
 
 returns-3 : tie.Need-returns-3
 returns-3 c = rw (c .before .before .before .before .enum-told3 .given .1) (c .before .before .inquiry .ensures)
@@ -111,9 +54,6 @@ returns-4 c = rw (c .before .before .enum-told4 .given .1) (performed-quiet _ (s
 returns-5 : tie.Need-returns-5
 returns-5 c = rw (c .before .before .enum-told5 .given .1) (performed-quiet _ refl (c .prevent .ensures))
 
-same-length-2 : tie.Need-same-length-2
-same-length-2 c = search needs
-
 returns-6 : tie.Need-returns-6
 returns-6 c = rw (c .before .before .before .before .enum-told6 .given .1) (rw (readOff-leads (c .before .before .before .before .before .before .before .before .before .pre .ready (ap (λ (k : Command). needsDisc k (now (c .before .before .before .before .before .before .before .before .before .args .p))) (c .before .before .before .before .enum-told6 .given .1)))) at (c .before .before .read-capacity .ensures))
 
@@ -123,9 +63,6 @@ returns-7 c = rw (c .before .enum-told7 .given .1) (performed-quiet _ (read-quie
 returns-8 : tie.Need-returns-8
 returns-8 c = let e = rw (c .before .word-at .ensures .0, readOff-leads (c .before .before .before .before .before .before .before .pre .ready (ap (λ (k : Command). needsDisc k (now (c .before .before .before .before .before .before .before .args .p))) (c .before .before .enum-told8 .given .1)))) at (c .seek .ensures) in
     rw (c .before .before .enum-told8 .given .1) (performed-quiet _ (seek-quiet _ _ _) e)
-
-same-length-3 : tie.Need-same-length-3
-same-length-3 c = search needs
 
 returns-9 : tie.Need-returns-9
 returns-9 c = rw (c .before .before .before .before .enum-told9 .given .1) (c .before .before .read-toc .ensures)
@@ -139,42 +76,8 @@ returns-11 c = rw (c .enum-told11 .given .1) (performed-fails _ refl)
 pub work-spec : {M : Type 1} → statement M
 work-spec =
     tie.close
-    (tie.spec
-    enum-told
-    done-requires
-    enum-told-2
-    done-requires-2
-    enum-told-3
-    inquiry-requires
-    enum-told-4
-    shared-slice-read-start-stop
-    start-stop-requires
-    enum-told-5
-    shared-slice-read-prevent
-    prevent-requires
-    enum-told-6
-    read-capacity-requires
-    enum-told-7
-    read10-requires
-    enum-told-8
-    word-at-requires
-    seek-requires
-    enum-told-9
-    read-toc-requires
-    enum-told-10
-    read12-requires
-    enum-told-11
-    returns
-    returns-2
-    same-length
-    returns-3
-    returns-4
-    returns-5
-    same-length-2
-    returns-6
-    returns-7
-    returns-8
-    same-length-3
-    returns-9
-    returns-10
-    returns-11)
+    (tie.spec (λ c. search needs) (λ c κs. search needs) (λ c. search needs) (λ c κs. search needs) (λ c. search needs) inquiry-requires
+    (λ c. search needs) (λ c. search needs) (λ c κs. search needs) (λ c. search needs) (λ c. search needs) (λ c κs. search needs)
+    (λ c. search needs) read-capacity-requires (λ c. search needs) read10-requires (λ c. search needs) (λ c κs. search needs) seek-requires
+    (λ c. search needs) read-toc-requires (λ c. search needs) read12-requires (λ c. search needs) returns returns-2 (λ c. search needs)
+    returns-3 returns-4 returns-5 (λ c. search needs) returns-6 returns-7 returns-8 (λ c. search needs) returns-9 returns-10 returns-11)

@@ -31,12 +31,6 @@ told c =
     ∙ ap (λ (a : TocAsk). tocBad (x .disc) (a .format) (a .number)) (c .before .toc-ask .ensures)
     ∙ ap (λ (d : Disc). tocBad d (formatIn (now (x .p))) (numberIn (now (x .p)))) (c .before .before .before .before .before .pre .0 .same)
 
-toc-ask-requires : tie.Need-toc-ask-requires
-toc-ask-requires c κs = search needs
-
-toc-bad-requires : tie.Need-toc-bad-requires
-toc-bad-requires c κs = search needs
-
 returns : tie.Need-returns
 returns c = performed-fails _ (readToc-fails _ _ _ (sym (told (c .before)) ∙ c .if1 .taken))
 
@@ -45,24 +39,6 @@ sub-put-toc c = let h = c .before .before .before .before .before .before .pre .
 
 part-put-toc-start : tie.Need-part-put-toc-start
 part-put-toc-start c = let h = c .before .before .before .before .before .before .pre .0 .fits .head in search needs
-
-part-put-toc-end : tie.Need-part-put-toc-end
-part-put-toc-end c = search needs
-
-shared-slice-read-word16 : tie.Need-shared-slice-read-word16
-shared-slice-read-word16 c = search needs
-
-shared-slice-read-word16-2 : tie.Need-shared-slice-read-word16-2
-shared-slice-read-word16-2 c = search needs
-
-word16-requires : tie.Need-word16-requires
-word16-requires c κs = search needs
-
-put-toc-requires : tie.Need-put-toc-requires
-put-toc-requires c κs = search needs
-
-same-length : tie.Need-same-length
-same-length c = search needs
 
 returns-2 : tie.Need-returns-2
 returns-2 c = let x = c .before .before .before .before .before .before .before .before .before .before .before .before .before .before .args in
@@ -74,16 +50,5 @@ returns-2 c = let x = c .before .before .before .before .before .before .before 
 pub read-toc-spec : {M : Type 1} → statement M
 read-toc-spec =
     tie.close
-    (tie.spec
-    toc-ask-requires
-    toc-bad-requires
-    returns
-    sub-put-toc
-    part-put-toc-start
-    part-put-toc-end
-    shared-slice-read-word16
-    shared-slice-read-word16-2
-    word16-requires
-    put-toc-requires
-    same-length
-    returns-2)
+    (tie.spec (λ c κs. search needs) (λ c κs. search needs) returns sub-put-toc part-put-toc-start (λ c. search needs) (λ c. search needs)
+    (λ c. search needs) (λ c κs. search needs) (λ c κs. search needs) (λ c. search needs) returns-2)

@@ -26,9 +26,6 @@ few c =
     let w = shownCount-within (x .n) (now (x .d)) (rows (now (x .d))) in
     omega arith
 
-shown-count-requires : tie.Need-shown-count-requires
-shown-count-requires c κs = search needs
-
 mul-put-head : tie.Need-mul-put-head
 mul-put-head c = let k = few c in let g = c .before .before .shared-slice-known .given in omega arith
 
@@ -38,42 +35,6 @@ add-put-head c = let k = few c in let g = c .before .before .shared-slice-known 
 add-put-head-2 : tie.Need-add-put-head-2
 add-put-head-2 c = let k = few c in let g = c .before .before .shared-slice-known .given in omega arith
 
-put-head-requires : tie.Need-put-head-requires
-put-head-requires c κs = search needs
-
-sub-put-all : tie.Need-sub-put-all
-sub-put-all c = search needs
-
-part-put-all-start : tie.Need-part-put-all-start
-part-put-all-start c = search needs
-
-part-put-all-end : tie.Need-part-put-all-end
-part-put-all-end c = search needs
-
-put-all-requires : tie.Need-put-all-requires
-put-all-requires c κs = search needs
-
-add-at : tie.Need-add-at
-add-at c = search needs
-
-sub-put-described : tie.Need-sub-put-described
-sub-put-described c = search needs
-
-part-put-described-start : tie.Need-part-put-described-start
-part-put-described-start c = search needs
-
-part-put-described-end : tie.Need-part-put-described-end
-part-put-described-end c = search needs
-
-put-described-requires : tie.Need-put-described-requires
-put-described-requires c κs = search needs
-
-add-at-2 : tie.Need-add-at-2
-add-at-2 c = search needs
-
-same-length : tie.Need-same-length
-same-length c = search needs
-
 returns : tie.Need-returns
 returns c = let x = c .before .before .before .before .before .before .before .before .before .before .before .before .before .before .before .args in
     rw (format0-laid (x .disc) (x .msf) (x .n) (now (x .d)) (c .before .before .before .before .before .before .before .before .before .before .before .before .shown-count .result) (c .before .before .before .before .before .before .before .before .before .before .before .before .shown-count .ensures))
@@ -82,21 +43,6 @@ returns c = let x = c .before .before .before .before .before .before .before .b
 pub put-format0-spec : {M : Type 1} → statement M
 put-format0-spec =
     tie.close
-    (tie.spec
-    shown-count-requires
-    mul-put-head
-    add-put-head
-    add-put-head-2
-    put-head-requires
-    sub-put-all
-    part-put-all-start
-    part-put-all-end
-    put-all-requires
-    add-at
-    sub-put-described
-    part-put-described-start
-    part-put-described-end
-    put-described-requires
-    add-at-2
-    same-length
-    returns)
+    (tie.spec (λ c κs. search needs) mul-put-head add-put-head add-put-head-2 (λ c κs. search needs) (λ c. search needs) (λ c. search needs)
+    (λ c. search needs) (λ c κs. search needs) (λ c. search needs) (λ c. search needs) (λ c. search needs) (λ c. search needs)
+    (λ c κs. search needs) (λ c. search needs) (λ c. search needs) returns)

@@ -10,29 +10,11 @@ use Rattle.toc.proofs.answer.put_format0.Reads as put-format0-reads
 use Rattle.toc.proofs.answer.put_format1.Reads as put-format1-reads
 use Rattle.toc.proofs.answer.put_format2.Reads as put-format2-reads
 
-put-format0-requires : tie.Need-put-format0-requires
-put-format0-requires c κs = search needs
-
-same-length : tie.Need-same-length
-same-length c = search needs
-
 returns : tie.Need-returns
 returns c = rw (tocBytes-0 _ _ _ _ _ (c .before .before .before .before .if1 .taken)) (c .before .before .put-format0 .ensures)
 
-put-format1-requires : tie.Need-put-format1-requires
-put-format1-requires c κs = search needs
-
-same-length-2 : tie.Need-same-length-2
-same-length-2 c = search needs
-
 returns-2 : tie.Need-returns-2
 returns-2 c = rw (tocBytes-1 _ _ _ _ (now (c .before .before .before .before .before .before .before .before .before .before .args .d)) (c .before .before .before .before .if2 .taken)) (c .before .before .put-format1 .ensures)
-
-put-format2-requires : tie.Need-put-format2-requires
-put-format2-requires c κs = search needs
-
-same-length-3 : tie.Need-same-length-3
-same-length-3 c = search needs
 
 returns-3 : tie.Need-returns-3
 returns-3 c = rw (tocBytes-2 _ _ _ _ _ (c .before .before .before .before .before .before .if1 .left) (c .before .before .before .before .if2 .left)) (c .before .before .put-format2 .ensures)
@@ -40,13 +22,5 @@ returns-3 c = rw (tocBytes-2 _ _ _ _ _ (c .before .before .before .before .befor
 pub put-full-spec : {M : Type 1} → statement M
 put-full-spec =
     tie.close
-    (tie.spec
-    put-format0-requires
-    same-length
-    returns
-    put-format1-requires
-    same-length-2
-    returns-2
-    put-format2-requires
-    same-length-3
-    returns-3)
+    (tie.spec (λ c κs. search needs) (λ c. search needs) returns (λ c κs. search needs) (λ c. search needs) returns-2 (λ c κs. search needs)
+    (λ c. search needs) returns-3)

@@ -15,24 +15,6 @@ use Rattle.disc.proofs.session.starts_after.Reads as starts-after-reads
 use Rattle.toc.proofs.answer.sessions_before.Reads as sessions-before-reads
 use Rattle.toc.proofs.answer.smaller.Reads as smaller-reads
 
-sessions-before-requires : tie.Need-sessions-before-requires
-sessions-before-requires c κs = search needs
-
-starts-after-requires : tie.Need-starts-after-requires
-starts-after-requires c κs = search needs
-
-smaller-requires : tie.Need-smaller-requires
-smaller-requires c κs = search needs
-
-sub-result : tie.Need-sub-result
-sub-result c = search needs
-
-part-result-start : tie.Need-part-result-start
-part-result-start c = search needs
-
-part-result-end : tie.Need-part-result-end
-part-result-end c = search needs
-
 returns : tie.Need-returns
 returns c = let d = now (c .before .before .before .before .before .args .d) in
     rest-all _ d
@@ -42,11 +24,5 @@ returns c = let d = now (c .before .before .before .before .before .args .d) in
 pub sessions-from-spec : {M : Type 1} → statement M
 sessions-from-spec =
     tie.close
-    (tie.spec
-    sessions-before-requires
-    starts-after-requires
-    smaller-requires
-    sub-result
-    part-result-start
-    part-result-end
-    returns)
+    (tie.spec (λ c κs. search needs) (λ c κs. search needs) (λ c κs. search needs) (λ c. search needs) (λ c. search needs)
+    (λ c. search needs) returns)

@@ -16,21 +16,6 @@ use Rattle.ground.proofs.number.wide.Reads as wide-reads
 told : (c : tie.After-is-track) → c .is-track .result ≡ isTrack (pointAt (now (c .before .before .before .before .args .d)) (c .before .before .before .before .args .j))
 told c = c .is-track .ensures ∙ ap isTrack (c .before .wide .ensures .same)
 
-mul-at : tie.Need-mul-at
-mul-at c = search needs
-
-add-p : tie.Need-add-p
-add-p c = search needs
-
-shared-slice-read-p : tie.Need-shared-slice-read-p
-shared-slice-read-p c = search needs
-
-wide-requires : tie.Need-wide-requires
-wide-requires c κs = search needs
-
-is-track-requires : tie.Need-is-track-requires
-is-track-requires c κs = search needs
-
 returns : tie.Need-returns
 unfolding isShown
 returns c = and-on _ _ (sym (told (c .before)) ∙ c .if1 .taken) refl
@@ -42,4 +27,4 @@ returns-2 c = and-off _ _ (sym (told (c .before)) ∙ c .if1 .left)
 pub is-shown-spec : {M : Type 1} → statement M
 is-shown-spec =
     tie.close
-    (tie.spec mul-at add-p shared-slice-read-p wide-requires is-track-requires returns returns-2)
+    (tie.spec (λ c. search needs) (λ c. search needs) (λ c. search needs) (λ c κs. search needs) (λ c κs. search needs) returns returns-2)

@@ -9,30 +9,6 @@ use Rattle.toc.proofs.shown.put_described.Lts as lts
 use Rattle.ground.proofs.memory.copy_front.Reads as copy-front-reads
 use Rattle.toc.proofs.shown.shown_address.Reads as shown-address-reads
 
-shown-address-requires : tie.Need-shown-address-requires
-shown-address-requires c κs = search needs
-
-array-read-t11 : tie.Need-array-read-t11
-array-read-t11 c = search needs
-
-array-read-t14 : tie.Need-array-read-t14
-array-read-t14 c = search needs
-
-array-read-t17 : tie.Need-array-read-t17
-array-read-t17 c = search needs
-
-array-read-t20 : tie.Need-array-read-t20
-array-read-t20 c = search needs
-
-slice-aggregate-copy-front : tie.Need-slice-aggregate-copy-front
-slice-aggregate-copy-front c = search needs
-
-copy-front-requires : tie.Need-copy-front-requires
-copy-front-requires c κs = search needs
-
-same-length : tie.Need-same-length
-same-length c = search needs
-
 returns : tie.Need-returns
 returns c = let x = c .before .before .before .before .before .before .before .args in
     let b = c .before .before .before .before .before .shown-address .ensures in
@@ -42,13 +18,5 @@ returns c = let x = c .before .before .before .before .before .before .before .a
 pub put-described-spec : {M : Type 1} → statement M
 put-described-spec =
     tie.close
-    (tie.spec
-    shown-address-requires
-    array-read-t11
-    array-read-t14
-    array-read-t17
-    array-read-t20
-    slice-aggregate-copy-front
-    copy-front-requires
-    same-length
-    returns)
+    (tie.spec (λ c κs. search needs) (λ c. search needs) (λ c. search needs) (λ c. search needs) (λ c. search needs) (λ c. search needs)
+    (λ c κs. search needs) (λ c. search needs) returns)

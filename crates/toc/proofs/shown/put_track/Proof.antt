@@ -11,15 +11,6 @@ use Rattle.toc.proofs.shown.put_track.Lts as lts
 use Rattle.toc.proofs.shown.is_shown.Reads as is-shown-reads
 use Rattle.toc.proofs.shown.put_described_row.Reads as put-described-row-reads
 
-is-shown-requires : tie.Need-is-shown-requires
-is-shown-requires c κs = search needs
-
-put-described-row-requires : tie.Need-put-described-row-requires
-put-described-row-requires c κs = search needs
-
-same-length : tie.Need-same-length
-same-length c = search needs
-
 returns : tie.Need-returns
 returns c = let x = c .before .before .before .before .before .before .before .before .args in
     let k = sym (c .before .before .before .before .before .is-shown .ensures) ∙ c .before .before .before .before .if1 .taken in
@@ -31,4 +22,4 @@ returns-2 c = let x = c .before .before .before .before .args in
 
 pub put-track-spec : {M : Type 1} → statement M
 put-track-spec =
-    tie.close (tie.spec is-shown-requires put-described-row-requires same-length returns returns-2)
+    tie.close (tie.spec (λ c κs. search needs) (λ c κs. search needs) (λ c. search needs) returns returns-2)

@@ -16,15 +16,6 @@ use Rattle.ground.proofs.number.bytes32.Reads as bytes32-reads
 fields : MsfAnswer → List ℕ
 fields r = 0 ∷ r .minute ∷ r .second ∷ r .frame ∷ []
 
-to-msf-requires : tie.Need-to-msf-requires
-to-msf-requires c κs = search needs
-
-enum-known-minute : tie.Need-enum-known-minute
-enum-known-minute c = search needs
-
-enum-told : tie.Need-enum-told
-enum-told c = search needs
-
 returns : tie.Need-returns
 unfolding shownAddress fields
 returns c = let e = sym (c .before .before .before .to-msf .ensures) ∙ ap msfMeaning (c .before .minute .given .1) in
@@ -35,9 +26,6 @@ unfolding shownAddress fields
 returns-2 c = let e = sym (c .before .before .to-msf .ensures) ∙ ap msfMeaning (c .enum-told .given .1) in
     sym (when _ _ _ (c .before .before .before .if1 .taken) ∙ ap fields e)
 
-bytes32-requires : tie.Need-bytes32-requires
-bytes32-requires c κs = search needs
-
 returns-3 : tie.Need-returns-3
 unfolding shownAddress
 returns-3 c = c .bytes32 .ensures ∙ sym (unless _ _ _ (c .before .if1 .left))
@@ -45,11 +33,4 @@ returns-3 c = c .bytes32 .ensures ∙ sym (unless _ _ _ (c .before .if1 .left))
 pub shown-address-spec : {M : Type 1} → statement M
 shown-address-spec =
     tie.close
-    (tie.spec
-    to-msf-requires
-    enum-known-minute
-    enum-told
-    returns
-    returns-2
-    bytes32-requires
-    returns-3)
+    (tie.spec (λ c κs. search needs) (λ c. search needs) (λ c. search needs) returns returns-2 (λ c κs. search needs) returns-3)

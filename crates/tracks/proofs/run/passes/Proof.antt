@@ -18,15 +18,6 @@ returns c = sym (passes-before _ _ _ (c .if1 .taken))
 returns-2 : tie.Need-returns-2
 returns-2 c = sym (passes-past _ _ _ (omega arith))
 
-wide-requires : tie.Need-wide-requires
-wide-requires c κs = search needs
-
-is-track-requires : tie.Need-is-track-requires
-is-track-requires c κs = search needs
-
-is-data-requires : tie.Need-is-data-requires
-is-data-requires c κs = search needs
-
 returns-3 : tie.Need-returns-3
 returns-3 c = c .is-data .ensures ∙ sym (passes-track _ _ _ (omega arith) (omega arith) (ap isTrack (sym (c .before .before .before .wide .ensures .same)) ∙ sym (c .before .before .is-track .ensures) ∙ c .before .if3 .taken))
 
@@ -36,11 +27,4 @@ returns-4 c = sym (passes-other _ _ _ (omega arith) (omega arith) (ap isTrack (s
 pub passes-spec : {M : Type 1} → statement M
 passes-spec =
     tie.close
-    (tie.spec
-    returns
-    returns-2
-    wide-requires
-    is-track-requires
-    is-data-requires
-    returns-3
-    returns-4)
+    (tie.spec returns returns-2 (λ c κs. search needs) (λ c κs. search needs) (λ c κs. search needs) returns-3 returns-4)

@@ -15,18 +15,6 @@ use Rattle.tracks.proofs.track.track_of.Reads as track-of-reads
 returns : tie.Need-returns
 returns c = sym (run-none _ _ _ (c .if1 .taken))
 
-track-of-requires : tie.Need-track-of-requires
-track-of-requires c κs = search needs
-
-is-data-requires : tie.Need-is-data-requires
-is-data-requires c κs = search needs
-
-descriptors-requires : tie.Need-descriptors-requires
-descriptors-requires c κs = search needs
-
-all-pass-requires : tie.Need-all-pass-requires
-all-pass-requires c κs = search needs
-
 returns-2 : tie.Need-returns-2
 unfolding inData
 returns-2 c = rw (c .before .descriptors .ensures) at (c .all-pass .ensures) ∙ sym (run-on _ _ _ (c .before .before .before .before .before .if1 .left) (rw (c .before .before .before .before .track-of .ensures) at (sym (c .before .before .before .is-data .ensures) ∙ c .before .before .if2 .taken)))
@@ -38,11 +26,4 @@ returns-3 c = sym (run-off _ _ _ (c .before .before .before .if1 .left) (rw (c .
 pub run-is-data-spec : {M : Type 1} → statement M
 run-is-data-spec =
     tie.close
-    (tie.spec
-    returns
-    track-of-requires
-    is-data-requires
-    descriptors-requires
-    all-pass-requires
-    returns-2
-    returns-3)
+    (tie.spec returns (λ c κs. search needs) (λ c κs. search needs) (λ c κs. search needs) (λ c κs. search needs) returns-2 returns-3)

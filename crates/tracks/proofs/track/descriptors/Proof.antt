@@ -9,20 +9,8 @@ use Rattle.tracks.proofs.track.descriptors.Tie as tie
 use Rattle.tracks.proofs.track.descriptors.Reads as reads
 use Rattle.tracks.proofs.track.descriptors.Lts as lts
 
-slice-aggregate-result : tie.Need-slice-aggregate-result
-slice-aggregate-result c = search needs
-
 returns : tie.Need-returns
 returns c = sym (drop-of-length-le (c .before .before .args .t .now) {i = 4} (omega arith))
-
-sub-result : tie.Need-sub-result
-sub-result c = search needs
-
-part-result-start : tie.Need-part-result-start
-part-result-start c = search needs
-
-part-result-end : tie.Need-part-result-end
-part-result-end c = search needs
 
 returns-2 : tie.Need-returns-2
 returns-2 c = rest-all 4 (c .before .before .args .t .now)
@@ -30,10 +18,4 @@ returns-2 c = rest-all 4 (c .before .before .args .t .now)
 pub descriptors-spec : {M : Type 1} → statement M
 descriptors-spec =
     tie.close
-    (tie.spec
-    slice-aggregate-result
-    returns
-    sub-result
-    part-result-start
-    part-result-end
-    returns-2)
+    (tie.spec (λ c. search needs) returns (λ c. search needs) (λ c. search needs) (λ c. search needs) returns-2)

@@ -6,11 +6,8 @@ use Rattle.tracks.proofs.track.is_data.Reads as reads
 use Rattle.tracks.proofs.track.is_data.Lts as lts
 use Rattle.ground.proofs.number.wide.Reads as wide-reads
 
-wide-requires : tie.Need-wide-requires
-wide-requires c κs = search needs
-
 returns : tie.Need-returns
 returns c = rw (c .wide .ensures .same)
 
 pub is-data-spec : {M : Type 1} → statement M
-is-data-spec = tie.close (tie.spec wide-requires returns)
+is-data-spec = tie.close (tie.spec (λ c κs. search needs) returns)

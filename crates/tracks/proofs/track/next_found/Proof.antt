@@ -8,9 +8,6 @@ use Rattle.tracks.proofs.track.next_found.Reads as reads
 use Rattle.tracks.proofs.track.next_found.Lts as lts
 use Rattle.tracks.proofs.track.wanted.Reads as wanted-reads
 
-wanted-requires : tie.Need-wanted-requires
-wanted-requires c κs = search needs
-
 returns : tie.Need-returns
 returns c = sym (nextFound-here _ _ _ (sym (c .before .wanted .ensures) ∙ c .if1 .taken))
 
@@ -18,4 +15,4 @@ returns-2 : tie.Need-returns-2
 returns-2 c = sym (nextFound-on _ _ _ (sym (c .before .wanted .ensures) ∙ c .if1 .left))
 
 pub next-found-spec : {M : Type 1} → statement M
-next-found-spec = tie.close (tie.spec wanted-requires returns returns-2)
+next-found-spec = tie.close (tie.spec (λ c κs. search needs) returns returns-2)

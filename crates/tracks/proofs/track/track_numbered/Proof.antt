@@ -8,15 +8,9 @@ use Rattle.tracks.proofs.track.track_numbered.Lts as lts
 use Rattle.tracks.proofs.track.descriptors.Reads as descriptors-reads
 use Rattle.tracks.proofs.track.found.Reads as found-reads
 
-descriptors-requires : tie.Need-descriptors-requires
-descriptors-requires c κs = search needs
-
-found-requires : tie.Need-found-requires
-found-requires c κs = search needs
-
 returns : tie.Need-returns
 unfolding trackNumbered
 returns c = rw (c .before .descriptors .ensures) at (c .found .ensures)
 
 pub track-numbered-spec : {M : Type 1} → statement M
-track-numbered-spec = tie.close (tie.spec descriptors-requires found-requires returns)
+track-numbered-spec = tie.close (tie.spec (λ c κs. search needs) (λ c κs. search needs) returns)

@@ -10,21 +10,12 @@ use Rattle.tracks.proofs.track.descriptors.Reads as descriptors-reads
 use Rattle.tracks.proofs.track.found.Reads as found-reads
 use Rattle.tracks.proofs.track.no_track.Reads as no-track-reads
 
-descriptors-requires : tie.Need-descriptors-requires
-descriptors-requires c κs = search needs
-
-found-requires : tie.Need-found-requires
-found-requires c κs = search needs
-
 returns : tie.Need-returns
 returns c = trackOf-below _ _ (rw (c .before .before .before .descriptors .ensures) at (c .before .before .found .ensures)) (c .if1 .taken)
-
-no-track-requires : tie.Need-no-track-requires
-no-track-requires c κs = search needs
 
 returns-2 : tie.Need-returns-2
 returns-2 c = c .no-track .ensures ∙ sym (trackOf-past _ _ (rw (c .before .before .before .before .descriptors .ensures) at (c .before .before .before .found .ensures)) (c .before .if1 .left))
 
 pub track-of-spec : {M : Type 1} → statement M
 track-of-spec =
-    tie.close (tie.spec descriptors-requires found-requires returns no-track-requires returns-2)
+    tie.close (tie.spec (λ c κs. search needs) (λ c κs. search needs) returns (λ c κs. search needs) returns-2)

@@ -11,21 +11,6 @@ use Rattle.disc.proofs.layout.is_track.Reads as is-track-reads
 use Rattle.ground.proofs.number.wide.Reads as wide-reads
 use Rattle.tracks.proofs.track.covers.Reads as covers-reads
 
-wide-requires : tie.Need-wide-requires
-wide-requires c κs = search needs
-
-is-track-requires : tie.Need-is-track-requires
-is-track-requires c κs = search needs
-
-enum-known-ask : tie.Need-enum-known-ask
-enum-known-ask c = search needs
-
-covers-requires : tie.Need-covers-requires
-covers-requires c κs = search needs
-
-enum-known-ask-2 : tie.Need-enum-known-ask-2
-enum-known-ask-2 c = search needs
-
 returns : tie.Need-returns
 returns c = rw (c .covers .ensures, c .before .before .ask .given .1) (wanted-block _ _ _ (ap isTrack (sym (c .before .before .before .before .before .before .wide .ensures .same)) ∙ sym (c .before .before .before .before .before .is-track .ensures) ∙ c .before .before .before .before .if1 .taken))
 
@@ -38,12 +23,5 @@ returns-3 c = wanted-not _ _ _ (ap isTrack (sym (c .before .before .wide .ensure
 pub wanted-spec : {M : Type 1} → statement M
 wanted-spec =
     tie.close
-    (tie.spec
-    wide-requires
-    is-track-requires
-    enum-known-ask
-    covers-requires
-    enum-known-ask-2
-    returns
-    returns-2
+    (tie.spec (λ c κs. search needs) (λ c κs. search needs) (λ c. search needs) (λ c κs. search needs) (λ c. search needs) returns returns-2
     returns-3)

@@ -12,32 +12,14 @@ use Rattle.drive.proofs.state.Drive.with_disc.Reads as with-disc-reads
 use Rattle.drive.proofs.state.moves.Reads as moves-reads
 use Rattle.drive.proofs.state.refuse.Reads as refuse-reads
 
-is-known-requires : tie.Need-is-known-requires
-is-known-requires c κs = search needs
-
-refuse-requires : tie.Need-refuse-requires
-refuse-requires c κs = search needs
-
 returns : tie.Need-returns
 returns c = let d = c .before .before .before .before .before .args .self in c .refuse .ensures ∙ sym (lay-full d (sym (c .before .before .before .before .is-known .ensures) ∙ c .before .before .before .if1 .taken) (c .before .before .if2 .taken) (c .before .if3 .taken))
-
-with-disc-requires : tie.Need-with-disc-requires
-with-disc-requires c κs = search needs
-
-moves-requires : tie.Need-moves-requires
-moves-requires c κs = search needs
 
 returns-2 : tie.Need-returns-2
 returns-2 c = let d = c .before .before .before .before .before .before .args .self in c .moves .ensures ∙ ap moves (c .before .with-disc .ensures) ∙ sym (lay-lays d (sym (c .before .before .before .before .before .is-known .ensures) ∙ c .before .before .before .before .if1 .taken) (c .before .before .before .if2 .taken) (c .before .before .if3 .left))
 
-refuse-requires-2 : tie.Need-refuse-requires-2
-refuse-requires-2 c κs = search needs
-
 returns-3 : tie.Need-returns-3
 returns-3 c = let d = c .before .before .before .before .args .self in c .refuse2 .ensures ∙ sym (lay-closed d (sym (c .before .before .before .is-known .ensures) ∙ c .before .before .if1 .taken) (c .before .if2 .left))
-
-refuse-requires-3 : tie.Need-refuse-requires-3
-refuse-requires-3 c κs = search needs
 
 returns-4 : tie.Need-returns-4
 returns-4 c = let d = c .before .before .before .args .self in c .refuse3 .ensures ∙ sym (lay-unknown d (sym (c .before .before .is-known .ensures) ∙ c .before .if1 .left))
@@ -45,14 +27,5 @@ returns-4 c = let d = c .before .before .before .args .self in c .refuse3 .ensur
 pub lay-spec : {M : Type 1} → statement M
 lay-spec =
     tie.close
-    (tie.spec
-    is-known-requires
-    refuse-requires
-    returns
-    with-disc-requires
-    moves-requires
-    returns-2
-    refuse-requires-2
-    returns-3
-    refuse-requires-3
-    returns-4)
+    (tie.spec (λ c κs. search needs) (λ c κs. search needs) returns (λ c κs. search needs) (λ c κs. search needs) returns-2
+    (λ c κs. search needs) returns-3 (λ c κs. search needs) returns-4)

@@ -8,15 +8,9 @@ use Rattle.drive.proofs.state.Drive.power_on.Lts as lts
 use Rattle.drive.proofs.state.Mechanics.with_lock.Reads as with-lock-reads
 use Rattle.drive.proofs.state.Unit.powered_on.Reads as powered-on-reads
 
-powered-on-requires : tie.Need-powered-on-requires
-powered-on-requires c κs = search needs
-
-with-lock-requires : tie.Need-with-lock-requires
-with-lock-requires c κs = search needs
-
 returns : tie.Need-returns
 unfolding powerOn
 returns c = cc
 
 pub power-on-spec : {M : Type 1} → statement M
-power-on-spec = tie.close (tie.spec powered-on-requires with-lock-requires returns)
+power-on-spec = tie.close (tie.spec (λ c κs. search needs) (λ c κs. search needs) returns)

@@ -6,11 +6,8 @@ use Rattle.drive.proofs.state.Drive.shift.Reads as reads
 use Rattle.drive.proofs.state.Drive.shift.Lts as lts
 use Rattle.drive.proofs.state.Unit.attend.Reads as attend-reads
 
-attend-requires : tie.Need-attend-requires
-attend-requires c κs = search needs
-
 returns : tie.Need-returns
 returns c = cc
 
 pub shift-spec : {M : Type 1} → statement M
-shift-spec = tie.close (tie.spec attend-requires returns)
+shift-spec = tie.close (tie.spec (λ c κs. search needs) returns)

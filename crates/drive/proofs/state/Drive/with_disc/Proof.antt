@@ -6,11 +6,8 @@ use Rattle.drive.proofs.state.Drive.with_disc.Reads as reads
 use Rattle.drive.proofs.state.Drive.with_disc.Lts as lts
 use Rattle.drive.proofs.state.Mechanics.with_disc.Reads as with-disc-reads
 
-with-disc-requires : tie.Need-with-disc-requires
-with-disc-requires c κs = search needs
-
 returns : tie.Need-returns
 returns c = cc
 
 pub with-disc-spec : {M : Type 1} → statement M
-with-disc-spec = tie.close (tie.spec with-disc-requires returns)
+with-disc-spec = tie.close (tie.spec (λ c κs. search needs) returns)

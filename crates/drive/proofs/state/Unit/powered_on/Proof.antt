@@ -6,11 +6,8 @@ use Rattle.drive.proofs.state.Unit.powered_on.Reads as reads
 use Rattle.drive.proofs.state.Unit.powered_on.Lts as lts
 use Rattle.drive.proofs.sense.sense_at.Reads as sense-at-reads
 
-sense-at-requires : tie.Need-sense-at-requires
-sense-at-requires c κs = search needs
-
 returns : tie.Need-returns
 returns c = cc
 
 pub powered-on-spec : {M : Type 1} → statement M
-powered-on-spec = tie.close (tie.spec sense-at-requires returns)
+powered-on-spec = tie.close (tie.spec (λ c κs. search needs) returns)
