@@ -11,7 +11,8 @@ use Rattle.drive.specs.declared.state.Drive.{Drive}
 use Rattle.drive.specs.State.{powerOn, button, lay, lift}
 use Rattle.disc.specs.Rules.{isFit}
 use Rattle.command.specs.Command.{codeOf, loEj, start}
-use Rattle.target.specs.Packet.{answer as replyTo, stateOf}
+use Rattle.outcome.specs.Outcome.{stateOf}
+use Rattle.target.specs.Packet.{answer as replyTo}
 use Rattle.claims.specs.Telling.{Attention, power, change, pending, anyPending, Answer, answerOf, isGood, tellsTo}
 use Rattle.claims.specs.History as past
 use Rattle.claims.specs.History.{Event}

@@ -11,7 +11,7 @@ use Rattle.drive.specs.declared.state.Moved.{Moved}
 use Rattle.drive.specs.State.{powerOn, button, lay, lift}
 use Rattle.gate.specs.Gate.{Reply}
 use Rattle.drive.specs.declared.state.Mechanics.{Mechanics}
-use Rattle.target.specs.Packet.{stateOf}
+use Rattle.outcome.specs.Outcome.{stateOf}
 use Rattle.claims.specs.Telling.{Attention, power, change, Answer, answerOf, isGood, tellsTo}
 use Rattle.claims.specs.UnitLaws.{Turn, only, unmoved, attended, meets-turn, orders-blocks, any-pending}
 use Rattle.claims.specs.Call.{Call, powering, pressing, laying, lifting, packet, answer, next, event, isPending, isAttending, isPowering, isPowerOn, closed, isLoading, isCause, causes, tells, isNeeding, isSuccess, Alike, same, tables, lend, left}

@@ -7,6 +7,7 @@ pub mod Marked
 pub mod Addresses
 pub mod Block
 pub mod Unique
+pub mod Served
 -- their notions
 pub mod Call
 pub mod Telling

@@ -21,7 +21,8 @@ use Rattle.toc.specs.Shown.{shownAddress, isShown, shownTrack, shownTracks}
 use Rattle.toc.specs.Answer.{headed as tocHeaded, format0, tocBytes, tocBad}
 use Rattle.target.specs.ReadToc.{readToc}
 use Rattle.target.specs.Perform.{read, perform}
-use Rattle.target.specs.Packet.{within, refusalOf, answer, stateOf, bytesOf}
+use Rattle.outcome.specs.Outcome.{stateOf, bytesOf}
+use Rattle.target.specs.Packet.{within, refusalOf, answer}
 
 -- "Table E, 59 bytes"
 abbrev pub tableE : List ℕ

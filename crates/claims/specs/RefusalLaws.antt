@@ -1,6 +1,6 @@
 -- Which number a call gives, and what a refused call leaves.
 use mathlib.Core.Path.{_≡_, refl, sym, ap, _∙_}
-use mathlib.Core.Bool.{Bool, true, false, not}
+use mathlib.Core.Bool.{Bool, true, false, not, true≢false}
 use mathlib.Core.List.{List, []}
 use Prim.Native.Nat.{ℕ, zero, suc, _<_}
 use native.Mathlib.Omega.{arith}
@@ -26,7 +26,12 @@ use Rattle.address.specs.Address.{MsfAnswer, BlockAnswer, last, addressOf, isMs
 use Rattle.address.specs.Laws.{toMsf-at, toMsf-refused}
 use Rattle.gate.specs.Unit.{pendingOf}
 use Rattle.gate.specs.Gate.{Result, fails, goes, Reply, gate}
-use Rattle.target.specs.Packet.{refusalOf, within, answer as replyTo, stateOf}
+use Rattle.disc.specs.RulesLaws.{isFit-true}
+use Rattle.disc.specs.Disc.{discOf}
+use Rattle.target.specs.FitFacts.{fit-facts}
+use Rattle.target.specs.PacketLaws.{steps-within}
+use Rattle.outcome.specs.Outcome.{stateOf}
+use Rattle.target.specs.Packet.{refusalOf, within, answer as replyTo}
 use Rattle.claims.specs.Telling.{Attention, power, change, Answer, answerOf, tellsTo}
 use Rattle.claims.specs.UnitLaws.{Kind, asks, frees, orders, reply, meets}
 use Rattle.claims.specs.Call.{Call, powering, pressing, laying, lifting, packet, memoryOf, answer, next, event, isPowering, closed, isLoading, causes, isRequestSense, tells}
@@ -168,6 +173,30 @@ module _ (d : Drive) (p t : List ℕ) (n : ℕ) where
       Ordered (eqb (length p) 12) (isKnown (d .unit .sense)) (ltb n bound) (isLoaded (d .mechanics) and not (isFit t)) (ltb bound (length (stepped d p t .full)))
       (replyTo d p t n .number)
   reply-ordered = rw (reply-first _ _ _ _ _ refl refl refl refl refl) (first-ordered _ _ _ _ _)
+
+-- ---- 9 is never given
+
+-- the test for 9 cannot hold once the one for 4 does not
+last-off : (a b c u o : Bool) → (u ≡ false → o ≡ false) → a and b and not c and not u and o ≡ false
+unfolding _and_
+last-off false b c u o h = refl
+last-off true false c u o h = refl
+last-off true true true u o h = refl
+last-off true true false true o h = refl
+last-off true true false false o h = h refl
+
+-- a loaded drive that is not refused for its table has a fit one
+fit-loaded : (t : List ℕ) (l f : Bool) → isFit t ≡ f → l and not f ≡ false → l ≡ true → isFit t ≡ true
+unfolding _and_
+fit-loaded t l true e h k = e
+fit-loaded t true false e h k = absurd (true≢false h)
+fit-loaded t false false e h k = absurd (true≢false (sym k))
+
+pub over-never : (d : Drive) (p t : List ℕ) (twelve known under : Bool)
+    → twelve and known and not under and not (isLoaded (d .mechanics) and not (isFit t)) and ltb bound (length (stepped d p t .full)) ≡ false
+over-never d p t a b c = last-off a b c _ _
+    (λ u. le-ltb _ _ (steps-within d p t (discOf t)
+    (λ l. record { fits = fit-facts (isFit-true (fit-loaded t _ (isFit t) refl u l)); same = refl })))
 
 -- ---- the other calls
 

@@ -1,6 +1,6 @@
 -- "Unfit ones are refused by number; a refused call leaves state and memory as they were." Each number "given exactly when".
-use mathlib.Core.Path.{_≡_, refl}
-use mathlib.Core.Bool.{Bool, not}
+use mathlib.Core.Path.{_≡_, refl, _∙_}
+use mathlib.Core.Bool.{Bool, true, false, not}
 use mathlib.Core.List.{List, []}
 use Prim.Native.Nat.{ℕ, _+_, _*_}
 use lib.ListN.{length}
@@ -8,15 +8,15 @@ use lib.Dec.{eqb, ltb, leb}
 use Rattle.ground.specs.Tests.{_and_, _or_}
 use Rattle.address.specs.Address.{toMsf, toBlock, isMsf}
 use Rattle.drive.specs.declared.state.Drive.{Drive}
-use Rattle.drive.specs.Sense.{isKnown}
-use Rattle.drive.specs.State.{isLoaded}
+use Rattle.drive.specs.Sense.{triple, senseAt, isKnown}
+use Rattle.drive.specs.State.{isLoaded, powerOn}
 use Rattle.disc.specs.Layout.{lastSession}
 use Rattle.disc.specs.Rules.{isFit}
 use Rattle.disc.specs.Part.{partRefusal}
 use Rattle.command.specs.Command.{decode, codeOf}
 use Rattle.target.specs.Packet.{steps}
 use Rattle.claims.specs.Call.{Call, powering, pressing, laying, lifting, packet, memoryOf, answer, next}
-use Rattle.claims.specs.RefusalLaws.{call-unchanged, reply-ordered, press-tested, press-locked, lay-tested, lift-tested, part-parted, toMsf-number, toBlock-number}
+use Rattle.claims.specs.RefusalLaws.{call-unchanged, reply-ordered, over-never, press-tested, press-locked, lay-tested, lift-tested, part-parted, toMsf-number, toBlock-number}
 
 -- a call with a number other than 0 leaves the state as it was, and answers "status 0, 0 bytes, start 0, count 0" with the memory as it was
 pub refused-unchanged : (c : Call) (d : Drive) → (answer c d .number ≡ 0 → ⊥)
@@ -66,14 +66,25 @@ module _ (d : Drive) where
     pub refused-9 : gives (packet p t m) 9 ≡ isTwelve and isOfTen and not isUnder and not isUnfit and isOver
     refused-9 = reply-ordered d p t (length m) .nine
 
+    -- it is never given: of a fit table, and without one, no full answer passes the bound
+    pub refused-9-never : gives (packet p t m) 9 ≡ false
+    refused-9-never = refused-9 ∙ over-never d p t (eqb (length p) 12) (isKnown (d .unit .sense)) (ltb (length m) 4360)
+
     -- and no other number but 0
     pub refused-not : gives (packet p t m) 0 ≡ isTwelve and isOfTen and not isUnder and not isUnfit and not isOver
     refused-not = reply-ordered d p t (length m) .zero
 
   -- ---- "Button, laying and lifting test 2 before 5 to 7."
 
-  -- "Power-on .. is never refused"
-  pub refused-power : answer powering d .number ≡ 0
+  -- "Power-on .. keeps the handed state's tray and disc and is never refused: lock off, sense 00/00/00, power attention pending,
+  -- change attention not": of every state, also with a held sense that is none of the ten. It hands back the state alone, and no number.
+  pub refused-power :
+      next powering d
+      ≡ record {
+        unit = record { power = true; change = false; sense = triple 0x00 0x00 0x00 };
+        mechanics = record { «tray_open» = d .mechanics .«tray_open»; «disc_in» = d .mechanics .«disc_in»; lock = false };
+      }
+  unfolding powerOn senseAt
   refused-power = refl
 
   -- "an open tray closes; a closed one opens, unless locked (5)"

@@ -27,7 +27,7 @@ use Rattle.drive.specs.State.{isLoaded, opening, closing, withDisc, withLock, s
 use Rattle.gate.specs.declared.fault.Fault.{Fault}
 use Rattle.gate.specs.declared.unit.Pending.{Pending}
 use Rattle.gate.specs.declared.unit.Giving.{Giving}
-use Rattle.gate.specs.Gate.{Reply}
+use Rattle.gate.specs.Gate.{Reply, senseBytes}
 use Rattle.gate.specs.Fault.{senseOf}
 use Rattle.gate.specs.Unit.{hold, clear, pendingOf, told, attentionSense, give}
 use Rattle.tracks.specs.declared.track.Track.{Track}
@@ -46,8 +46,9 @@ use Rattle.command.specs.Command.{decode, kindOf, needing, bit0, bit1}
 use Rattle.command.specs.Tray.{done, startStop, prevent, noMedium}
 use Rattle.command.specs.Done.{doneOf}
 use Rattle.toc.specs.Answer.{tocBytes, tocBad}
-use Rattle.target.specs.declared.packet.Outcome.{Outcome}
-use Rattle.target.specs.Packet.{Answered, answer}
+use Rattle.outcome.specs.declared.Outcome.{Outcome}
+use Rattle.outcome.specs.Outcome.{Answered, refused, checked, finished}
+use Rattle.target.specs.Packet.{answer}
 
 -- ---- the shapes of a promise, a law each
 
@@ -195,6 +196,9 @@ unique-sense-of-pending a r s = value-once
 pub unique-give : (u : Unit) (r s : Giving) → r ≡ give u → s ≡ give u → r ≡ s
 unique-give u r s = value-once
 
+pub unique-sense-bytes : (a : Sense) (r s : List ℕ) → r ≡ senseBytes a → s ≡ senseBytes a → r ≡ s
+unique-sense-bytes a r s = value-once
+
 -- ---- disc
 
 pub unique-fault : (t : List ℕ) (r s : ℕ) → r ≡ fault t → s ≡ fault t → r ≡ s
@@ -259,6 +263,21 @@ unique-prevent b m r s = value-once
 
 pub unique-no-medium : (m : Mechanics) (r s : Fault) → r ≡ noMedium m → s ≡ noMedium m → r ≡ s
 unique-no-medium m r s = value-once
+
+-- ---- outcome
+
+pub unique-refuse : (n : ℕ) (d : Drive) (r s : Outcome) → r ≡ refused n d → s ≡ refused n d → r ≡ s
+unique-refuse n d r s = value-once
+
+pub unique-check : (a : Sense) (u : Unit) (m : Mechanics) (r s : Outcome) → r ≡ checked a u m → s ≡ checked a u m → r ≡ s
+unique-check a u m r s = value-once
+
+pub unique-finish : (u v : Unit) (m : Mechanics) (d : Done) (r s : Outcome) → r ≡ finished u v m d → s ≡ finished u v m d → r ≡ s
+unique-finish u v m d r s = value-once
+
+pub unique-tell : (a : Pending) (u : Unit) (m : Mechanics) (r s : Outcome)
+    → r ≡ checked (attentionSense a) (told a u) m → s ≡ checked (attentionSense a) (told a u) m → r ≡ s
+unique-tell a u m r s = value-once
 
 -- ---- toc
 

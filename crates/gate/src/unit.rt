@@ -8,6 +8,7 @@ use drive::sense::sense_at;
 use drive::state::Unit;
 ghost use mathlib.Core.Path.{_≡_};
 ghost use Rattle.gate.specs.Unit.{hold, clear, pendingOf, attentionSense, told, give};
+ghost use Rattle.gate.specs.Gate.{senseBytes};
 
 // The attention that is told next: power first.
 pub enum Pending {
@@ -100,4 +101,30 @@ pub fn give(u: Unit) -> Giving
         sense: held,
         unit: clear(u),
     }
+}
+
+// REQUEST SENSE's 18 bytes of a triple.
+pub fn sense_bytes(s: Sense) -> [u8; 18]
+    ensures { λ r. ⌜ r ≡ senseBytes s ⌝ }
+{
+    [
+        0x70,
+        0,
+        s.key,
+        0,
+        0,
+        0,
+        0,
+        0x0A,
+        0,
+        0,
+        0,
+        0,
+        s.asc,
+        s.ascq,
+        0,
+        0,
+        0,
+        0,
+    ]
 }

@@ -9,7 +9,7 @@ use Rattle.print.specs.Joined.{_next_, spaced}
 use Rattle.print.specs.Hex.{hexByte, shown, shown-length}
 use Rattle.print.specs.Decimal.{decimal, decimal-length}
 use Rattle.drive.specs.declared.sense.Sense.{Sense}
-use Rattle.target.specs.declared.packet.Outcome.{Outcome}
+use Rattle.outcome.specs.declared.Outcome.{Outcome}
 
 -- three bytes, each after a space
 abbrev pub triple : Sense → List ℕ

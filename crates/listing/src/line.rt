@@ -1,12 +1,12 @@
 // A packet's line.
 use ground::memory::copy_front;
 use ground::number::wide;
+use outcome::Outcome;
 use print::decimal::next_decimal;
 use print::decimal::put_decimal;
 use print::hex::next_hex;
 use print::hex::next_shown;
 use print::hex::next_three;
-use target::packet::Outcome;
 ghost use Rattle.ground.specs.Memory.{Laid};
 ghost use Rattle.listing.specs.Line.{blocks, yielded, started, answered, refusal, refused, lineOf};
 

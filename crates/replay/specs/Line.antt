@@ -11,7 +11,7 @@ use Rattle.print.specs.Decimal.{decimal}
 use Rattle.print.specs.Sum.{adler32}
 use Rattle.drive.specs.declared.sense.Sense.{Sense}
 use Rattle.drive.specs.declared.state.Drive.{Drive}
-use Rattle.target.specs.declared.packet.Outcome.{Outcome}
+use Rattle.outcome.specs.declared.Outcome.{Outcome}
 
 abbrev pub lineEnd : List ℕ
 lineEnd = 10 ∷ []

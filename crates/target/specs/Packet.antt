@@ -1,12 +1,10 @@
 -- A packet met by the drive: "Numbers of refusal", then "Steps for a packet".
-use Prim.Native.Nat.{ℕ, min}
-use mathlib.Core.Path.{_≡_}
+use Prim.Native.Nat.{ℕ}
 use mathlib.Core.Bool.{not}
 use mathlib.Core.List.{List}
-use lib.ListN.{length, take}
+use lib.ListN.{length}
 use lib.Dec.{eqb, ltb}
 use Rattle.ground.specs.Tests.{_and_, if_then_else_}
-use Rattle.ground.specs.Memory.{fill}
 use Rattle.drive.specs.declared.state.Unit.{Unit}
 use Rattle.drive.specs.declared.state.Mechanics.{Mechanics}
 use Rattle.drive.specs.declared.state.Drive.{Drive}
@@ -19,7 +17,6 @@ use Rattle.gate.specs.Gate.{Reply, refuse, gate, pass, requestSense}
 use Rattle.command.specs.declared.decode.Command.{Command}
 use Rattle.command.specs.declared.decode.Kind.{Kind}
 use Rattle.command.specs.declared.decode.Kind.the-variants.{Asks, Passes, Gates}
-use Rattle.target.specs.declared.packet.Outcome.{Outcome}
 use Rattle.command.specs.Command.{byte, codeOf, decode, kindOf}
 use Rattle.target.specs.Perform.{perform}
 
@@ -59,28 +56,3 @@ unfoldable pub answer : Drive → List ℕ → List ℕ → ℕ → Reply Mechan
 answer d p t n =
     if eqb (refusalOf d p t n) 0 then within (d .unit) (d .mechanics) (steps (decode (codeOf p)) (d .unit) (d .mechanics) p t)
     else refuse (refusalOf d p t n) (d .unit) (d .mechanics)
-
--- ---- what the code hands back
-
--- the state after the answer
-abbrev pub stateOf : Reply Mechanics → Drive
-stateOf a = record { unit = a .unit; mechanics = a .mechanics }
-
--- "the bytes are the first n of the full answer, n the smaller of the two lengths"
-abbrev pub bytesOf : Reply Mechanics → List ℕ
-bytesOf a = take (a .limit) (a .full)
-
-abbrev pub outcomeOf : Reply Mechanics → Outcome
-outcomeOf a = record {
-  number = a .number;
-  status = a .status;
-  len = min (a .limit) (length (a .full));
-  start = a .start;
-  count = a .count;
-  state = stateOf a;
-}
-
--- the outcome r and the memory m′ are what the answer says, of the memory m
-pub record Answered (a : Reply Mechanics) (m : List ℕ) (r : Outcome) (m′ : List ℕ) : Type 0 where
-  pub outcome : r ≡ outcomeOf a
-  pub memory : m′ ≡ fill m (bytesOf a)

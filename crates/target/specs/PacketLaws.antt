@@ -30,34 +30,14 @@ use Rattle.command.specs.declared.decode.Kind.{Kind}
 use Rattle.command.specs.declared.decode.Kind.the-variants.{Asks, Passes, Gates}
 use Rattle.command.specs.declared.done.Done.{Done}
 use Rattle.command.specs.declared.done.Done.the-variants.{Fails, Goes}
-use Rattle.target.specs.declared.packet.Outcome.{Outcome}
+use Rattle.outcome.specs.declared.Outcome.{Outcome}
+use Rattle.outcome.specs.Outcome.{outcomeOf, bytesOf, Answered, refused, checked, finished}
 use Rattle.command.specs.Done.{doneOf}
 use Rattle.target.specs.Perform.{written, Performed, perform}
 use Rattle.target.specs.FitFacts.{ReadOff}
 use Rattle.target.specs.PerformLaws.{fullOf, perform-within}
 use Rattle.command.specs.Command.{codeOf, decode, kindOf}
-use Rattle.target.specs.Packet.{outcomeOf, bytesOf, steps, stepsBy, Answered, answer, refusalOf, within, notTwelve, shortMemory}
-
--- a refusal's outcome
-abbrev pub refused : ℕ → Drive → Outcome
-refused n d = record { number = n; status = 0; len = 0; start = 0; count = 0; state = d }
-
--- a CHECK CONDITION's outcome
-abbrev pub checked : Sense → Unit → Mechanics → Outcome
-checked s u m = record { number = 0; status = 0x02; len = 0; start = 0; count = 0; state = record { unit = hold s u; mechanics = m } }
-
--- a command's outcome: failing over the unit u, good over the unit v
-abbrev pub finished : Unit → Unit → Mechanics → Done → Outcome
-finished u v m (Fails f) = checked (senseOf f) u m
-finished u v m (Goes w) =
-    record {
-      number = 0;
-      status = 0x00;
-      len = w .len;
-      start = w .start;
-      count = w .count;
-      state = record { unit = attend (w .loading) v; mechanics = w .next };
-    }
+use Rattle.target.specs.Packet.{steps, stepsBy, answer, refusalOf, within, notTwelve, shortMemory}
 
 -- no disc was read
 abbrev pub unread : Disc

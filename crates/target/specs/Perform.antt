@@ -1,7 +1,7 @@
 -- Steps 3 to 5: what a packet comes to that is performed. (INQUIRY also with an attention pending, any other once none is.)
 use Prim.Native.Nat.{ℕ, _+_, _-_}
 use mathlib.Core.Path.{_≡_}
-use mathlib.Core.Bool.{false, not}
+use mathlib.Core.Bool.{Bool, false, not}
 use mathlib.Core.List.{List, [], _∷_, _++_}
 use lib.ListN.{take}
 use lib.Dec.{ltb}
@@ -45,15 +45,19 @@ L t = leadOut (lastPart t)
 abbrev pub readCapacity : Mechanics → ℕ → Result Mechanics
 readCapacity m l = goes m false (bytes32 (l - 1) ++ bytes32 2048) 8 0 0
 
+-- "over L − 1": l is L
+abbrev pub over : ℕ → ℕ → Bool
+over a l = ltb (l - 1) a
+
 -- "2Bh: address in bytes 2 to 5, over L − 1 gives 05/21/00."
 unfoldable pub seek : ℕ → Mechanics → ℕ → Result Mechanics
-seek a m l = if ltb (l - 1) a then fails OutOfRange else done m
+seek a m l = if over a l then fails OutOfRange else done m
 
 -- READ: "Address over L − 1, or address plus count over L: 05/21/00. Then any block outside a data track: 05/64/00. Count 0 passes once the address is in range."
 -- "Start and count are 0 except after a GOOD READ, where they are its address and count."
 unfoldable pub read : ℕ → ℕ → Mechanics → List ℕ → Result Mechanics
 read a n m t =
-    if ltb (L t - 1) a or ltb (L t) (a + n) then fails OutOfRange
+    if over a (L t) or ltb (L t) (a + n) then fails OutOfRange
     else (if allInData (descriptors t) a n then goes m false [] 0 a n else fails IllegalMode)
 
 -- step 5: each command's own work (REQUEST SENSE never comes here: `stepsBy` answers it by `requestSense`)

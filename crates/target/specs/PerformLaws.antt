@@ -28,7 +28,7 @@ use Rattle.toc.specs.Answer.{tocBytes, tocBad}
 use Rattle.toc.specs.AnswerLaws.{tocBytes-within}
 use Rattle.target.specs.ReadToc.{readToc, formatIn, msfIn, numberIn, lengthIn}
 use Rattle.target.specs.FitFacts.{ReadOff}
-use Rattle.target.specs.Perform.{written, Performed, inquiryBytes, inquiry, L, seek, read, work, perform}
+use Rattle.target.specs.Perform.{written, Performed, inquiryBytes, inquiry, L, over, seek, read, work, perform}
 use Rattle.command.specs.Done.{doneOf}
 
 -- ---- what the code has in hand
@@ -97,21 +97,21 @@ readToc-goes p m t h = unless _ _ _ h
 -- ---- READ
 
 module _ (a n : ℕ) (m : Mechanics) (t : List ℕ) where
-  pub read-over : L t - 1 < a → read a n m t ≡ fails OutOfRange
+  pub read-over : over a (L t) ≡ true → read a n m t ≡ fails OutOfRange
   unfolding read
-  read-over h = when _ _ _ (or-left _ _ (lt-ltb _ _ h))
+  read-over h = when _ _ _ (or-left _ _ h)
 
   pub read-past : L t < a + n → read a n m t ≡ fails OutOfRange
   unfolding read
   read-past h = when _ _ _ (or-right _ _ (lt-ltb _ _ h))
 
-  pub read-goes : a ≤ L t - 1 → a + n ≤ L t → allInData (descriptors t) a n ≡ true → read a n m t ≡ goes m false [] 0 a n
+  pub read-goes : over a (L t) ≡ false → a + n ≤ L t → allInData (descriptors t) a n ≡ true → read a n m t ≡ goes m false [] 0 a n
   unfolding read
-  read-goes h k d = unless _ _ _ (or-else _ _ (le-ltb _ _ h) ∙ le-ltb _ _ k) ∙ when _ _ _ d
+  read-goes h k d = unless _ _ _ (or-else _ _ h ∙ le-ltb _ _ k) ∙ when _ _ _ d
 
-  pub read-mode : a ≤ L t - 1 → a + n ≤ L t → allInData (descriptors t) a n ≡ false → read a n m t ≡ fails IllegalMode
+  pub read-mode : over a (L t) ≡ false → a + n ≤ L t → allInData (descriptors t) a n ≡ false → read a n m t ≡ fails IllegalMode
   unfolding read
-  read-mode h k d = unless _ _ _ (or-else _ _ (le-ltb _ _ h) ∙ le-ltb _ _ k) ∙ unless _ _ _ d
+  read-mode h k d = unless _ _ _ (or-else _ _ h ∙ le-ltb _ _ k) ∙ unless _ _ _ d
 
 -- ---- commands that write nothing
 

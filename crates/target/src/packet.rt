@@ -10,110 +10,37 @@ use disc::disc::Reading;
 use disc::disc::read;
 use disc::layout::BOUND;
 use disc::part::UNFIT;
-use drive::sense::Sense;
 use drive::sense::is_known;
 use drive::state::Drive;
-use drive::state::Mechanics;
 use drive::state::UNKNOWN_SENSE;
-use drive::state::Unit;
-use gate::fault::sense_of;
 use gate::unit::Pending;
 use gate::unit::clear;
 use gate::unit::first_pending;
 use gate::unit::give;
-use gate::unit::hold;
-use gate::unit::sense_of_pending;
-use gate::unit::told;
+use gate::unit::sense_bytes;
 use ground::memory::put_cut;
 use ground::number::wide;
+use outcome::Outcome;
+use outcome::finish;
+use outcome::refuse;
+use outcome::tell;
 ghost use mathlib.Core.Path.{_≡_};
 ghost use mathlib.Core.Bool.{true};
 ghost use Prim.Native.Nat.{_≤_};
 ghost use lib.ListN.{length};
 ghost use Rattle.drive.specs.Sense.{isKnown};
 ghost use Rattle.disc.specs.Layout.{bound};
-ghost use Rattle.gate.specs.Unit.{attentionSense, told};
 ghost use Rattle.gate.specs.Gate.{requestSense, pass, gate};
 ghost use Rattle.target.specs.Perform.{perform};
-ghost use Rattle.target.specs.Packet.{Answered, answer};
+ghost use Rattle.outcome.specs.Outcome.{Answered};
+ghost use Rattle.target.specs.Packet.{answer};
 ghost use Rattle.target.specs.PerformLaws.{Ready};
-ghost use Rattle.target.specs.PacketLaws.{refused, checked, finished, unread, stepsOf};
+ghost use Rattle.target.specs.PacketLaws.{unread, stepsOf};
 
 // The refusals that only packets give.
 pub const NOT_TWELVE: u8 = 1;
 
 pub const SHORT_MEMORY: u8 = 3;
-
-// The refusal's number or 0, the status, how many bytes were written, the blocks that a READ names, and the next state.
-pub struct Outcome {
-    pub number: u8,
-    pub status: u8,
-    pub len: usize,
-    pub start: usize,
-    pub count: usize,
-    pub state: Drive,
-}
-
-// A refusal: nothing done, the state as it was handed in.
-fn refuse(number: u8, state: Drive) -> Outcome
-    ensures { λ r. ⌜ r ≡ refused number state ⌝ }
-{
-    Outcome {
-        number,
-        status: 0,
-        len: 0,
-        start: 0,
-        count: 0,
-        state,
-    }
-}
-
-// CHECK CONDITION: the triple held as sense.
-fn check(sense: Sense, unit: Unit, mechanics: Mechanics) -> Outcome
-    ensures { λ r. ⌜ r ≡ checked sense unit mechanics ⌝ }
-{
-    Outcome {
-        number: 0,
-        status: 0x02,
-        len: 0,
-        start: 0,
-        count: 0,
-        state: Drive {
-            unit: hold(unit, sense),
-            mechanics,
-        },
-    }
-}
-
-// A command's end: CHECK CONDITION over the unit u, or GOOD over the unit v, attending to a loading.
-fn finish(u: Unit, v: Unit, mechanics: Mechanics, done: Done) -> Outcome
-    ensures { λ r. ⌜ r ≡ finished u v mechanics done ⌝ }
-{
-    match done {
-        Done::Fails(f) => check(sense_of(f), u, mechanics),
-        Done::Goes(w) => {
-            let next = w.next;
-            Outcome {
-                number: 0,
-                status: 0x00,
-                len: w.len,
-                start: w.start,
-                count: w.count,
-                state: Drive {
-                    unit: v.attend(w.loading),
-                    mechanics: next,
-                },
-            }
-        }
-    }
-}
-
-// A telling: CHECK CONDITION with the attention's triple, and it stops being pending.
-fn tell(a: Pending, unit: Unit, mechanics: Mechanics) -> Outcome
-    ensures { λ r. ⌜ r ≡ checked (attentionSense a) (told a unit) mechanics ⌝ }
-{
-    check(sense_of_pending(a), told(unit, a), mechanics)
-}
 
 // REQUEST SENSE: the 18 bytes, cut to the length asked for.
 fn ask_sense(d: Drive, limit: usize, mem: &mut [u8]) -> Outcome
@@ -122,28 +49,8 @@ fn ask_sense(d: Drive, limit: usize, mem: &mut [u8]) -> Outcome
 {
     let mechanics = d.mechanics;
     let g = give(d.unit);
-    let s = g.sense;
     let unit = g.unit;
-    let full = [
-        0x70,
-        0,
-        s.key,
-        0,
-        0,
-        0,
-        0,
-        0x0A,
-        0,
-        0,
-        0,
-        0,
-        s.asc,
-        s.ascq,
-        0,
-        0,
-        0,
-        0,
-    ];
+    let full = sense_bytes(g.sense);
     let len = put_cut(&full, limit, mem);
     Outcome {
         number: 0,

@@ -25,7 +25,7 @@ ghost use Rattle.command.specs.Command.{wordAt, addressIn, count10, count12};
 ghost use Rattle.command.specs.Done.{doneOf};
 ghost use Rattle.target.specs.FitFacts.{ReadOff};
 ghost use Rattle.target.specs.PerformLaws.{Met, Ready};
-ghost use Rattle.target.specs.Perform.{Performed, inquiry, readCapacity, seek, read, work, perform};
+ghost use Rattle.target.specs.Perform.{Performed, inquiry, readCapacity, over, seek, read, work, perform};
 
 // What INQUIRY tells: 8 bytes, then "LECTERN " (8), "PACKET TARGET   " (16) and "0100".
 const INQUIRY: [u8; 36] = [
@@ -102,12 +102,20 @@ fn read_capacity(m: Mechanics, disc: Disc, mem: &mut [u8]) -> Done
     })
 }
 
+// The address is over L - 1.
+fn over(a: usize, l: usize) -> bool
+    requires { ⌜ 1 ≤ l ⌝ }
+    ensures { λ r. ⌜ r ≡ over a l ⌝ }
+{
+    l - 1 < a
+}
+
 // SEEK: an address in range.
 fn seek(a: usize, m: Mechanics, disc: Disc) -> Done
     requires { ⌜ 1 ≤ disc .«lead_out» ⌝ }
     ensures { λ r. ⌜ r ≡ doneOf (seek a m (disc .«lead_out»)) ⌝ }
 {
-    if disc.lead_out - 1 < a {
+    if over(a, disc.lead_out) {
         return Done::Fails(Fault::OutOfRange);
     }
     done(m)
@@ -118,7 +126,7 @@ fn read(a: usize, n: usize, m: Mechanics, t: &[u8], disc: Disc) -> Done
     requires { ⌜ ReadOff (now t) disc × (a < 4294967296) × (n < 4294967296) ⌝ }
     ensures { λ r. ⌜ r ≡ doneOf (read a n m (now (t .entry))) ⌝ }
 {
-    if disc.lead_out - 1 < a {
+    if over(a, disc.lead_out) {
         return Done::Fails(Fault::OutOfRange);
     }
     if disc.lead_out < a + n {

@@ -5,9 +5,6 @@ use Rattle.address.specs.Laws.{toBlock-accepts, toBlock-refuses}
 use borrow.Author.Needs.{needs}
 use Rattle.address.proofs.is_msf.Statement.{statement}
 use Rattle.address.proofs.is_msf.Tie as tie
-use Rattle.address.proofs.is_msf.Reads as reads
-use Rattle.address.proofs.is_msf.Lts as lts
-use Rattle.address.proofs.to_block.Reads as to-block-reads
 
 returns : tie.Need-returns
 returns c = toBlock-accepts _ _ _ _ (sym (ap blockMeaning (c .enum-told .given .1)) ∙ c .before .before .to-block .ensures)

@@ -7,9 +7,6 @@ use Rattle.address.specs.Laws.{InRange, toBlock-at, toBlock-refused}
 use borrow.Author.Needs.{needs}
 use Rattle.address.proofs.to_block.Statement.{statement}
 use Rattle.address.proofs.to_block.Tie as tie
-use Rattle.address.proofs.to_block.Reads as reads
-use Rattle.address.proofs.to_block.Lts as lts
-use Rattle.address.proofs.frames_of.Reads as frames-of-reads
 
 returns : tie.Need-returns
 returns c = sym (toBlock-refused _ _ _ (λ r. omega arith))

@@ -4,8 +4,6 @@ use Rattle.address.specs.Laws.{toMsf-at, toMsf-refused}
 use borrow.Author.Needs.{needs}
 use Rattle.address.proofs.to_msf.Statement.{statement}
 use Rattle.address.proofs.to_msf.Tie as tie
-use Rattle.address.proofs.to_msf.Reads as reads
-use Rattle.address.proofs.to_msf.Lts as lts
 
 returns : tie.Need-returns
 returns c = sym (toMsf-refused _ (c .if1 .taken))

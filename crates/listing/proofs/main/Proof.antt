@@ -7,14 +7,6 @@ use lib.ListN.{length, take, length-take}
 use borrow.Author.Needs.{needs}
 use Rattle.listing.proofs.main.Statement.{statement}
 use Rattle.listing.proofs.main.Tie as tie
-use Rattle.listing.proofs.main.Reads as reads
-use Rattle.listing.proofs.main.Lts as lts
-use Rattle.io.proofs.write_all.Reads as write-all-reads
-use Rattle.listing.proofs.file.load.Reads as load-reads
-use Rattle.listing.proofs.list.Reads as list-reads
-use Rattle.listing.proofs.write.Reads as write-reads
-use Rattle.os.proofs.arg_count.Reads as arg-count-reads
-use Rattle.print.proofs.front.front.Reads as front-reads
 
 -- the front of n bytes has at most n
 few : (r s : List ℕ) (n most : ℕ) → r ≡ take n s → n ≤ most → length r ≤ most

@@ -5,8 +5,6 @@ use Rattle.ground.specs.Tests.{if_then_else_, unless}
 use Rattle.command.specs.Command.{decode}
 use Rattle.command.proofs.decode.decode.Statement.{statement}
 use Rattle.command.proofs.decode.decode.Tie as tie
-use Rattle.command.proofs.decode.decode.Reads as reads
-use Rattle.command.proofs.decode.decode.Lts as lts
 
 returns : tie.Need-returns
 unfolding decode if_then_else_

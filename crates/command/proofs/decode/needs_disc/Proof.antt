@@ -5,9 +5,6 @@ use Rattle.command.specs.Command.{needing}
 use borrow.Author.Needs.{needs}
 use Rattle.command.proofs.decode.needs_disc.Statement.{statement}
 use Rattle.command.proofs.decode.needs_disc.Tie as tie
-use Rattle.command.proofs.decode.needs_disc.Reads as reads
-use Rattle.command.proofs.decode.needs_disc.Lts as lts
-use Rattle.command.proofs.decode.starting.Reads as starting-reads
 
 returns-4 : tie.Need-returns-4
 returns-4 c = c .starting .ensures ∙ sym (ap (λ (k : Command). needing k (c .before .before .before .args .b)) (c .before .enum-told4 .given .1))

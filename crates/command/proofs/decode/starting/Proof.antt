@@ -4,10 +4,6 @@ use Rattle.ground.specs.Tests.{_and_}
 use borrow.Author.Needs.{needs}
 use Rattle.command.proofs.decode.starting.Statement.{statement}
 use Rattle.command.proofs.decode.starting.Tie as tie
-use Rattle.command.proofs.decode.starting.Reads as reads
-use Rattle.command.proofs.decode.starting.Lts as lts
-use Rattle.command.proofs.field.bit0.Reads as bit0-reads
-use Rattle.command.proofs.field.bit1.Reads as bit1-reads
 
 returns : tie.Need-returns
 unfolding _and_

@@ -2,9 +2,6 @@
 use borrow.Author.Needs.{needs}
 use Rattle.command.proofs.field.bit0.Statement.{statement}
 use Rattle.command.proofs.field.bit0.Tie as tie
-use Rattle.command.proofs.field.bit0.Reads as reads
-use Rattle.command.proofs.field.bit0.Lts as lts
-use Rattle.ground.proofs.number.wide.Reads as wide-reads
 
 returns : tie.Need-returns
 returns c = rw (c .wide .ensures .same)

@@ -7,11 +7,6 @@ use Rattle.command.specs.Tray.{moving, eject}
 use borrow.Author.Needs.{needs}
 use Rattle.command.proofs.tray.eject.Statement.{statement}
 use Rattle.command.proofs.tray.eject.Tie as tie
-use Rattle.command.proofs.tray.eject.Reads as reads
-use Rattle.command.proofs.tray.eject.Lts as lts
-use Rattle.drive.proofs.state.Mechanics.opening.Reads as opening-reads
-use Rattle.command.proofs.tray.done.Reads as done-reads
-use Rattle.command.proofs.tray.moving.Reads as moving-reads
 
 returns : tie.Need-returns
 unfolding eject

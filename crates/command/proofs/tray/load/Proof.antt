@@ -7,11 +7,6 @@ use Rattle.command.specs.Tray.{moving, load}
 use borrow.Author.Needs.{needs}
 use Rattle.command.proofs.tray.load.Statement.{statement}
 use Rattle.command.proofs.tray.load.Tie as tie
-use Rattle.command.proofs.tray.load.Reads as reads
-use Rattle.command.proofs.tray.load.Lts as lts
-use Rattle.drive.proofs.state.Mechanics.closing.Reads as closing-reads
-use Rattle.command.proofs.tray.done.Reads as done-reads
-use Rattle.command.proofs.tray.moving.Reads as moving-reads
 
 returns : tie.Need-returns
 unfolding load

@@ -3,8 +3,6 @@ use mathlib.Core.Path.{sym}
 use Rattle.ground.specs.Tests.{when, unless}
 use Rattle.command.proofs.tray.no_medium.Statement.{statement}
 use Rattle.command.proofs.tray.no_medium.Tie as tie
-use Rattle.command.proofs.tray.no_medium.Reads as reads
-use Rattle.command.proofs.tray.no_medium.Lts as lts
 
 returns : tie.Need-returns
 returns c = sym (when _ _ _ (c .if1 .taken))

@@ -7,11 +7,6 @@ use Rattle.command.specs.Tray.{done}
 use borrow.Author.Needs.{needs}
 use Rattle.command.proofs.tray.prevent.Statement.{statement}
 use Rattle.command.proofs.tray.prevent.Tie as tie
-use Rattle.command.proofs.tray.prevent.Reads as reads
-use Rattle.command.proofs.tray.prevent.Lts as lts
-use Rattle.command.proofs.field.bit0.Reads as bit0-reads
-use Rattle.command.proofs.tray.done.Reads as done-reads
-use Rattle.drive.proofs.state.Mechanics.with_lock.Reads as with-lock-reads
 
 returns : tie.Need-returns
 returns c = let l = c .before .with-lock .ensures ∙ ap (withLock (c .before .before .before .args .m)) (c .before .before .bit0 .ensures) in

@@ -6,13 +6,6 @@ use Rattle.command.specs.Tray.{startStop}
 use borrow.Author.Needs.{needs}
 use Rattle.command.proofs.tray.start_stop.Statement.{statement}
 use Rattle.command.proofs.tray.start_stop.Tie as tie
-use Rattle.command.proofs.tray.start_stop.Reads as reads
-use Rattle.command.proofs.tray.start_stop.Lts as lts
-use Rattle.command.proofs.field.bit0.Reads as bit0-reads
-use Rattle.command.proofs.field.bit1.Reads as bit1-reads
-use Rattle.command.proofs.tray.done.Reads as done-reads
-use Rattle.command.proofs.tray.eject.Reads as eject-reads
-use Rattle.command.proofs.tray.load.Reads as load-reads
 
 returns : tie.Need-returns
 unfolding startStop

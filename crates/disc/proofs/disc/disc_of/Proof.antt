@@ -13,9 +13,6 @@ use Rattle.disc.specs.Disc.{lastPart}
 use borrow.Author.Needs.{needs}
 use Rattle.disc.proofs.disc.disc_of.Statement.{statement}
 use Rattle.disc.proofs.disc.disc_of.Tie as tie
-use Rattle.disc.proofs.disc.disc_of.Reads as reads
-use Rattle.disc.proofs.disc.disc_of.Lts as lts
-use Rattle.disc.proofs.layout.address_at.Reads as address-at-reads
 
 fit : (c : tie.After-shared-slice-known) → Fit (c .before .args .t .now)
 fit c = isFit-true (c .before .pre .0)

@@ -7,11 +7,6 @@ use Rattle.disc.specs.WalkSteps.{verdict-told, verdict-at}
 use borrow.Author.Needs.{needs}
 use Rattle.disc.proofs.disc.read.Statement.{statement}
 use Rattle.disc.proofs.disc.read.Tie as tie
-use Rattle.disc.proofs.disc.read.Reads as reads
-use Rattle.disc.proofs.disc.read.Lts as lts
-use Rattle.disc.proofs.disc.disc_of.Reads as disc-of-reads
-use Rattle.disc.proofs.rules.fault.Reads as fault-reads
-use Rattle.disc.proofs.walk.judge.Reads as judge-reads
 
 disc-of-requires : tie.Need-disc-of-requires
 disc-of-requires c κs = (verdict-told _ (c .before .judge .ensures) (c .if1 .taken), verdict-at (c .before .judge .ensures) (c .if1 .taken))

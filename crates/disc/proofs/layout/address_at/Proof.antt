@@ -4,9 +4,6 @@ use native.Mathlib.Omega.{arith}
 use borrow.Author.Needs.{needs}
 use Rattle.disc.proofs.layout.address_at.Statement.{statement}
 use Rattle.disc.proofs.layout.address_at.Tie as tie
-use Rattle.disc.proofs.layout.address_at.Reads as reads
-use Rattle.disc.proofs.layout.address_at.Lts as lts
-use Rattle.disc.proofs.layout.frames_at.Reads as frames-at-reads
 
 returns : tie.Need-returns
 unfolding framesAt addressAt

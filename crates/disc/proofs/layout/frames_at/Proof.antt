@@ -4,9 +4,6 @@ use Rattle.disc.specs.Layout.{framesAt}
 use borrow.Author.Needs.{needs}
 use Rattle.disc.proofs.layout.frames_at.Statement.{statement}
 use Rattle.disc.proofs.layout.frames_at.Tie as tie
-use Rattle.disc.proofs.layout.frames_at.Reads as reads
-use Rattle.disc.proofs.layout.frames_at.Lts as lts
-use Rattle.ground.proofs.number.wide.Reads as wide-reads
 
 returns : tie.Need-returns
 unfolding framesAt

@@ -5,8 +5,6 @@ use Rattle.ground.specs.Tests.{and-on, and-off}
 use Rattle.disc.specs.Layout.{isTrack}
 use Rattle.disc.proofs.layout.is_track.Statement.{statement}
 use Rattle.disc.proofs.layout.is_track.Tie as tie
-use Rattle.disc.proofs.layout.is_track.Reads as reads
-use Rattle.disc.proofs.layout.is_track.Lts as lts
 
 returns : tie.Need-returns
 unfolding isTrack

@@ -14,12 +14,6 @@ use Rattle.disc.specs.PartLaws.{Given, partRefusal-given, partStart-give
 use borrow.Author.Needs.{needs}
 use Rattle.disc.proofs.part.session_part.Statement.{statement}
 use Rattle.disc.proofs.part.session_part.Tie as tie
-use Rattle.disc.proofs.part.session_part.Reads as reads
-use Rattle.disc.proofs.part.session_part.Lts as lts
-use Rattle.disc.proofs.part.session_refusal.Reads as session-refusal-reads
-use Rattle.disc.proofs.session.session_bytes.Reads as session-bytes-reads
-use Rattle.disc.proofs.session.starts_at.Reads as starts-at-reads
-use Rattle.ground.proofs.number.wide.Reads as wide-reads
 
 given : (c : tie.Then1) → Given (c .before .before .before .args .t .now) (c .before .before .before .args .k)
 given c = partRefusal-given _ _ (sym (c .before .session-refusal .ensures) ∙ c .if1 .taken)

@@ -8,10 +8,6 @@ use Rattle.disc.specs.PartLaws.{given-partRefusal}
 use borrow.Author.Needs.{needs}
 use Rattle.disc.proofs.part.session_refusal.Statement.{statement}
 use Rattle.disc.proofs.part.session_refusal.Tie as tie
-use Rattle.disc.proofs.part.session_refusal.Reads as reads
-use Rattle.disc.proofs.part.session_refusal.Lts as lts
-use Rattle.disc.proofs.walk.is_fit.Reads as is-fit-reads
-use Rattle.ground.proofs.number.wide.Reads as wide-reads
 
 shared-slice-read-wide : tie.Need-shared-slice-read-wide
 shared-slice-read-wide c =

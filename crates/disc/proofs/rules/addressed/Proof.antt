@@ -10,11 +10,6 @@ use Rattle.disc.specs.RulesLaws.{byte-is, byte-is-not}
 use borrow.Author.Needs.{needs}
 use Rattle.disc.proofs.rules.addressed.Statement.{statement}
 use Rattle.disc.proofs.rules.addressed.Tie as tie
-use Rattle.disc.proofs.rules.addressed.Reads as reads
-use Rattle.disc.proofs.rules.addressed.Lts as lts
-use Rattle.address.proofs.is_msf.Reads as is-msf-reads
-use Rattle.disc.proofs.layout.is_track.Reads as is-track-reads
-use Rattle.ground.proofs.number.wide.Reads as wide-reads
 
 -- what the test of the widened POINT told
 is-a-track : {p q : ℕ} {r b : Bool} → Byte p q → r ≡ isTrack q → r ≡ b → isTrack p ≡ b

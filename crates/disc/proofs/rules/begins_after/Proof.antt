@@ -4,8 +4,6 @@ use Rattle.ground.specs.Tests.{_or_}
 use Rattle.disc.specs.Rules.{beginsAfter}
 use Rattle.disc.proofs.rules.begins_after.Statement.{statement}
 use Rattle.disc.proofs.rules.begins_after.Tie as tie
-use Rattle.disc.proofs.rules.begins_after.Reads as reads
-use Rattle.disc.proofs.rules.begins_after.Lts as lts
 
 returns : tie.Need-returns
 unfolding beginsAfter _or_

@@ -9,9 +9,6 @@ use Rattle.ground.specs.Tests.{every, every-none, every-more, every-breaks}
 use Rattle.disc.specs.Rules.{rowTest}
 use Rattle.disc.proofs.rules.every_row.Statement.{statement}
 use Rattle.disc.proofs.rules.every_row.Tie as tie
-use Rattle.disc.proofs.rules.every_row.Reads as reads
-use Rattle.disc.proofs.rules.every_row.Lts as lts
-use Rattle.disc.proofs.rules.row_test.Reads as row-test-reads
 
 abbrev Inv-loop : tie.InvT-loop
 Inv-loop n d end j₀ j = (j ≤ end) × (every j (rowTest n d) ≡ true)
@@ -21,15 +18,6 @@ abbrev μ-loop : tie.MeasureT-loop
 
 loop-holds : tie.Need-loop-holds Inv-loop μ-loop
 loop-holds c = (omega arith, every-none _)
-
-row-test-requires : tie.Need-row-test-requires Inv-loop μ-loop
-row-test-requires c κs = search needs
-
-add-j : tie.Need-add-j Inv-loop μ-loop
-add-j c = search needs
-
-loop-less : tie.Need-loop-less Inv-loop μ-loop
-loop-less c = search needs
 
 loop-again : tie.Need-loop-again Inv-loop μ-loop
 loop-again c = (omega arith, every-more _ _ (c .before .before .before .loop .inv .1) (sym (c .before .row-test .ensures) ∙ c .if1 .taken))
@@ -45,13 +33,4 @@ returns-2 c = rw (le-antisymm (c .before .loop .inv .0) (c .loop-test .left)) at
 pub every-row-spec : {M : Type 1} → statement M
 every-row-spec =
     tie.close
-    (tie.spec
-    Inv-loop
-    μ-loop
-    loop-holds
-    row-test-requires
-    add-j
-    loop-less
-    loop-again
-    returns
-    returns-2)
+    (tie.spec Inv-loop μ-loop loop-holds (λ c κs. search needs) (λ c. search needs) (λ c. search needs) loop-again returns returns-2)

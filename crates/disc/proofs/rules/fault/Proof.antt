@@ -6,12 +6,6 @@ use Rattle.disc.specs.RulesLaws.{firstBroken-on, firstBroken-off, rule1-
 use borrow.Author.Needs.{needs}
 use Rattle.disc.proofs.rules.fault.Statement.{statement}
 use Rattle.disc.proofs.rules.fault.Tie as tie
-use Rattle.disc.proofs.rules.fault.Reads as reads
-use Rattle.disc.proofs.rules.fault.Lts as lts
-use Rattle.disc.proofs.rules.fault_of_rows.Reads as fault-of-rows-reads
-use Rattle.disc.proofs.rules.rule1.Reads as rule1-reads
-use Rattle.disc.proofs.rules.rule2.Reads as rule2-reads
-use Rattle.ground.proofs.number.wide.Reads as wide-reads
 
 rule2-requires : tie.Need-rule2-requires
 rule2-requires c κs = rule1-parts (sym (c .before .rule1 .ensures) ∙ c .if1 .taken) .least

@@ -5,10 +5,6 @@ use Rattle.disc.specs.RulesLaws.{firstBroken-on, firstBroken-off, firstB
 use borrow.Author.Needs.{needs}
 use Rattle.disc.proofs.rules.fault_in_order.Statement.{statement}
 use Rattle.disc.proofs.rules.fault_in_order.Tie as tie
-use Rattle.disc.proofs.rules.fault_in_order.Reads as reads
-use Rattle.disc.proofs.rules.fault_in_order.Lts as lts
-use Rattle.disc.proofs.rules.every_row.Reads as every-row-reads
-use Rattle.disc.proofs.rules.rule7.Reads as rule7-reads
 
 returns : tie.Need-returns
 unfolding lateRules

@@ -5,11 +5,6 @@ use Rattle.disc.specs.RulesLaws.{firstBroken-on, firstBroken-off}
 use borrow.Author.Needs.{needs}
 use Rattle.disc.proofs.rules.fault_of_rows.Statement.{statement}
 use Rattle.disc.proofs.rules.fault_of_rows.Tie as tie
-use Rattle.disc.proofs.rules.fault_of_rows.Reads as reads
-use Rattle.disc.proofs.rules.fault_of_rows.Lts as lts
-use Rattle.disc.proofs.rules.every_row.Reads as every-row-reads
-use Rattle.disc.proofs.rules.fault_in_order.Reads as fault-in-order-reads
-use Rattle.disc.proofs.session.in_order.Reads as in-order-reads
 
 fault-in-order-requires : tie.Need-fault-in-order-requires
 fault-in-order-requires c κs = sym (c .before .in-order .ensures) ∙ c .if2 .taken

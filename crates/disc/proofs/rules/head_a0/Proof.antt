@@ -4,8 +4,6 @@ use Rattle.ground.specs.Tests.{_or_, and-on, and-off}
 use Rattle.disc.specs.Rules.{headA0}
 use Rattle.disc.proofs.rules.head_a0.Statement.{statement}
 use Rattle.disc.proofs.rules.head_a0.Tie as tie
-use Rattle.disc.proofs.rules.head_a0.Reads as reads
-use Rattle.disc.proofs.rules.head_a0.Lts as lts
 
 returns : tie.Need-returns
 unfolding headA0 _or_

@@ -7,10 +7,6 @@ use Rattle.disc.specs.RulesLaws.{byte-is, byte-is-not}
 use borrow.Author.Needs.{needs}
 use Rattle.disc.proofs.rules.headed.Statement.{statement}
 use Rattle.disc.proofs.rules.headed.Tie as tie
-use Rattle.disc.proofs.rules.headed.Reads as reads
-use Rattle.disc.proofs.rules.headed.Lts as lts
-use Rattle.disc.proofs.rules.head_a0.Reads as head-a0-reads
-use Rattle.ground.proofs.number.wide.Reads as wide-reads
 
 returns : tie.Need-returns
 unfolding headed

@@ -7,9 +7,6 @@ use Rattle.disc.specs.Rules.{plain}
 use borrow.Author.Needs.{needs}
 use Rattle.disc.proofs.rules.plain.Statement.{statement}
 use Rattle.disc.proofs.rules.plain.Tie as tie
-use Rattle.disc.proofs.rules.plain.Reads as reads
-use Rattle.disc.proofs.rules.plain.Lts as lts
-use Rattle.ground.proofs.number.wide.Reads as wide-reads
 
 returns : tie.Need-returns
 unfolding plain

@@ -11,9 +11,6 @@ use Rattle.ground.specs.Tests.{every, and-on, and-off, every-none, every-more, 
 use Rattle.disc.specs.Rules.{trackStart, rises}
 use Rattle.disc.proofs.rules.rises.Statement.{statement}
 use Rattle.disc.proofs.rules.rises.Tie as tie
-use Rattle.disc.proofs.rules.rises.Reads as reads
-use Rattle.disc.proofs.rules.rises.Lts as lts
-use Rattle.disc.proofs.layout.address_at.Reads as address-at-reads
 
 abbrev Inv-loop : tie.InvT-loop
 Inv-loop s n last i₀ i = (i ≤ last) × (every i (λ j. ltb (trackStart s j) (trackStart s (j + 1))) ≡ true)
@@ -21,29 +18,8 @@ Inv-loop s n last i₀ i = (i ≤ last) × (every i (λ j. ltb (trackStart s j) 
 abbrev μ-loop : tie.MeasureT-loop
 μ-loop s n last i₀ i = last - i
 
-sub-last : tie.Need-sub-last Inv-loop μ-loop
-sub-last c = search needs
-
 loop-holds : tie.Need-loop-holds Inv-loop μ-loop
 loop-holds c = (omega arith, every-none _)
-
-add-next : tie.Need-add-next Inv-loop μ-loop
-add-next c = search needs
-
-add-address-at : tie.Need-add-address-at Inv-loop μ-loop
-add-address-at c = search needs
-
-address-at-requires : tie.Need-address-at-requires Inv-loop μ-loop
-address-at-requires c κs = search needs
-
-add-address-at-2 : tie.Need-add-address-at-2 Inv-loop μ-loop
-add-address-at-2 c = search needs
-
-address-at-requires-2 : tie.Need-address-at-requires-2 Inv-loop μ-loop
-address-at-requires-2 c κs = search needs
-
-loop-less : tie.Need-loop-less Inv-loop μ-loop
-loop-less c = search needs
 
 loop-again : tie.Need-loop-again Inv-loop μ-loop
 loop-again c = (
@@ -58,15 +34,6 @@ returns c =
     and-off _ _ (sym (every-breaks _ _ (c .before .before .before .before .loop .i) (c .before .before .before .loop-test .taken)
     (le-ltb _ _ (rw (c .before .before .address-at .ensures, c .before .address-at2 .ensures) at (c .if1 .left)))))
 
-add-address-at-3 : tie.Need-add-address-at-3 Inv-loop μ-loop
-add-address-at-3 c = search needs
-
-address-at-requires-3 : tie.Need-address-at-requires-3 Inv-loop μ-loop
-address-at-requires-3 c κs = search needs
-
-address-at-requires-4 : tie.Need-address-at-requires-4 Inv-loop μ-loop
-address-at-requires-4 c κs = search needs
-
 returns-2 : tie.Need-returns-2 Inv-loop μ-loop
 unfolding rises
 returns-2 c =
@@ -76,20 +43,6 @@ returns-2 c =
 pub rises-spec : {M : Type 1} → statement M
 rises-spec =
     tie.close
-    (tie.spec
-    Inv-loop
-    μ-loop
-    sub-last
-    loop-holds
-    add-next
-    add-address-at
-    address-at-requires
-    add-address-at-2
-    address-at-requires-2
-    loop-less
-    loop-again
-    returns
-    add-address-at-3
-    address-at-requires-3
-    address-at-requires-4
-    returns-2)
+    (tie.spec Inv-loop μ-loop (λ c. search needs) loop-holds (λ c. search needs) (λ c. search needs) (λ c κs. search needs)
+    (λ c. search needs) (λ c κs. search needs) (λ c. search needs) loop-again returns (λ c. search needs) (λ c κs. search needs)
+    (λ c κs. search needs) returns-2)

@@ -6,11 +6,6 @@ use Rattle.disc.specs.Rules.{rowTest}
 use borrow.Author.Needs.{needs}
 use Rattle.disc.proofs.rules.row_test.Statement.{statement}
 use Rattle.disc.proofs.rules.row_test.Tie as tie
-use Rattle.disc.proofs.rules.row_test.Reads as reads
-use Rattle.disc.proofs.rules.row_test.Lts as lts
-use Rattle.disc.proofs.rules.addressed.Reads as addressed-reads
-use Rattle.disc.proofs.rules.headed.Reads as headed-reads
-use Rattle.disc.proofs.rules.plain.Reads as plain-reads
 
 returns : tie.Need-returns
 unfolding rowTest

@@ -5,9 +5,6 @@ use Rattle.disc.specs.Rules.{rule1}
 use borrow.Author.Needs.{needs}
 use Rattle.disc.proofs.rules.rule1.Statement.{statement}
 use Rattle.disc.proofs.rules.rule1.Tie as tie
-use Rattle.disc.proofs.rules.rule1.Reads as reads
-use Rattle.disc.proofs.rules.rule1.Lts as lts
-use Rattle.ground.proofs.number.word16.Reads as word16-reads
 
 returns : tie.Need-returns
 unfolding rule1

@@ -6,9 +6,6 @@ use Rattle.disc.specs.Rules.{rule2}
 use borrow.Author.Needs.{needs}
 use Rattle.disc.proofs.rules.rule2.Statement.{statement}
 use Rattle.disc.proofs.rules.rule2.Tie as tie
-use Rattle.disc.proofs.rules.rule2.Reads as reads
-use Rattle.disc.proofs.rules.rule2.Lts as lts
-use Rattle.ground.proofs.number.wide.Reads as wide-reads
 
 returns : tie.Need-returns
 unfolding rule2

@@ -15,12 +15,6 @@ use Prim.Native.Nat.{_-_}
 use Rattle.disc.specs.RulesLaws.{Risen}
 use Rattle.disc.proofs.rules.rule7.Statement.{statement}
 use Rattle.disc.proofs.rules.rule7.Tie as tie
-use Rattle.disc.proofs.rules.rule7.Reads as reads
-use Rattle.disc.proofs.rules.rule7.Lts as lts
-use Rattle.disc.proofs.layout.address_at.Reads as address-at-reads
-use Rattle.disc.proofs.rules.begins_after.Reads as begins-after-reads
-use Rattle.disc.proofs.rules.rises.Reads as rises-reads
-use Rattle.disc.proofs.session.session_bytes.Reads as session-bytes-reads
 
 abbrev Inv-loop : tie.InvT-loop
 Inv-loop n d k₀ at₀ out₀ k at out = Risen n d k at out
@@ -59,15 +53,6 @@ told-begins c h = sym (rw (c .before .address-at .ensures, rest-all) at (c .begi
 loop-holds : tie.Need-loop-holds Inv-loop μ-loop
 loop-holds c = risen-none _ _
 
-sub-s : tie.Need-sub-s Inv-loop μ-loop
-sub-s c = search needs
-
-part-s-start : tie.Need-part-s-start Inv-loop μ-loop
-part-s-start c = search needs
-
-part-s-end : tie.Need-part-s-end Inv-loop μ-loop
-part-s-end c = search needs
-
 session-bytes-requires : tie.Need-session-bytes-requires Inv-loop μ-loop
 session-bytes-requires c κs = rw rest-all (isSession-heads (here (c .before)))
 
@@ -79,9 +64,6 @@ rises-requires c κs = rw rest-all (size-rises (here (c .before .before)) (bytes
 
 address-at-requires : tie.Need-address-at-requires Inv-loop μ-loop
 address-at-requires c κs = long (c .before .before .before .before)
-
-begins-after-requires : tie.Need-begins-after-requires Inv-loop μ-loop
-begins-after-requires c κs = search needs
 
 address-at-requires-2 : tie.Need-address-at-requires-2 Inv-loop μ-loop
 address-at-requires-2 c κs = let l = long (c .before .before .before .before .before .before .before) in omega arith
@@ -99,12 +81,6 @@ loop-again c =
 add-at : tie.Need-add-at Inv-loop μ-loop
 add-at c = let r = loop-again c in search needs
 
-add-k : tie.Need-add-k Inv-loop μ-loop
-add-k c = search needs
-
-loop-less : tie.Need-loop-less Inv-loop μ-loop
-loop-less c = search needs
-
 returns : tie.Need-returns Inv-loop μ-loop
 returns c =
     risen-breaks (c .before .before .before .before .before .before .before .before .loop .inv)
@@ -121,23 +97,6 @@ returns-3 c = risen-end (c .before .loop .inv) (c .loop-test .left)
 pub rule7-spec : {M : Type 1} → statement M
 rule7-spec =
     tie.close
-    (tie.spec
-    Inv-loop
-    μ-loop
-    loop-holds
-    sub-s
-    part-s-start
-    part-s-end
-    session-bytes-requires
-    sub-rises
-    rises-requires
-    address-at-requires
-    begins-after-requires
-    address-at-requires-2
-    add-at
-    add-k
-    loop-less
-    loop-again
-    returns
-    returns-2
-    returns-3)
+    (tie.spec Inv-loop μ-loop loop-holds (λ c. search needs) (λ c. search needs) (λ c. search needs) session-bytes-requires sub-rises
+    rises-requires address-at-requires (λ c κs. search needs) address-at-requires-2 add-at (λ c. search needs) (λ c. search needs)
+    loop-again returns returns-2 returns-3)

@@ -6,9 +6,6 @@ use denote.Ref.{now}
 use borrow.Author.Needs.{needs}
 use Rattle.disc.proofs.session.byte_at.Statement.{statement}
 use Rattle.disc.proofs.session.byte_at.Tie as tie
-use Rattle.disc.proofs.session.byte_at.Reads as reads
-use Rattle.disc.proofs.session.byte_at.Lts as lts
-use Rattle.ground.proofs.number.wide.Reads as wide-reads
 
 returns-2 : tie.Need-returns-2
 returns-2 c = record { same = sym (List·getD-eq-default (now (c .before .before .args .d)) 0 (c .if1 .left)); small = omega arith }

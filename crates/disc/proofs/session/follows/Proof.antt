@@ -5,9 +5,6 @@ use Rattle.disc.specs.Session.{follows}
 use borrow.Author.Needs.{needs}
 use Rattle.disc.proofs.session.follows.Statement.{statement}
 use Rattle.disc.proofs.session.follows.Tie as tie
-use Rattle.disc.proofs.session.follows.Reads as reads
-use Rattle.disc.proofs.session.follows.Lts as lts
-use Rattle.ground.proofs.number.wide.Reads as wide-reads
 
 returns : tie.Need-returns
 unfolding follows _or_

@@ -7,10 +7,6 @@ use Rattle.ground.specs.Memory.{rest-all}
 use Rattle.disc.specs.SessionLaws.{Told, Reached, reached-none, reached-next, reached-not, reached-off, reached-end, readSession-told, readSession-told-not}
 use Rattle.disc.proofs.session.in_order.Statement.{statement}
 use Rattle.disc.proofs.session.in_order.Tie as tie
-use Rattle.disc.proofs.session.in_order.Reads as reads
-use Rattle.disc.proofs.session.in_order.Lts as lts
-use Rattle.disc.proofs.session.follows.Reads as follows-reads
-use Rattle.disc.proofs.session.read_session.Reads as read-session-reads
 
 abbrev Inv-loop : tie.InvT-loop
 Inv-loop d n k₀ at₀ prev₀ k at prev = Reached n d k at prev
@@ -29,27 +25,6 @@ read c = readSession-told _ _ (sym (c .before .first .given .1) ∙ rw rest-all 
 loop-holds : tie.Need-loop-holds Inv-loop μ-loop
 loop-holds c = reached-none _ _
 
-sub-read-session : tie.Need-sub-read-session Inv-loop μ-loop
-sub-read-session c = search needs
-
-part-read-session-start : tie.Need-part-read-session-start Inv-loop μ-loop
-part-read-session-start c = search needs
-
-part-read-session-end : tie.Need-part-read-session-end Inv-loop μ-loop
-part-read-session-end c = search needs
-
-add-read-session : tie.Need-add-read-session Inv-loop μ-loop
-add-read-session c = search needs
-
-read-session-requires : tie.Need-read-session-requires Inv-loop μ-loop
-read-session-requires c κs = search needs
-
-enum-known-first : tie.Need-enum-known-first Inv-loop μ-loop
-enum-known-first c = search needs
-
-follows-requires : tie.Need-follows-requires Inv-loop μ-loop
-follows-requires c κs = search needs
-
 -- one session more is read
 loop-again : tie.Need-loop-again Inv-loop μ-loop
 loop-again c =
@@ -60,20 +35,11 @@ loop-again c =
 add-at : tie.Need-add-at Inv-loop μ-loop
 add-at c = let r = loop-again c in search needs
 
-add-k : tie.Need-add-k Inv-loop μ-loop
-add-k c = search needs
-
-loop-less : tie.Need-loop-less Inv-loop μ-loop
-loop-less c = search needs
-
 returns : tie.Need-returns Inv-loop μ-loop
 returns c =
     let l = c .before .before .before .before .before .before .before .before .loop in
     reached-off (l .inv) (c .before .before .before .before .before .before .before .loop-test .taken) (read (c .before .before))
     (sym (c .before .follows .ensures) ∙ c .if1 .left)
-
-enum-told : tie.Need-enum-told Inv-loop μ-loop
-enum-told c = search needs
 
 returns-2 : tie.Need-returns-2 Inv-loop μ-loop
 returns-2 c =
@@ -86,22 +52,6 @@ returns-3 c = reached-end (c .before .loop .inv) (c .loop-test .left)
 pub in-order-spec : {M : Type 1} → statement M
 in-order-spec =
     tie.close
-    (tie.spec
-    Inv-loop
-    μ-loop
-    loop-holds
-    sub-read-session
-    part-read-session-start
-    part-read-session-end
-    add-read-session
-    read-session-requires
-    enum-known-first
-    follows-requires
-    add-at
-    add-k
-    loop-less
-    loop-again
-    returns
-    enum-told
-    returns-2
-    returns-3)
+    (tie.spec Inv-loop μ-loop loop-holds (λ c. search needs) (λ c. search needs) (λ c. search needs) (λ c. search needs)
+    (λ c κs. search needs) (λ c. search needs) (λ c κs. search needs) add-at (λ c. search needs) (λ c. search needs) loop-again returns
+    (λ c. search needs) returns-2 returns-3)

@@ -9,11 +9,6 @@ use Rattle.disc.specs.Session.{names, listed}
 use borrow.Author.Needs.{needs}
 use Rattle.disc.proofs.session.listed.Statement.{statement}
 use Rattle.disc.proofs.session.listed.Tie as tie
-use Rattle.disc.proofs.session.listed.Reads as reads
-use Rattle.disc.proofs.session.listed.Lts as lts
-use Rattle.disc.proofs.session.lists_tracks.Reads as lists-tracks-reads
-use Rattle.disc.proofs.session.names.Reads as names-reads
-use Rattle.ground.proofs.number.wide.Reads as wide-reads
 
 -- what a test of descriptor j told, whose POINT was widened
 told : (d : List ℕ) (k j : ℕ) {p q : ℕ} {r b : Bool} → Byte p q → r ≡ names d k j q → r ≡ b → names d k j p ≡ b

@@ -9,9 +9,6 @@ use Rattle.ground.specs.Tests.{every, every-none, every-more, every-breaks}
 use Rattle.disc.specs.Session.{names}
 use Rattle.disc.proofs.session.lists_tracks.Statement.{statement}
 use Rattle.disc.proofs.session.lists_tracks.Tie as tie
-use Rattle.disc.proofs.session.lists_tracks.Reads as reads
-use Rattle.disc.proofs.session.lists_tracks.Lts as lts
-use Rattle.disc.proofs.session.names.Reads as names-reads
 
 abbrev Inv-loop : tie.InvT-loop
 Inv-loop d k f n i₀ i = (i ≤ n) × (every i (λ j. names d k (3 + j) (f + j)) ≡ true)
@@ -21,21 +18,6 @@ abbrev μ-loop : tie.MeasureT-loop
 
 loop-holds : tie.Need-loop-holds Inv-loop μ-loop
 loop-holds c = (omega arith, every-none _)
-
-add-names : tie.Need-add-names Inv-loop μ-loop
-add-names c = search needs
-
-add-names-2 : tie.Need-add-names-2 Inv-loop μ-loop
-add-names-2 c = search needs
-
-names-requires : tie.Need-names-requires Inv-loop μ-loop
-names-requires c κs = search needs
-
-add-i : tie.Need-add-i Inv-loop μ-loop
-add-i c = search needs
-
-loop-less : tie.Need-loop-less Inv-loop μ-loop
-loop-less c = search needs
 
 loop-again : tie.Need-loop-again Inv-loop μ-loop
 loop-again c = (omega arith, every-more _ _ (c .before .before .before .loop .inv .1) (sym (c .before .names .ensures) ∙ c .if1 .taken))
@@ -50,15 +32,5 @@ returns-2 c = rw (le-antisymm (c .before .loop .inv .0) (c .loop-test .left)) at
 pub lists-tracks-spec : {M : Type 1} → statement M
 lists-tracks-spec =
     tie.close
-    (tie.spec
-    Inv-loop
-    μ-loop
-    loop-holds
-    add-names
-    add-names-2
-    names-requires
-    add-i
-    loop-less
-    loop-again
-    returns
-    returns-2)
+    (tie.spec Inv-loop μ-loop loop-holds (λ c. search needs) (λ c. search needs) (λ c κs. search needs) (λ c. search needs)
+    (λ c. search needs) loop-again returns returns-2)

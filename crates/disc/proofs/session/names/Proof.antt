@@ -6,9 +6,6 @@ use Rattle.disc.specs.Session.{names}
 use borrow.Author.Needs.{needs}
 use Rattle.disc.proofs.session.names.Statement.{statement}
 use Rattle.disc.proofs.session.names.Tie as tie
-use Rattle.disc.proofs.session.names.Reads as reads
-use Rattle.disc.proofs.session.names.Lts as lts
-use Rattle.ground.proofs.number.wide.Reads as wide-reads
 
 returns : tie.Need-returns
 unfolding names

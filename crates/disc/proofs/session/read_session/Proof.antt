@@ -10,10 +10,6 @@ use Rattle.disc.specs.SessionLaws.{size-least, readSession-is, readSessi
 use borrow.Author.Needs.{needs}
 use Rattle.disc.proofs.session.read_session.Statement.{statement}
 use Rattle.disc.proofs.session.read_session.Tie as tie
-use Rattle.disc.proofs.session.read_session.Reads as reads
-use Rattle.disc.proofs.session.read_session.Lts as lts
-use Rattle.disc.proofs.session.listed.Reads as listed-reads
-use Rattle.ground.proofs.number.wide.Reads as wide-reads
 
 -- what the test of the descriptors told, whose first and last track were widened
 told :

@@ -3,9 +3,6 @@ use Rattle.disc.specs.Session.{size}
 use borrow.Author.Needs.{needs}
 use Rattle.disc.proofs.session.session_bytes.Statement.{statement}
 use Rattle.disc.proofs.session.session_bytes.Tie as tie
-use Rattle.disc.proofs.session.session_bytes.Reads as reads
-use Rattle.disc.proofs.session.session_bytes.Lts as lts
-use Rattle.ground.proofs.number.wide.Reads as wide-reads
 
 returns : tie.Need-returns
 unfolding size

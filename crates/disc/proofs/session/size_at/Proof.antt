@@ -5,9 +5,6 @@ use Rattle.disc.specs.SessionLaws.{size-drop}
 use borrow.Author.Needs.{needs}
 use Rattle.disc.proofs.session.size_at.Statement.{statement}
 use Rattle.disc.proofs.session.size_at.Tie as tie
-use Rattle.disc.proofs.session.size_at.Reads as reads
-use Rattle.disc.proofs.session.size_at.Lts as lts
-use Rattle.disc.proofs.session.byte_at.Reads as byte-at-reads
 
 returns : tie.Need-returns
 returns c = let x = c .before .before .before .before .args in

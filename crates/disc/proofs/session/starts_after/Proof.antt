@@ -5,10 +5,6 @@ use Rattle.disc.specs.Session.{starts}
 use borrow.Author.Needs.{needs}
 use Rattle.disc.proofs.session.starts_after.Statement.{statement}
 use Rattle.disc.proofs.session.starts_after.Tie as tie
-use Rattle.disc.proofs.session.starts_after.Reads as reads
-use Rattle.disc.proofs.session.starts_after.Lts as lts
-use Rattle.disc.proofs.session.starts_at.Reads as starts-at-reads
-use Rattle.ground.proofs.number.wide.Reads as wide-reads
 
 returns : tie.Need-returns
 returns c = let x = c .before .before .before .args in c .starts-at .ensures ∙ ap (starts (now (x .d))) (c .before .wide .ensures .same)

@@ -7,9 +7,6 @@ use Rattle.disc.specs.Session.{starts}
 use Rattle.disc.specs.SessionLaws.{starts-none, starts-next}
 use Rattle.disc.proofs.session.starts_at.Statement.{statement}
 use Rattle.disc.proofs.session.starts_at.Tie as tie
-use Rattle.disc.proofs.session.starts_at.Reads as reads
-use Rattle.disc.proofs.session.starts_at.Lts as lts
-use Rattle.disc.proofs.session.size_at.Reads as size-at-reads
 
 abbrev Inv-loop : tie.InvT-loop
 Inv-loop d n k₀ at₀ k at = (k ≤ n) × (at ≡ starts d k) × (at ≤ 2849 * k)
@@ -20,17 +17,8 @@ abbrev μ-loop : tie.MeasureT-loop
 loop-holds : tie.Need-loop-holds Inv-loop μ-loop
 loop-holds c = (omega arith, starts-none _, omega arith)
 
-size-at-requires : tie.Need-size-at-requires Inv-loop μ-loop
-size-at-requires c κs = omega arith
-
 add-at : tie.Need-add-at Inv-loop μ-loop
 add-at c = let e = c .size-at .ensures .1 in omega arith
-
-add-k : tie.Need-add-k Inv-loop μ-loop
-add-k c = omega arith
-
-loop-less : tie.Need-loop-less Inv-loop μ-loop
-loop-less c = omega arith
 
 loop-again : tie.Need-loop-again Inv-loop μ-loop
 loop-again c =
@@ -49,13 +37,4 @@ returns c =
 pub starts-at-spec : {M : Type 1} → statement M
 starts-at-spec =
     tie.close
-    (tie.spec
-    Inv-loop
-    μ-loop
-    loop-holds
-    size-at-requires
-    add-at
-    add-k
-    loop-less
-    loop-again
-    returns)
+    (tie.spec Inv-loop μ-loop loop-holds (λ c κs. omega arith) add-at (λ c. omega arith) (λ c. omega arith) loop-again returns)

@@ -9,10 +9,6 @@ use Rattle.disc.specs.Walk.{headsHold}
 use borrow.Author.Needs.{needs}
 use Rattle.disc.proofs.walk.heads_hold.Statement.{statement}
 use Rattle.disc.proofs.walk.heads_hold.Tie as tie
-use Rattle.disc.proofs.walk.heads_hold.Reads as reads
-use Rattle.disc.proofs.walk.heads_hold.Lts as lts
-use Rattle.disc.proofs.rules.head_a0.Reads as head-a0-reads
-use Rattle.ground.proofs.number.wide.Reads as wide-reads
 
 -- what the test of A0 told
 a0 :

@@ -5,10 +5,6 @@ use Rattle.disc.specs.Walk.{headsKept}
 use borrow.Author.Needs.{needs}
 use Rattle.disc.proofs.walk.heads_kept.Statement.{statement}
 use Rattle.disc.proofs.walk.heads_kept.Tie as tie
-use Rattle.disc.proofs.walk.heads_kept.Reads as reads
-use Rattle.disc.proofs.walk.heads_kept.Lts as lts
-use Rattle.disc.proofs.walk.heads_hold.Reads as heads-hold-reads
-use Rattle.disc.proofs.walk.kept.Reads as kept-reads
 
 returns : tie.Need-returns
 unfolding headsKept

@@ -5,9 +5,6 @@ use Rattle.disc.specs.Walk.{holds}
 use borrow.Author.Needs.{needs}
 use Rattle.disc.proofs.walk.holds.Statement.{statement}
 use Rattle.disc.proofs.walk.holds.Tie as tie
-use Rattle.disc.proofs.walk.holds.Reads as reads
-use Rattle.disc.proofs.walk.holds.Lts as lts
-use Rattle.disc.proofs.layout.frames_at.Reads as frames-at-reads
 
 returns : tie.Need-returns
 unfolding holds

@@ -4,9 +4,6 @@ use Rattle.disc.specs.declared.walk.Verdict.{Verdict}
 use borrow.Author.Needs.{needs}
 use Rattle.disc.proofs.walk.is_fit.Statement.{statement}
 use Rattle.disc.proofs.walk.is_fit.Tie as tie
-use Rattle.disc.proofs.walk.is_fit.Reads as reads
-use Rattle.disc.proofs.walk.is_fit.Lts as lts
-use Rattle.disc.proofs.walk.judge.Reads as judge-reads
 
 returns : tie.Need-returns
 returns c = ap (λ (v : Verdict). v .fit) (c .judge .ensures)

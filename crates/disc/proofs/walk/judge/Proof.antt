@@ -10,12 +10,6 @@ use Rattle.disc.specs.WalkSteps.{verdict-no}
 use borrow.Author.Needs.{needs}
 use Rattle.disc.proofs.walk.judge.Statement.{statement}
 use Rattle.disc.proofs.walk.judge.Tie as tie
-use Rattle.disc.proofs.walk.judge.Reads as reads
-use Rattle.disc.proofs.walk.judge.Lts as lts
-use Rattle.disc.proofs.rules.rule1.Reads as rule1-reads
-use Rattle.disc.proofs.rules.rule2.Reads as rule2-reads
-use Rattle.disc.proofs.walk.unfit.Reads as unfit-reads
-use Rattle.disc.proofs.walk.walk.Reads as walk-reads
 
 rule2-requires : tie.Need-rule2-requires
 rule2-requires c κs = rule1-parts (sym (c .before .rule1 .ensures) ∙ c .if1 .taken) .least

@@ -7,9 +7,6 @@ use Rattle.disc.specs.Walk.{kept}
 use borrow.Author.Needs.{needs}
 use Rattle.disc.proofs.walk.kept.Statement.{statement}
 use Rattle.disc.proofs.walk.kept.Tie as tie
-use Rattle.disc.proofs.walk.kept.Reads as reads
-use Rattle.disc.proofs.walk.kept.Lts as lts
-use Rattle.disc.proofs.rules.plain.Reads as plain-reads
 
 returns : tie.Need-returns
 unfolding kept names

@@ -7,11 +7,6 @@ use Rattle.disc.specs.WalkSteps.{sessionKept-not, sessionKept-off, sessi
 use borrow.Author.Needs.{needs}
 use Rattle.disc.proofs.walk.session_kept.Statement.{statement}
 use Rattle.disc.proofs.walk.session_kept.Tie as tie
-use Rattle.disc.proofs.walk.session_kept.Reads as reads
-use Rattle.disc.proofs.walk.session_kept.Lts as lts
-use Rattle.disc.proofs.walk.heads_kept.Reads as heads-kept-reads
-use Rattle.disc.proofs.walk.tracks_kept.Reads as tracks-kept-reads
-use Rattle.ground.proofs.number.wide.Reads as wide-reads
 
 returns : tie.Need-returns
 returns c = sessionKept-not _ _ _ (λ s. let e = size-least (s .is) in let f = s .is .fits in omega arith)

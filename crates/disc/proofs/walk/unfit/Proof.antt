@@ -3,8 +3,6 @@ use mathlib.Core.Path.{refl}
 use Rattle.ground.specs.Tests.{if_then_else_}
 use Rattle.disc.proofs.walk.unfit.Statement.{statement}
 use Rattle.disc.proofs.walk.unfit.Tie as tie
-use Rattle.disc.proofs.walk.unfit.Reads as reads
-use Rattle.disc.proofs.walk.unfit.Lts as lts
 
 returns : tie.Need-returns
 unfolding if_then_else_

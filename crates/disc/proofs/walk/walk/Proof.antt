@@ -14,14 +14,6 @@ use Rattle.disc.specs.WalkLaws.{sessionKept-sound}
 use Rattle.disc.specs.WalkSteps.{Trod, trod-none, trod-next, trod-breaks, trod-off, trod-end, trod-back, verdict-no, verdict-yes}
 use Rattle.disc.proofs.walk.walk.Statement.{statement}
 use Rattle.disc.proofs.walk.walk.Tie as tie
-use Rattle.disc.proofs.walk.walk.Reads as reads
-use Rattle.disc.proofs.walk.walk.Lts as lts
-use Rattle.disc.proofs.session.follows.Reads as follows-reads
-use Rattle.disc.proofs.session.session_bytes.Reads as session-bytes-reads
-use Rattle.disc.proofs.layout.frames_at.Reads as frames-at-reads
-use Rattle.disc.proofs.walk.session_kept.Reads as session-kept-reads
-use Rattle.disc.proofs.walk.unfit.Reads as unfit-reads
-use Rattle.ground.proofs.number.wide.Reads as wide-reads
 
 abbrev Inv-loop : tie.InvT-loop
 Inv-loop d n k₀ at₀ back₀ prev₀ floor₀ k at back prev floor = Trod n d k at back prev floor
@@ -48,41 +40,14 @@ follow c h = sym (rw (rest-all, c .before .before .wide .ensures .same) at (c .f
 loop-holds : tie.Need-loop-holds Inv-loop μ-loop
 loop-holds c = trod-none _ _
 
-sub-s : tie.Need-sub-s Inv-loop μ-loop
-sub-s c = search needs
-
-part-s-start : tie.Need-part-s-start Inv-loop μ-loop
-part-s-start c = search needs
-
-part-s-end : tie.Need-part-s-end Inv-loop μ-loop
-part-s-end c = search needs
-
-add-session-kept : tie.Need-add-session-kept Inv-loop μ-loop
-add-session-kept c = search needs
-
-session-kept-requires : tie.Need-session-kept-requires Inv-loop μ-loop
-session-kept-requires c κs = search needs
-
-wide-requires : tie.Need-wide-requires Inv-loop μ-loop
-wide-requires c κs = search needs
-
 shared-slice-read-follows : tie.Need-shared-slice-read-follows Inv-loop μ-loop
 shared-slice-read-follows c = let l = long (c .before .before) in omega arith
-
-follows-requires : tie.Need-follows-requires Inv-loop μ-loop
-follows-requires c κs = search needs
-
-add-prev : tie.Need-add-prev Inv-loop μ-loop
-add-prev c = search needs
 
 shared-slice-read-prev : tie.Need-shared-slice-read-prev Inv-loop μ-loop
 shared-slice-read-prev c = let l = long (c .before .before .before .before .before) in omega arith
 
 frames-at-requires : tie.Need-frames-at-requires Inv-loop μ-loop
 frames-at-requires c κs = let l = long (c .before .before .before .before .before) in omega arith
-
-add-floor : tie.Need-add-floor Inv-loop μ-loop
-add-floor c = search needs
 
 session-bytes-requires : tie.Need-session-bytes-requires Inv-loop μ-loop
 session-bytes-requires c κs = rw rest-all (isSession-heads (sessionKept-sound (here (c .before .before .before .before .before .before)) .is))
@@ -93,20 +58,8 @@ loop-again c = trod-next (c .before .before .before .before .before .before .bef
 add-at : tie.Need-add-at Inv-loop μ-loop
 add-at c = let r = loop-again c in search needs
 
-add-k : tie.Need-add-k Inv-loop μ-loop
-add-k c = search needs
-
-loop-less : tie.Need-loop-less Inv-loop μ-loop
-loop-less c = search needs
-
-unfit-requires : tie.Need-unfit-requires Inv-loop μ-loop
-unfit-requires c κs = search needs
-
 returns : tie.Need-returns Inv-loop μ-loop
 returns c = c .unfit .ensures ∙ verdict-no _ (trod-off (c .before .before .before .before .before .before .before .before .before .loop .inv) (c .before .before .before .before .before .before .before .before .loop-test .taken) (follow (c .before .before) (c .before .if2 .left)))
-
-unfit-requires-2 : tie.Need-unfit-requires-2 Inv-loop μ-loop
-unfit-requires-2 c κs = search needs
 
 returns-2 : tie.Need-returns-2 Inv-loop μ-loop
 returns-2 c = c .unfit2 .ensures ∙ verdict-no _ (trod-breaks (c .before .before .before .before .before .loop .inv) (c .before .before .before .before .loop-test .taken) (sym (rw rest-all at (c .before .before .session-kept .ensures)) ∙ c .before .if1 .left))
@@ -114,40 +67,13 @@ returns-2 c = c .unfit2 .ensures ∙ verdict-no _ (trod-breaks (c .before .befor
 returns-3 : tie.Need-returns-3 Inv-loop μ-loop
 returns-3 c = verdict-yes (sym (trod-end (c .before .before .loop .inv) (c .before .loop-test .left)) ∙ eq-eqb _ _ (c .if3 .taken)) (trod-back (c .before .before .loop .inv) (c .before .loop-test .left))
 
-unfit-requires-3 : tie.Need-unfit-requires-3 Inv-loop μ-loop
-unfit-requires-3 c κs = search needs
-
 returns-4 : tie.Need-returns-4 Inv-loop μ-loop
 returns-4 c = c .unfit3 .ensures ∙ verdict-no _ (sym (ne-eqb _ _ (c .before .if3 .left)) ∙ trod-end (c .before .before .before .loop .inv) (c .before .before .loop-test .left))
 
 pub walk-spec : {M : Type 1} → statement M
 walk-spec =
     tie.close
-    (tie.spec
-    Inv-loop
-    μ-loop
-    loop-holds
-    sub-s
-    part-s-start
-    part-s-end
-    add-session-kept
-    session-kept-requires
-    wide-requires
-    shared-slice-read-follows
-    follows-requires
-    add-prev
-    shared-slice-read-prev
-    frames-at-requires
-    add-floor
-    session-bytes-requires
-    add-at
-    add-k
-    loop-less
-    loop-again
-    unfit-requires
-    returns
-    unfit-requires-2
-    returns-2
-    returns-3
-    unfit-requires-3
-    returns-4)
+    (tie.spec Inv-loop μ-loop loop-holds (λ c. search needs) (λ c. search needs) (λ c. search needs) (λ c. search needs)
+    (λ c κs. search needs) (λ c κs. search needs) shared-slice-read-follows (λ c κs. search needs) (λ c. search needs)
+    shared-slice-read-prev frames-at-requires (λ c. search needs) session-bytes-requires add-at (λ c. search needs) (λ c. search needs)
+    loop-again (λ c κs. search needs) returns (λ c κs. search needs) returns-2 returns-3 (λ c κs. search needs) returns-4)

@@ -9,10 +9,6 @@ use Rattle.drive.specs.Sense.{senses, sameSense, among, isKnown}
 use Rattle.drive.specs.SenseLaws.{among-here, among-on, among-none}
 use Rattle.drive.proofs.sense.is_known.Statement.{statement}
 use Rattle.drive.proofs.sense.is_known.Tie as tie
-use Rattle.drive.proofs.sense.is_known.Reads as reads
-use Rattle.drive.proofs.sense.is_known.Lts as lts
-use Rattle.drive.proofs.sense.same.Reads as same-reads
-use Rattle.drive.proofs.sense.sense_at.Reads as sense-at-reads
 
 abbrev Inv-loop : tie.InvT-loop
 Inv-loop s i₀ i = (i ≤ 10) × (among (drop i senses) s ≡ isKnown s)
@@ -24,20 +20,8 @@ loop-holds : tie.Need-loop-holds Inv-loop μ-loop
 unfolding isKnown
 loop-holds c = (omega arith, refl)
 
-sense-at-requires : tie.Need-sense-at-requires Inv-loop μ-loop
-sense-at-requires c κs = search needs
-
-same-requires : tie.Need-same-requires Inv-loop μ-loop
-same-requires c κs = search needs
-
 returns : tie.Need-returns Inv-loop μ-loop
 returns c = among-here _ _ (c .before .before .before .loop-test .taken) (ap (λ (r : Sense). sameSense r (c .before .before .before .before .before .args .s)) (sym (c .before .before .sense-at .ensures)) ∙ sym (c .before .same .ensures) ∙ c .if1 .taken) ∙ c .before .before .before .before .loop .inv .1
-
-add-i : tie.Need-add-i Inv-loop μ-loop
-add-i c = search needs
-
-loop-less : tie.Need-loop-less Inv-loop μ-loop
-loop-less c = search needs
 
 loop-again : tie.Need-loop-again Inv-loop μ-loop
 loop-again c = (omega arith, sym (among-on _ _ (c .before .before .before .loop-test .taken) (ap (λ (r : Sense). sameSense r (c .before .before .before .before .before .args .s)) (sym (c .before .before .sense-at .ensures)) ∙ sym (c .before .same .ensures) ∙ c .if1 .left)) ∙ c .before .before .before .before .loop .inv .1)
@@ -48,14 +32,5 @@ returns-2 c = among-none _ _ (c .loop-test .left) ∙ c .before .loop .inv .1
 pub is-known-spec : {M : Type 1} → statement M
 is-known-spec =
     tie.close
-    (tie.spec
-    Inv-loop
-    μ-loop
-    loop-holds
-    sense-at-requires
-    same-requires
-    returns
-    add-i
-    loop-less
-    loop-again
-    returns-2)
+    (tie.spec Inv-loop μ-loop loop-holds (λ c κs. search needs) (λ c κs. search needs) returns (λ c. search needs) (λ c. search needs)
+    loop-again returns-2)

@@ -5,8 +5,6 @@ use Rattle.ground.specs.Tests.{and-on, and-off, and-late}
 use Rattle.drive.specs.Sense.{sameSense}
 use Rattle.drive.proofs.sense.same.Statement.{statement}
 use Rattle.drive.proofs.sense.same.Tie as tie
-use Rattle.drive.proofs.sense.same.Reads as reads
-use Rattle.drive.proofs.sense.same.Lts as lts
 
 returns : tie.Need-returns
 unfolding sameSense

@@ -5,8 +5,6 @@ use Rattle.drive.specs.SenseLaws.{senseAt-past}
 use borrow.Author.Needs.{needs}
 use Rattle.drive.proofs.sense.sense_at.Statement.{statement}
 use Rattle.drive.proofs.sense.sense_at.Tie as tie
-use Rattle.drive.proofs.sense.sense_at.Reads as reads
-use Rattle.drive.proofs.sense.sense_at.Lts as lts
 
 returns : tie.Need-returns
 unfolding senseAt

@@ -4,9 +4,6 @@ use Rattle.gate.specs.Fault.{senseOf}
 use borrow.Author.Needs.{needs}
 use Rattle.gate.proofs.fault.sense_of.Statement.{statement}
 use Rattle.gate.proofs.fault.sense_of.Tie as tie
-use Rattle.gate.proofs.fault.sense_of.Reads as reads
-use Rattle.gate.proofs.fault.sense_of.Lts as lts
-use Rattle.drive.proofs.sense.sense_at.Reads as sense-at-reads
 
 returns : tie.Need-returns
 returns c = c .sense-at .ensures ∙ sym (ap senseOf (c .before .enum-told .given .1))

@@ -5,10 +5,6 @@ use Rattle.gate.specs.Unit.{hold}
 use borrow.Author.Needs.{needs}
 use Rattle.gate.proofs.unit.clear.Statement.{statement}
 use Rattle.gate.proofs.unit.clear.Tie as tie
-use Rattle.gate.proofs.unit.clear.Reads as reads
-use Rattle.gate.proofs.unit.clear.Lts as lts
-use Rattle.drive.proofs.sense.sense_at.Reads as sense-at-reads
-use Rattle.gate.proofs.unit.hold.Reads as hold-reads
 
 returns : tie.Need-returns
 returns c = c .hold .ensures ∙ ap (λ (s : Sense). hold s (c .before .before .args .u)) (c .before .sense-at .ensures)

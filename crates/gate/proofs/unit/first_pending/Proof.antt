@@ -4,8 +4,6 @@ use Rattle.ground.specs.Tests.{when, unless}
 use Rattle.gate.specs.Unit.{pendingOf}
 use Rattle.gate.proofs.unit.first_pending.Statement.{statement}
 use Rattle.gate.proofs.unit.first_pending.Tie as tie
-use Rattle.gate.proofs.unit.first_pending.Reads as reads
-use Rattle.gate.proofs.unit.first_pending.Lts as lts
 
 returns : tie.Need-returns
 unfolding pendingOf

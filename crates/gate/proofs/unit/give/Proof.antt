@@ -8,14 +8,6 @@ use Rattle.gate.specs.Unit.{clear, attentionSense, told, give}
 use borrow.Author.Needs.{needs}
 use Rattle.gate.proofs.unit.give.Statement.{statement}
 use Rattle.gate.proofs.unit.give.Tie as tie
-use Rattle.gate.proofs.unit.give.Reads as reads
-use Rattle.gate.proofs.unit.give.Lts as lts
-use Rattle.drive.proofs.sense.same.Reads as same-reads
-use Rattle.drive.proofs.sense.sense_at.Reads as sense-at-reads
-use Rattle.gate.proofs.unit.clear.Reads as clear-reads
-use Rattle.gate.proofs.unit.first_pending.Reads as first-pending-reads
-use Rattle.gate.proofs.unit.sense_of_pending.Reads as sense-of-pending-reads
-use Rattle.gate.proofs.unit.told.Reads as told-reads
 
 returns : tie.Need-returns
 unfolding give

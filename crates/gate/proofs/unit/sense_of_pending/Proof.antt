@@ -4,9 +4,6 @@ use Rattle.gate.specs.Unit.{attentionSense}
 use borrow.Author.Needs.{needs}
 use Rattle.gate.proofs.unit.sense_of_pending.Statement.{statement}
 use Rattle.gate.proofs.unit.sense_of_pending.Tie as tie
-use Rattle.gate.proofs.unit.sense_of_pending.Reads as reads
-use Rattle.gate.proofs.unit.sense_of_pending.Lts as lts
-use Rattle.drive.proofs.sense.sense_at.Reads as sense-at-reads
 
 returns : tie.Need-returns
 returns c = c .sense-at .ensures ∙ sym (ap attentionSense (c .before .enum-told .given .1))

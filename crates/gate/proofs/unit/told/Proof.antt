@@ -5,8 +5,6 @@ use Rattle.gate.specs.Unit.{told}
 use borrow.Author.Needs.{needs}
 use Rattle.gate.proofs.unit.told.Statement.{statement}
 use Rattle.gate.proofs.unit.told.Tie as tie
-use Rattle.gate.proofs.unit.told.Reads as reads
-use Rattle.gate.proofs.unit.told.Lts as lts
 
 returns : tie.Need-returns
 returns c = let x = c .before .before .before .args in sym (ap (λ (a : Pending). told a (x .u)) (c .enum-told .given .1))

@@ -8,8 +8,6 @@ use borrow.Author.Needs.{needs}
 use Rattle.ground.specs.Memory.{Laid, laid-none, laid-next, laid-full, laid-end}
 use Rattle.ground.proofs.memory.copy_front.Statement.{statement}
 use Rattle.ground.proofs.memory.copy_front.Tie as tie
-use Rattle.ground.proofs.memory.copy_front.Reads as reads
-use Rattle.ground.proofs.memory.copy_front.Lts as lts
 
 abbrev Inv-loop : tie.InvT-loop
 Inv-loop src dst₀ i₀ dst i = (i ≤ length src) × Laid dst₀ (take i src) i dst × (length dst ≡ length dst₀)
@@ -20,31 +18,13 @@ abbrev μ-loop : tie.MeasureT-loop
 loop-holds : tie.Need-loop-holds Inv-loop μ-loop
 loop-holds c = (omega arith, laid-none _, refl)
 
-same-length : tie.Need-same-length Inv-loop μ-loop
-same-length c = search needs
-
 returns : tie.Need-returns Inv-loop μ-loop
 returns c = let l = c .before .before .loop in laid-full _ _ (search needs) (search needs) (l .inv .1)
-
-shared-slice-read-dst : tie.Need-shared-slice-read-dst Inv-loop μ-loop
-shared-slice-read-dst c = search needs
-
-slice-write-dst : tie.Need-slice-write-dst Inv-loop μ-loop
-slice-write-dst c = search needs
-
-add-i : tie.Need-add-i Inv-loop μ-loop
-add-i c = search needs
-
-loop-less : tie.Need-loop-less Inv-loop μ-loop
-loop-less c = search needs
 
 loop-again : tie.Need-loop-again Inv-loop μ-loop
 loop-again c =
     let l = c .before .before .before .loop in
     (omega arith, laid-next _ _ (search needs) (search needs) (l .inv .1), simp length-set (l .inv .2))
-
-same-length-2 : tie.Need-same-length-2 Inv-loop μ-loop
-same-length-2 c = search needs
 
 returns-2 : tie.Need-returns-2 Inv-loop μ-loop
 returns-2 c = laid-end _ _ (search needs) (c .before .loop .inv .1)
@@ -52,16 +32,5 @@ returns-2 c = laid-end _ _ (search needs) (c .before .loop .inv .1)
 pub copy-front-spec : {M : Type 1} → statement M
 copy-front-spec =
     tie.close
-    (tie.spec
-    Inv-loop
-    μ-loop
-    loop-holds
-    same-length
-    returns
-    shared-slice-read-dst
-    slice-write-dst
-    add-i
-    loop-less
-    loop-again
-    same-length-2
-    returns-2)
+    (tie.spec Inv-loop μ-loop loop-holds (λ c. search needs) returns (λ c. search needs) (λ c. search needs) (λ c. search needs)
+    (λ c. search needs) loop-again (λ c. search needs) returns-2)

@@ -5,9 +5,6 @@ use lib.Seq.{length-take-le, take-all}
 use borrow.Author.Needs.{needs}
 use Rattle.ground.proofs.memory.put_cut.Statement.{statement}
 use Rattle.ground.proofs.memory.put_cut.Tie as tie
-use Rattle.ground.proofs.memory.put_cut.Reads as reads
-use Rattle.ground.proofs.memory.put_cut.Lts as lts
-use Rattle.ground.proofs.memory.copy_front.Reads as copy-front-reads
 
 slice-aggregate-copy-front : tie.Need-slice-aggregate-copy-front
 slice-aggregate-copy-front c = sym (length-take-le _ _ (search needs))

@@ -4,9 +4,6 @@ use Rattle.listing.specs.Line.{blocks}
 use borrow.Author.Needs.{needs}
 use Rattle.listing.proofs.line.next_blocks.Statement.{statement}
 use Rattle.listing.proofs.line.next_blocks.Tie as tie
-use Rattle.listing.proofs.line.next_blocks.Reads as reads
-use Rattle.listing.proofs.line.next_blocks.Lts as lts
-use Rattle.print.proofs.decimal.next_decimal.Reads as next-decimal-reads
 
 returns : tie.Need-returns
 unfolding blocks

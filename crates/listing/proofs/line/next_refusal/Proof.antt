@@ -4,11 +4,6 @@ use Rattle.listing.specs.Line.{refusal}
 use borrow.Author.Needs.{needs}
 use Rattle.listing.proofs.line.next_refusal.Statement.{statement}
 use Rattle.listing.proofs.line.next_refusal.Tie as tie
-use Rattle.listing.proofs.line.next_refusal.Reads as reads
-use Rattle.listing.proofs.line.next_refusal.Lts as lts
-use Rattle.ground.proofs.memory.copy_front.Reads as copy-front-reads
-use Rattle.ground.proofs.number.wide.Reads as wide-reads
-use Rattle.print.proofs.decimal.next_decimal.Reads as next-decimal-reads
 
 returns : tie.Need-returns
 unfolding refusal

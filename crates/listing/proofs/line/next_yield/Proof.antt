@@ -4,11 +4,6 @@ use Rattle.listing.specs.Line.{yielded}
 use borrow.Author.Needs.{needs}
 use Rattle.listing.proofs.line.next_yield.Statement.{statement}
 use Rattle.listing.proofs.line.next_yield.Tie as tie
-use Rattle.listing.proofs.line.next_yield.Reads as reads
-use Rattle.listing.proofs.line.next_yield.Lts as lts
-use Rattle.listing.proofs.line.next_blocks.Reads as next-blocks-reads
-use Rattle.print.proofs.decimal.next_decimal.Reads as next-decimal-reads
-use Rattle.print.proofs.hex.next_shown.Reads as next-shown-reads
 
 returns : tie.Need-returns
 unfolding yielded

@@ -4,11 +4,6 @@ use Rattle.listing.specs.Line.{answered}
 use borrow.Author.Needs.{needs}
 use Rattle.listing.proofs.line.put_answered.Statement.{statement}
 use Rattle.listing.proofs.line.put_answered.Tie as tie
-use Rattle.listing.proofs.line.put_answered.Reads as reads
-use Rattle.listing.proofs.line.put_answered.Lts as lts
-use Rattle.ground.proofs.memory.copy_front.Reads as copy-front-reads
-use Rattle.listing.proofs.line.next_yield.Reads as next-yield-reads
-use Rattle.listing.proofs.line.put_start.Reads as put-start-reads
 
 returns : tie.Need-returns
 unfolding answered

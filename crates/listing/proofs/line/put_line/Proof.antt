@@ -5,10 +5,6 @@ use Rattle.listing.specs.Line.{lineOf}
 use borrow.Author.Needs.{needs}
 use Rattle.listing.proofs.line.put_line.Statement.{statement}
 use Rattle.listing.proofs.line.put_line.Tie as tie
-use Rattle.listing.proofs.line.put_line.Reads as reads
-use Rattle.listing.proofs.line.put_line.Lts as lts
-use Rattle.listing.proofs.line.put_answered.Reads as put-answered-reads
-use Rattle.listing.proofs.line.put_refused.Reads as put-refused-reads
 
 returns : tie.Need-returns
 unfolding lineOf

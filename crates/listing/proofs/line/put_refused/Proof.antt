@@ -4,11 +4,6 @@ use Rattle.listing.specs.Line.{refused}
 use borrow.Author.Needs.{needs}
 use Rattle.listing.proofs.line.put_refused.Statement.{statement}
 use Rattle.listing.proofs.line.put_refused.Tie as tie
-use Rattle.listing.proofs.line.put_refused.Reads as reads
-use Rattle.listing.proofs.line.put_refused.Lts as lts
-use Rattle.ground.proofs.memory.copy_front.Reads as copy-front-reads
-use Rattle.listing.proofs.line.next_refusal.Reads as next-refusal-reads
-use Rattle.print.proofs.decimal.put_decimal.Reads as put-decimal-reads
 
 returns : tie.Need-returns
 unfolding refused

@@ -4,11 +4,6 @@ use Rattle.listing.specs.Line.{started}
 use borrow.Author.Needs.{needs}
 use Rattle.listing.proofs.line.put_start.Statement.{statement}
 use Rattle.listing.proofs.line.put_start.Tie as tie
-use Rattle.listing.proofs.line.put_start.Reads as reads
-use Rattle.listing.proofs.line.put_start.Lts as lts
-use Rattle.print.proofs.decimal.put_decimal.Reads as put-decimal-reads
-use Rattle.print.proofs.hex.next_hex.Reads as next-hex-reads
-use Rattle.print.proofs.hex.next_three.Reads as next-three-reads
 
 returns : tie.Need-returns
 unfolding started

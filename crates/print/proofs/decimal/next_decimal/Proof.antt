@@ -3,10 +3,6 @@ use Rattle.ground.specs.Memory.{laid-more}
 use borrow.Author.Needs.{needs}
 use Rattle.print.proofs.decimal.next_decimal.Statement.{statement}
 use Rattle.print.proofs.decimal.next_decimal.Tie as tie
-use Rattle.print.proofs.decimal.next_decimal.Reads as reads
-use Rattle.print.proofs.decimal.next_decimal.Lts as lts
-use Rattle.ground.proofs.memory.copy_front.Reads as copy-front-reads
-use Rattle.print.proofs.decimal.put_decimal.Reads as put-decimal-reads
 
 returns : tie.Need-returns
 returns c = laid-more (c .before .before .before .before .before .before .copy-front .ensures) (c .before .before .put-decimal .ensures)

@@ -3,10 +3,6 @@ use borrow.Author.Needs.{needs}
 use Rattle.print.specs.Decimal.{decimal-is}
 use Rattle.print.proofs.decimal.put_decimal.Statement.{statement}
 use Rattle.print.proofs.decimal.put_decimal.Tie as tie
-use Rattle.print.proofs.decimal.put_decimal.Reads as reads
-use Rattle.print.proofs.decimal.put_decimal.Lts as lts
-use Rattle.ground.proofs.memory.copy_front.Reads as copy-front-reads
-use Rattle.io.proofs.decimal.Reads as decimal-reads
 
 returns : tie.Need-returns
 returns c =

@@ -5,8 +5,6 @@ use lib.Seq.{length-take-le, take-all}
 use borrow.Author.Needs.{needs}
 use Rattle.print.proofs.front.front.Statement.{statement}
 use Rattle.print.proofs.front.front.Tie as tie
-use Rattle.print.proofs.front.front.Reads as reads
-use Rattle.print.proofs.front.front.Lts as lts
 
 slice-aggregate-result : tie.Need-slice-aggregate-result
 slice-aggregate-result c = sym (length-take-le _ _ (search needs))

@@ -4,8 +4,6 @@ use borrow.Author.Needs.{needs}
 use Rattle.print.specs.Hex.{hexDigit-below, hexDigit-above}
 use Rattle.print.proofs.hex.hex_digit.Statement.{statement}
 use Rattle.print.proofs.hex.hex_digit.Tie as tie
-use Rattle.print.proofs.hex.hex_digit.Reads as reads
-use Rattle.print.proofs.hex.hex_digit.Lts as lts
 
 returns : tie.Need-returns
 returns c = sym (hexDigit-below _ (search needs))

@@ -2,10 +2,6 @@
 use borrow.Author.Needs.{needs}
 use Rattle.print.proofs.hex.next_hex.Statement.{statement}
 use Rattle.print.proofs.hex.next_hex.Tie as tie
-use Rattle.print.proofs.hex.next_hex.Reads as reads
-use Rattle.print.proofs.hex.next_hex.Lts as lts
-use Rattle.ground.proofs.memory.copy_front.Reads as copy-front-reads
-use Rattle.print.proofs.hex.hex_digit.Reads as hex-digit-reads
 
 returns : tie.Need-returns
 returns c = rw (← c .before .before .before .before .before .before .hex-digit .ensures, ← c .before .before .before .before .before .hex-digit2 .ensures) (c .before .before .copy-front .ensures)

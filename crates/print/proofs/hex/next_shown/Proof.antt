@@ -3,10 +3,6 @@ use Rattle.ground.specs.Memory.{laid-more}
 use borrow.Author.Needs.{needs}
 use Rattle.print.proofs.hex.next_shown.Statement.{statement}
 use Rattle.print.proofs.hex.next_shown.Tie as tie
-use Rattle.print.proofs.hex.next_shown.Reads as reads
-use Rattle.print.proofs.hex.next_shown.Lts as lts
-use Rattle.ground.proofs.memory.copy_front.Reads as copy-front-reads
-use Rattle.print.proofs.hex.put_shown.Reads as put-shown-reads
 
 returns : tie.Need-returns
 returns c = laid-more (c .before .before .before .before .before .before .copy-front .ensures) (c .before .before .put-shown .ensures)

@@ -2,10 +2,6 @@
 use borrow.Author.Needs.{needs}
 use Rattle.print.proofs.hex.next_three.Statement.{statement}
 use Rattle.print.proofs.hex.next_three.Tie as tie
-use Rattle.print.proofs.hex.next_three.Reads as reads
-use Rattle.print.proofs.hex.next_three.Lts as lts
-use Rattle.ground.proofs.memory.copy_front.Reads as copy-front-reads
-use Rattle.print.proofs.hex.hex_digit.Reads as hex-digit-reads
 
 returns : tie.Need-returns
 returns c =

@@ -4,10 +4,6 @@ use Rattle.print.specs.Hex.{shown-none, shown-some}
 use borrow.Author.Needs.{needs}
 use Rattle.print.proofs.hex.put_shown.Statement.{statement}
 use Rattle.print.proofs.hex.put_shown.Tie as tie
-use Rattle.print.proofs.hex.put_shown.Reads as reads
-use Rattle.print.proofs.hex.put_shown.Lts as lts
-use Rattle.ground.proofs.memory.copy_front.Reads as copy-front-reads
-use Rattle.print.proofs.hex.put_hexes.Reads as put-hexes-reads
 
 returns : tie.Need-returns
 returns c = rw (shown-none (now (c .before .before .before .before .before .before .before .before .args .bytes)) (c .before .before .before .before .before .if1 .taken)) (c .before .before .copy-front .ensures)

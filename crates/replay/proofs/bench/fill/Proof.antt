@@ -9,8 +9,6 @@ use lib.Seq.{take-all, take-suc-set}
 use borrow.Author.Needs.{needs}
 use Rattle.replay.proofs.bench.fill.Statement.{statement}
 use Rattle.replay.proofs.bench.fill.Tie as tie
-use Rattle.replay.proofs.bench.fill.Reads as reads
-use Rattle.replay.proofs.bench.fill.Lts as lts
 
 -- one byte more
 filled : (m : List ℕ) (i x : ℕ) → i < length m → take i m ≡ replicate i x → take (i + 1) (set m i x) ≡ replicate (i + 1) x
@@ -29,22 +27,10 @@ abbrev μ-loop : tie.MeasureT-loop
 loop-holds : tie.Need-loop-holds Inv-loop μ-loop
 loop-holds c = (omega arith, refl, refl)
 
-slice-write-m : tie.Need-slice-write-m Inv-loop μ-loop
-slice-write-m c = search needs
-
-add-i : tie.Need-add-i Inv-loop μ-loop
-add-i c = search needs
-
-loop-less : tie.Need-loop-less Inv-loop μ-loop
-loop-less c = search needs
-
 loop-again : tie.Need-loop-again Inv-loop μ-loop
 loop-again c =
     let l = c .before .loop in
     (simp length-set (omega arith), simp length-set (l .inv .1), filled (l .m) (l .i) _ (search needs) (l .inv .2))
-
-same-length : tie.Need-same-length Inv-loop μ-loop
-same-length c = search needs
 
 returns : tie.Need-returns Inv-loop μ-loop
 returns c =
@@ -55,13 +41,4 @@ returns c =
 pub fill-spec : {M : Type 1} → statement M
 fill-spec =
     tie.close
-    (tie.spec
-    Inv-loop
-    μ-loop
-    loop-holds
-    slice-write-m
-    add-i
-    loop-less
-    loop-again
-    same-length
-    returns)
+    (tie.spec Inv-loop μ-loop loop-holds (λ c. search needs) (λ c. search needs) (λ c. search needs) loop-again (λ c. search needs) returns)

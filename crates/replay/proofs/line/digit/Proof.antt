@@ -4,8 +4,6 @@ use Rattle.ground.specs.Tests.{when, unless}
 use Rattle.replay.specs.Line.{digit}
 use Rattle.replay.proofs.line.digit.Statement.{statement}
 use Rattle.replay.proofs.line.digit.Tie as tie
-use Rattle.replay.proofs.line.digit.Reads as reads
-use Rattle.replay.proofs.line.digit.Lts as lts
 
 returns : tie.Need-returns
 unfolding digit

@@ -4,9 +4,6 @@ use Rattle.replay.specs.Line.{decimals}
 use borrow.Author.Needs.{needs}
 use Rattle.replay.proofs.line.next_decimals.Statement.{statement}
 use Rattle.replay.proofs.line.next_decimals.Tie as tie
-use Rattle.replay.proofs.line.next_decimals.Reads as reads
-use Rattle.replay.proofs.line.next_decimals.Lts as lts
-use Rattle.print.proofs.decimal.next_decimal.Reads as next-decimal-reads
 
 returns : tie.Need-returns
 unfolding decimals

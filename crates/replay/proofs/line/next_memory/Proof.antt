@@ -4,11 +4,6 @@ use Rattle.replay.specs.Line.{memoryText}
 use borrow.Author.Needs.{needs}
 use Rattle.replay.proofs.line.next_memory.Statement.{statement}
 use Rattle.replay.proofs.line.next_memory.Tie as tie
-use Rattle.replay.proofs.line.next_memory.Reads as reads
-use Rattle.replay.proofs.line.next_memory.Lts as lts
-use Rattle.ground.proofs.memory.copy_front.Reads as copy-front-reads
-use Rattle.print.proofs.hex.next_shown.Reads as next-shown-reads
-use Rattle.replay.proofs.line.next_sum.Reads as next-sum-reads
 
 returns : tie.Need-returns
 unfolding memoryText

@@ -4,10 +4,6 @@ use Rattle.replay.specs.Line.{partText}
 use borrow.Author.Needs.{needs}
 use Rattle.replay.proofs.line.next_part.Statement.{statement}
 use Rattle.replay.proofs.line.next_part.Tie as tie
-use Rattle.replay.proofs.line.next_part.Reads as reads
-use Rattle.replay.proofs.line.next_part.Lts as lts
-use Rattle.print.proofs.decimal.next_decimal.Reads as next-decimal-reads
-use Rattle.replay.proofs.line.next_sum.Reads as next-sum-reads
 
 returns : tie.Need-returns
 unfolding partText

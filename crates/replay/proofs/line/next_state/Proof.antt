@@ -4,11 +4,6 @@ use Rattle.replay.specs.Line.{stateText}
 use borrow.Author.Needs.{needs}
 use Rattle.replay.proofs.line.next_state.Statement.{statement}
 use Rattle.replay.proofs.line.next_state.Tie as tie
-use Rattle.replay.proofs.line.next_state.Reads as reads
-use Rattle.replay.proofs.line.next_state.Lts as lts
-use Rattle.ground.proofs.memory.copy_front.Reads as copy-front-reads
-use Rattle.print.proofs.hex.next_three.Reads as next-three-reads
-use Rattle.replay.proofs.line.digit.Reads as digit-reads
 
 returns : tie.Need-returns
 unfolding stateText

@@ -4,11 +4,6 @@ use Rattle.replay.specs.Line.{addressLine}
 use borrow.Author.Needs.{needs}
 use Rattle.replay.proofs.line.put_address.Statement.{statement}
 use Rattle.replay.proofs.line.put_address.Tie as tie
-use Rattle.replay.proofs.line.put_address.Reads as reads
-use Rattle.replay.proofs.line.put_address.Lts as lts
-use Rattle.ground.proofs.memory.copy_front.Reads as copy-front-reads
-use Rattle.print.proofs.decimal.next_decimal.Reads as next-decimal-reads
-use Rattle.replay.proofs.line.put_call.Reads as put-call-reads
 
 returns : tie.Need-returns
 unfolding addressLine

@@ -4,11 +4,6 @@ use Rattle.replay.specs.Line.{call}
 use borrow.Author.Needs.{needs}
 use Rattle.replay.proofs.line.put_call.Statement.{statement}
 use Rattle.replay.proofs.line.put_call.Tie as tie
-use Rattle.replay.proofs.line.put_call.Reads as reads
-use Rattle.replay.proofs.line.put_call.Lts as lts
-use Rattle.ground.proofs.memory.copy_front.Reads as copy-front-reads
-use Rattle.ground.proofs.number.wide.Reads as wide-reads
-use Rattle.print.proofs.decimal.next_decimal.Reads as next-decimal-reads
 
 returns : tie.Need-returns
 unfolding call

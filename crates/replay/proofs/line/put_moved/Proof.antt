@@ -4,11 +4,6 @@ use Rattle.replay.specs.Line.{movedLine}
 use borrow.Author.Needs.{needs}
 use Rattle.replay.proofs.line.put_moved.Statement.{statement}
 use Rattle.replay.proofs.line.put_moved.Tie as tie
-use Rattle.replay.proofs.line.put_moved.Reads as reads
-use Rattle.replay.proofs.line.put_moved.Lts as lts
-use Rattle.ground.proofs.memory.copy_front.Reads as copy-front-reads
-use Rattle.replay.proofs.line.next_state.Reads as next-state-reads
-use Rattle.replay.proofs.line.put_call.Reads as put-call-reads
 
 returns : tie.Need-returns
 unfolding movedLine

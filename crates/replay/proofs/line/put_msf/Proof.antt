@@ -4,12 +4,6 @@ use Rattle.replay.specs.Line.{msfLine}
 use borrow.Author.Needs.{needs}
 use Rattle.replay.proofs.line.put_msf.Statement.{statement}
 use Rattle.replay.proofs.line.put_msf.Tie as tie
-use Rattle.replay.proofs.line.put_msf.Reads as reads
-use Rattle.replay.proofs.line.put_msf.Lts as lts
-use Rattle.ground.proofs.memory.copy_front.Reads as copy-front-reads
-use Rattle.ground.proofs.number.wide.Reads as wide-reads
-use Rattle.replay.proofs.line.next_decimals.Reads as next-decimals-reads
-use Rattle.replay.proofs.line.put_call.Reads as put-call-reads
 
 returns : tie.Need-returns
 unfolding msfLine

@@ -4,11 +4,6 @@ use Rattle.replay.specs.Line.{outcomeText}
 use borrow.Author.Needs.{needs}
 use Rattle.replay.proofs.line.put_outcome.Statement.{statement}
 use Rattle.replay.proofs.line.put_outcome.Tie as tie
-use Rattle.replay.proofs.line.put_outcome.Reads as reads
-use Rattle.replay.proofs.line.put_outcome.Lts as lts
-use Rattle.print.proofs.hex.next_hex.Reads as next-hex-reads
-use Rattle.replay.proofs.line.next_decimals.Reads as next-decimals-reads
-use Rattle.replay.proofs.line.put_call.Reads as put-call-reads
 
 returns : tie.Need-returns
 unfolding outcomeText

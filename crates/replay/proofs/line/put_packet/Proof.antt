@@ -4,12 +4,6 @@ use Rattle.replay.specs.Line.{packetLine}
 use borrow.Author.Needs.{needs}
 use Rattle.replay.proofs.line.put_packet.Statement.{statement}
 use Rattle.replay.proofs.line.put_packet.Tie as tie
-use Rattle.replay.proofs.line.put_packet.Reads as reads
-use Rattle.replay.proofs.line.put_packet.Lts as lts
-use Rattle.print.proofs.front.front.Reads as front-reads
-use Rattle.replay.proofs.line.next_memory.Reads as next-memory-reads
-use Rattle.replay.proofs.line.next_state.Reads as next-state-reads
-use Rattle.replay.proofs.line.put_outcome.Reads as put-outcome-reads
 
 returns : tie.Need-returns
 unfolding packetLine

@@ -4,11 +4,6 @@ use Rattle.replay.specs.Line.{partLine}
 use borrow.Author.Needs.{needs}
 use Rattle.replay.proofs.line.put_part.Statement.{statement}
 use Rattle.replay.proofs.line.put_part.Tie as tie
-use Rattle.replay.proofs.line.put_part.Reads as reads
-use Rattle.replay.proofs.line.put_part.Lts as lts
-use Rattle.ground.proofs.memory.copy_front.Reads as copy-front-reads
-use Rattle.replay.proofs.line.next_part.Reads as next-part-reads
-use Rattle.replay.proofs.line.put_call.Reads as put-call-reads
 
 returns : tie.Need-returns
 unfolding partLine

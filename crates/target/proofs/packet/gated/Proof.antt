@@ -6,17 +6,11 @@ use Rattle.drive.specs.declared.state.Unit.{Unit}
 use Rattle.gate.specs.declared.unit.Pending.{Pending}
 use Rattle.gate.specs.declared.unit.Pending.the-variants.{Power, Change}
 use Rattle.gate.specs.Unit.{attentionSense, told}
-use Rattle.target.specs.PacketLaws.{checked, finished, answered-check, answered-settle, gate-tells, gate-settles}
+use Rattle.outcome.specs.Outcome.{checked, finished}
+use Rattle.target.specs.PacketLaws.{answered-check, answered-settle, gate-tells, gate-settles}
 use borrow.Author.Needs.{needs}
 use Rattle.target.proofs.packet.gated.Statement.{statement}
 use Rattle.target.proofs.packet.gated.Tie as tie
-use Rattle.target.proofs.packet.gated.Reads as reads
-use Rattle.target.proofs.packet.gated.Lts as lts
-use Rattle.gate.proofs.unit.clear.Reads as clear-reads
-use Rattle.gate.proofs.unit.first_pending.Reads as first-pending-reads
-use Rattle.target.proofs.packet.finish.Reads as finish-reads
-use Rattle.target.proofs.packet.tell.Reads as tell-reads
-use Rattle.target.proofs.perform.perform.Reads as perform-reads
 
 returns : tie.Need-returns
 returns c = let x = c .before .before .before .before .before .before .before .before .before .args in

@@ -8,13 +8,6 @@ use Rattle.target.specs.PacketLaws.{unread, steps-within, answer-4, answ
 use borrow.Author.Needs.{needs}
 use Rattle.target.proofs.packet.meet.Statement.{statement}
 use Rattle.target.proofs.packet.meet.Tie as tie
-use Rattle.target.proofs.packet.meet.Reads as reads
-use Rattle.target.proofs.packet.meet.Lts as lts
-use Rattle.disc.proofs.disc.read.Reads as read-reads
-use Rattle.drive.proofs.state.Mechanics.is_loaded.Reads as is-loaded-reads
-use Rattle.target.proofs.packet.refuse.Reads as refuse-reads
-use Rattle.target.proofs.packet.steps.Reads as steps-reads
-use Rattle.target.proofs.packet.unread.Reads as unread-reads
 
 steps-requires : tie.Need-steps-requires
 steps-requires c κs = let q = c .before .before .before .before .before .before .before .before .before .before .pre in

@@ -5,11 +5,6 @@ use Rattle.target.specs.PacketLaws.{answer-1, answer-2, answer-3, answer
 use borrow.Author.Needs.{needs}
 use Rattle.target.proofs.packet.packet.Statement.{statement}
 use Rattle.target.proofs.packet.packet.Tie as tie
-use Rattle.target.proofs.packet.packet.Reads as reads
-use Rattle.target.proofs.packet.packet.Lts as lts
-use Rattle.drive.proofs.sense.is_known.Reads as is-known-reads
-use Rattle.target.proofs.packet.meet.Reads as meet-reads
-use Rattle.target.proofs.packet.refuse.Reads as refuse-reads
 
 returns : tie.Need-returns
 returns c = let x = c .before .before .before .before .before .before .before .before .args in

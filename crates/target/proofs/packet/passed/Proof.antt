@@ -3,10 +3,6 @@ use Rattle.target.specs.PacketLaws.{answered-pass}
 use borrow.Author.Needs.{needs}
 use Rattle.target.proofs.packet.passed.Statement.{statement}
 use Rattle.target.proofs.packet.passed.Tie as tie
-use Rattle.target.proofs.packet.passed.Reads as reads
-use Rattle.target.proofs.packet.passed.Lts as lts
-use Rattle.target.proofs.packet.finish.Reads as finish-reads
-use Rattle.target.proofs.perform.perform.Reads as perform-reads
 
 returns : tie.Need-returns
 returns c = answered-pass _ _ _ (c .before .before .before .perform .ensures) (c .finish .ensures)

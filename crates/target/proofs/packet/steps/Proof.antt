@@ -4,14 +4,6 @@ use Rattle.command.specs.Command.{kindOf}
 use borrow.Author.Needs.{needs}
 use Rattle.target.proofs.packet.steps.Statement.{statement}
 use Rattle.target.proofs.packet.steps.Tie as tie
-use Rattle.target.proofs.packet.steps.Reads as reads
-use Rattle.target.proofs.packet.steps.Lts as lts
-use Rattle.ground.proofs.number.wide.Reads as wide-reads
-use Rattle.command.proofs.decode.decode.Reads as decode-reads
-use Rattle.command.proofs.decode.kind_of.Reads as kind-of-reads
-use Rattle.target.proofs.packet.ask_sense.Reads as ask-sense-reads
-use Rattle.target.proofs.packet.gated.Reads as gated-reads
-use Rattle.target.proofs.packet.passed.Reads as passed-reads
 
 returns : tie.Need-returns
 returns c = let x = c .before .before .before .before .before .before .before .before .before .before .before .before .before .before .args in

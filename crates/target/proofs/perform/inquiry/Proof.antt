@@ -6,11 +6,6 @@ use Rattle.target.specs.PerformLaws.{performed-fails, performed-goes, in
 use borrow.Author.Needs.{needs}
 use Rattle.target.proofs.perform.inquiry.Statement.{statement}
 use Rattle.target.proofs.perform.inquiry.Tie as tie
-use Rattle.target.proofs.perform.inquiry.Reads as reads
-use Rattle.target.proofs.perform.inquiry.Lts as lts
-use Rattle.ground.proofs.memory.put_cut.Reads as put-cut-reads
-use Rattle.ground.proofs.number.wide.Reads as wide-reads
-use Rattle.command.proofs.field.bit0.Reads as bit0-reads
 
 returns : tie.Need-returns
 returns c = performed-fails _ (inquiry-fails _ _ (sym (c .before .bit0 .ensures) ∙ c .if1 .taken))

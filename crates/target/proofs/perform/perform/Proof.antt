@@ -6,12 +6,6 @@ use Rattle.target.specs.PerformLaws.{performed-fails, perform-empty, per
 use borrow.Author.Needs.{needs}
 use Rattle.target.proofs.perform.perform.Statement.{statement}
 use Rattle.target.proofs.perform.perform.Tie as tie
-use Rattle.target.proofs.perform.perform.Reads as reads
-use Rattle.target.proofs.perform.perform.Lts as lts
-use Rattle.command.proofs.decode.needs_disc.Reads as needs-disc-reads
-use Rattle.command.proofs.tray.no_medium.Reads as no-medium-reads
-use Rattle.drive.proofs.state.Mechanics.is_loaded.Reads as is-loaded-reads
-use Rattle.target.proofs.perform.work.Reads as work-reads
 
 work-requires : tie.Need-work-requires
 work-requires c κs = let q = c .before .before .before .before .before .before .before .before .before .pre in record { twelve = q .twelve; room = q .room; ready = λ h. q .ready (sym (c .before .before .is-loaded .ensures) ∙ c .before .if2 .taken) }

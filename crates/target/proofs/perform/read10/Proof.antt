@@ -6,11 +6,6 @@ use Rattle.command.specs.Command.{count10}
 use borrow.Author.Needs.{needs}
 use Rattle.target.proofs.perform.read10.Statement.{statement}
 use Rattle.target.proofs.perform.read10.Tie as tie
-use Rattle.target.proofs.perform.read10.Reads as reads
-use Rattle.target.proofs.perform.read10.Lts as lts
-use Rattle.ground.proofs.number.word32.Reads as word32-reads
-use Rattle.target.proofs.perform.read.Reads as read-reads
-use Rattle.target.proofs.perform.word_at.Reads as word-at-reads
 
 returns : tie.Need-returns
 returns c = let n = c .before .word32 .ensures .0 ∙ zero-add (count10 (now (c .before .before .before .before .before .before .before .args .p))) in

@@ -3,10 +3,6 @@ use mathlib.Core.Path.{_∙_}
 use borrow.Author.Needs.{needs}
 use Rattle.target.proofs.perform.read12.Statement.{statement}
 use Rattle.target.proofs.perform.read12.Tie as tie
-use Rattle.target.proofs.perform.read12.Reads as reads
-use Rattle.target.proofs.perform.read12.Lts as lts
-use Rattle.target.proofs.perform.read.Reads as read-reads
-use Rattle.target.proofs.perform.word_at.Reads as word-at-reads
 
 returns : tie.Need-returns
 returns c = c .read .ensures ∙ rw (c .before .before .word-at .ensures .0, c .before .word-at2 .ensures .0)

@@ -5,10 +5,6 @@ use Rattle.target.specs.PerformLaws.{performed-goes}
 use borrow.Author.Needs.{needs}
 use Rattle.target.proofs.perform.read_capacity.Statement.{statement}
 use Rattle.target.proofs.perform.read_capacity.Tie as tie
-use Rattle.target.proofs.perform.read_capacity.Reads as reads
-use Rattle.target.proofs.perform.read_capacity.Lts as lts
-use Rattle.ground.proofs.memory.put_cut.Reads as put-cut-reads
-use Rattle.ground.proofs.number.bytes32.Reads as bytes32-reads
 
 returns : tie.Need-returns
 returns c = performed-goes _ refl (let b = c .before .before .before .before .before .before .before .before .pre .1 in omega arith) (rw (c .before .before .before .before .before .bytes32 .ensures) at (c .before .before .put-cut .ensures))

@@ -8,18 +8,6 @@ use Rattle.target.specs.PerformLaws.{readOff-leads, readOff-least, perfo
 use borrow.Author.Needs.{needs}
 use Rattle.target.proofs.perform.work.Statement.{statement}
 use Rattle.target.proofs.perform.work.Tie as tie
-use Rattle.target.proofs.perform.work.Reads as reads
-use Rattle.target.proofs.perform.work.Lts as lts
-use Rattle.command.proofs.tray.prevent.Reads as prevent-reads
-use Rattle.command.proofs.tray.done.Reads as done-reads
-use Rattle.target.proofs.perform.inquiry.Reads as inquiry-reads
-use Rattle.target.proofs.perform.read10.Reads as read10-reads
-use Rattle.target.proofs.perform.read12.Reads as read12-reads
-use Rattle.target.proofs.perform.read_capacity.Reads as read-capacity-reads
-use Rattle.target.proofs.perform.seek.Reads as seek-reads
-use Rattle.target.proofs.perform.word_at.Reads as word-at-reads
-use Rattle.command.proofs.tray.start_stop.Reads as start-stop-reads
-use Rattle.target.proofs.read_toc.read_toc.Reads as read-toc-reads
 
 inquiry-requires : tie.Need-inquiry-requires
 inquiry-requires c κs = (c .before .before .before .before .before .before .pre .twelve, c .before .before .before .before .before .before .pre .room)

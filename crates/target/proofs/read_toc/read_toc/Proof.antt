@@ -14,12 +14,6 @@ use Rattle.target.specs.PerformLaws.{performed-fails, performed-goes, re
 use borrow.Author.Needs.{needs}
 use Rattle.target.proofs.read_toc.read_toc.Statement.{statement}
 use Rattle.target.proofs.read_toc.read_toc.Tie as tie
-use Rattle.target.proofs.read_toc.read_toc.Reads as reads
-use Rattle.target.proofs.read_toc.read_toc.Lts as lts
-use Rattle.ground.proofs.number.word16.Reads as word16-reads
-use Rattle.target.proofs.read_toc.toc_ask.Reads as toc-ask-reads
-use Rattle.toc.proofs.answer.put_toc.Reads as put-toc-reads
-use Rattle.toc.proofs.answer.toc_bad.Reads as toc-bad-reads
 
 -- what the field checks say
 told :

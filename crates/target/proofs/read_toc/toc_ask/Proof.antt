@@ -2,10 +2,6 @@
 use borrow.Author.Needs.{needs}
 use Rattle.target.proofs.read_toc.toc_ask.Statement.{statement}
 use Rattle.target.proofs.read_toc.toc_ask.Tie as tie
-use Rattle.target.proofs.read_toc.toc_ask.Reads as reads
-use Rattle.target.proofs.read_toc.toc_ask.Lts as lts
-use Rattle.command.proofs.field.bit1.Reads as bit1-reads
-use Rattle.ground.proofs.number.wide.Reads as wide-reads
 
 returns : tie.Need-returns
 returns c = rw (c .before .before .before .wide .ensures .same, c .before .bit1 .ensures)

@@ -11,12 +11,6 @@ use Rattle.toc.specs.AnswerLaws.{format0-laid}
 use borrow.Author.Needs.{needs}
 use Rattle.toc.proofs.answer.put_format0.Statement.{statement}
 use Rattle.toc.proofs.answer.put_format0.Tie as tie
-use Rattle.toc.proofs.answer.put_format0.Reads as reads
-use Rattle.toc.proofs.answer.put_format0.Lts as lts
-use Rattle.toc.proofs.answer.put_head.Reads as put-head-reads
-use Rattle.toc.proofs.shown.put_all.Reads as put-all-reads
-use Rattle.toc.proofs.shown.put_described.Reads as put-described-reads
-use Rattle.toc.proofs.shown.shown_count.Reads as shown-count-reads
 
 -- at most as many tracks are shown as there are descriptors
 few : (c : tie.After-shown-count) → c .shown-count .result ≤ length (now (c .before .before .before .args .d)) / 11

@@ -4,10 +4,6 @@ use Rattle.toc.specs.AnswerLaws.{format1-laid}
 use borrow.Author.Needs.{needs}
 use Rattle.toc.proofs.answer.put_format1.Statement.{statement}
 use Rattle.toc.proofs.answer.put_format1.Tie as tie
-use Rattle.toc.proofs.answer.put_format1.Reads as reads
-use Rattle.toc.proofs.answer.put_format1.Lts as lts
-use Rattle.toc.proofs.answer.put_head.Reads as put-head-reads
-use Rattle.toc.proofs.shown.put_described.Reads as put-described-reads
 
 returns : tie.Need-returns
 returns c = rw (format1-laid (c .before .before .before .before .before .before .before .before .before .args .disc) (c .before .before .before .before .before .before .before .before .before .args .msf)) (laid-more (c .before .before .before .before .before .before .put-head .ensures) (c .before .before .put-described .ensures))

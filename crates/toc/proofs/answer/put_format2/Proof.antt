@@ -5,11 +5,6 @@ use Rattle.toc.specs.AnswerLaws.{format2-laid}
 use borrow.Author.Needs.{needs}
 use Rattle.toc.proofs.answer.put_format2.Statement.{statement}
 use Rattle.toc.proofs.answer.put_format2.Tie as tie
-use Rattle.toc.proofs.answer.put_format2.Reads as reads
-use Rattle.toc.proofs.answer.put_format2.Lts as lts
-use Rattle.toc.proofs.answer.put_head.Reads as put-head-reads
-use Rattle.toc.proofs.answer.sessions_from.Reads as sessions-from-reads
-use Rattle.toc.proofs.shown.put_all.Reads as put-all-reads
 
 returns : tie.Need-returns
 returns c = let x = c .before .before .before .before .before .before .before .before .before .before .before .args in

@@ -4,11 +4,6 @@ use Rattle.toc.specs.AnswerLaws.{tocBytes-0, tocBytes-1, tocBytes-2}
 use borrow.Author.Needs.{needs}
 use Rattle.toc.proofs.answer.put_full.Statement.{statement}
 use Rattle.toc.proofs.answer.put_full.Tie as tie
-use Rattle.toc.proofs.answer.put_full.Reads as reads
-use Rattle.toc.proofs.answer.put_full.Lts as lts
-use Rattle.toc.proofs.answer.put_format0.Reads as put-format0-reads
-use Rattle.toc.proofs.answer.put_format1.Reads as put-format1-reads
-use Rattle.toc.proofs.answer.put_format2.Reads as put-format2-reads
 
 returns : tie.Need-returns
 returns c = rw (tocBytes-0 _ _ _ _ _ (c .before .before .before .before .if1 .taken)) (c .before .before .put-format0 .ensures)

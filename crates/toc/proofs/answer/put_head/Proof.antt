@@ -2,10 +2,6 @@
 use borrow.Author.Needs.{needs}
 use Rattle.toc.proofs.answer.put_head.Statement.{statement}
 use Rattle.toc.proofs.answer.put_head.Tie as tie
-use Rattle.toc.proofs.answer.put_head.Reads as reads
-use Rattle.toc.proofs.answer.put_head.Lts as lts
-use Rattle.ground.proofs.memory.copy_front.Reads as copy-front-reads
-use Rattle.ground.proofs.number.bytes16.Reads as bytes16-reads
 
 returns : tie.Need-returns
 returns c = rw (c .before .before .before .before .before .bytes16 .ensures) at (c .before .before .copy-front .ensures)

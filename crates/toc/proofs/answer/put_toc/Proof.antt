@@ -6,10 +6,6 @@ use Rattle.ground.specs.Memory.{laid-cut}
 use borrow.Author.Needs.{needs}
 use Rattle.toc.proofs.answer.put_toc.Statement.{statement}
 use Rattle.toc.proofs.answer.put_toc.Tie as tie
-use Rattle.toc.proofs.answer.put_toc.Reads as reads
-use Rattle.toc.proofs.answer.put_toc.Lts as lts
-use Rattle.toc.proofs.answer.put_full.Reads as put-full-reads
-use Rattle.toc.proofs.answer.smaller.Reads as smaller-reads
 
 slice-aggregate-put-full : tie.Need-slice-aggregate-put-full
 slice-aggregate-put-full c = sym (length-take-le _ _ (let e = c .before .smaller .ensures in omega arith))

@@ -9,11 +9,6 @@ use Rattle.toc.specs.AnswerLaws.{drop-held}
 use borrow.Author.Needs.{needs}
 use Rattle.toc.proofs.answer.sessions_from.Statement.{statement}
 use Rattle.toc.proofs.answer.sessions_from.Tie as tie
-use Rattle.toc.proofs.answer.sessions_from.Reads as reads
-use Rattle.toc.proofs.answer.sessions_from.Lts as lts
-use Rattle.disc.proofs.session.starts_after.Reads as starts-after-reads
-use Rattle.toc.proofs.answer.sessions_before.Reads as sessions-before-reads
-use Rattle.toc.proofs.answer.smaller.Reads as smaller-reads
 
 returns : tie.Need-returns
 returns c = let d = now (c .before .before .before .before .before .args .d) in

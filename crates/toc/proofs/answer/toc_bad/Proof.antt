@@ -5,8 +5,6 @@ use Rattle.ground.specs.Tests.{when, unless, and-on, and-off}
 use Rattle.toc.specs.Answer.{tocBad}
 use Rattle.toc.proofs.answer.toc_bad.Statement.{statement}
 use Rattle.toc.proofs.answer.toc_bad.Tie as tie
-use Rattle.toc.proofs.answer.toc_bad.Reads as reads
-use Rattle.toc.proofs.answer.toc_bad.Lts as lts
 
 returns : tie.Need-returns
 unfolding tocBad

@@ -7,10 +7,6 @@ use Rattle.toc.specs.Shown.{isShown}
 use borrow.Author.Needs.{needs}
 use Rattle.toc.proofs.shown.is_shown.Statement.{statement}
 use Rattle.toc.proofs.shown.is_shown.Tie as tie
-use Rattle.toc.proofs.shown.is_shown.Reads as reads
-use Rattle.toc.proofs.shown.is_shown.Lts as lts
-use Rattle.disc.proofs.layout.is_track.Reads as is-track-reads
-use Rattle.ground.proofs.number.wide.Reads as wide-reads
 
 -- what the test of the widened POINT told
 told : (c : tie.After-is-track) → c .is-track .result ≡ isTrack (pointAt (now (c .before .before .before .before .args .d)) (c .before .before .before .before .args .j))

@@ -11,9 +11,6 @@ use Rattle.disc.specs.Layout.{rows}
 use Rattle.toc.specs.ShownLaws.{listed, listed-none, listed-more}
 use Rattle.toc.proofs.shown.put_all.Statement.{statement}
 use Rattle.toc.proofs.shown.put_all.Tie as tie
-use Rattle.toc.proofs.shown.put_all.Reads as reads
-use Rattle.toc.proofs.shown.put_all.Lts as lts
-use Rattle.toc.proofs.shown.put_one.Reads as put-one-reads
 
 abbrev Inv-loop : tie.InvT-loop
 Inv-loop d show part₀ end j₀ at₀ part j at =
@@ -28,15 +25,6 @@ loop-holds c = (omega arith, refl, rw listed-none (laid-none _), refl)
 sub-put-one : tie.Need-sub-put-one Inv-loop μ-loop
 sub-put-one c = laid-within (c .before .loop .inv .2)
 
-part-put-one-start : tie.Need-part-put-one-start Inv-loop μ-loop
-part-put-one-start c = search needs
-
-part-put-one-end : tie.Need-part-put-one-end Inv-loop μ-loop
-part-put-one-end c = search needs
-
-put-one-requires : tie.Need-put-one-requires Inv-loop μ-loop
-put-one-requires c κs = omega arith
-
 add-at : tie.Need-add-at Inv-loop μ-loop
 add-at c =
     let m = laid-more (c .before .before .before .before .before .loop .inv .2) (c .before .before .put-one .ensures) in
@@ -44,19 +32,10 @@ add-at c =
     let e = laid-length m in
     omega arith
 
-add-j : tie.Need-add-j Inv-loop μ-loop
-add-j c = omega arith
-
-loop-less : tie.Need-loop-less Inv-loop μ-loop
-loop-less c = omega arith
-
 loop-again : tie.Need-loop-again Inv-loop μ-loop
 loop-again c =
     let m = laid-more (c .before .before .before .before .before .loop .inv .2) (c .before .before .put-one .ensures) in
     (omega arith, refl, rw listed-more m, laid-length m)
-
-same-length : tie.Need-same-length Inv-loop μ-loop
-same-length c = search needs
 
 returns : tie.Need-returns Inv-loop μ-loop
 returns c =
@@ -67,17 +46,5 @@ returns c =
 pub put-all-spec : {M : Type 1} → statement M
 put-all-spec =
     tie.close
-    (tie.spec
-    Inv-loop
-    μ-loop
-    loop-holds
-    sub-put-one
-    part-put-one-start
-    part-put-one-end
-    put-one-requires
-    add-at
-    add-j
-    loop-less
-    loop-again
-    same-length
-    returns)
+    (tie.spec Inv-loop μ-loop loop-holds sub-put-one (λ c. search needs) (λ c. search needs) (λ c κs. omega arith) add-at (λ c. omega arith)
+    (λ c. omega arith) loop-again (λ c. search needs) returns)

@@ -4,10 +4,6 @@ use Rattle.toc.specs.ShownLaws.{four, shownAddress-length}
 use borrow.Author.Needs.{needs}
 use Rattle.toc.proofs.shown.put_described.Statement.{statement}
 use Rattle.toc.proofs.shown.put_described.Tie as tie
-use Rattle.toc.proofs.shown.put_described.Reads as reads
-use Rattle.toc.proofs.shown.put_described.Lts as lts
-use Rattle.ground.proofs.memory.copy_front.Reads as copy-front-reads
-use Rattle.toc.proofs.shown.shown_address.Reads as shown-address-reads
 
 returns : tie.Need-returns
 returns c = let x = c .before .before .before .before .before .before .before .args in

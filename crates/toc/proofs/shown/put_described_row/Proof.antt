@@ -3,10 +3,6 @@ use Rattle.disc.specs.Layout.{addressAt}
 use borrow.Author.Needs.{needs}
 use Rattle.toc.proofs.shown.put_described_row.Statement.{statement}
 use Rattle.toc.proofs.shown.put_described_row.Tie as tie
-use Rattle.toc.proofs.shown.put_described_row.Reads as reads
-use Rattle.toc.proofs.shown.put_described_row.Lts as lts
-use Rattle.address.proofs.address_of.Reads as address-of-reads
-use Rattle.toc.proofs.shown.put_described.Reads as put-described-reads
 
 returns : tie.Need-returns
 unfolding addressAt

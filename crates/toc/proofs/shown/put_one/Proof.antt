@@ -3,10 +3,6 @@ use Rattle.toc.specs.ShownLaws.{shown}
 use borrow.Author.Needs.{needs}
 use Rattle.toc.proofs.shown.put_one.Statement.{statement}
 use Rattle.toc.proofs.shown.put_one.Tie as tie
-use Rattle.toc.proofs.shown.put_one.Reads as reads
-use Rattle.toc.proofs.shown.put_one.Lts as lts
-use Rattle.toc.proofs.shown.put_row.Reads as put-row-reads
-use Rattle.toc.proofs.shown.put_track.Reads as put-track-reads
 
 returns : tie.Need-returns
 unfolding shown

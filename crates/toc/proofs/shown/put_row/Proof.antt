@@ -6,9 +6,6 @@ use Rattle.disc.specs.Layout.{row}
 use borrow.Author.Needs.{needs}
 use Rattle.toc.proofs.shown.put_row.Statement.{statement}
 use Rattle.toc.proofs.shown.put_row.Tie as tie
-use Rattle.toc.proofs.shown.put_row.Reads as reads
-use Rattle.toc.proofs.shown.put_row.Lts as lts
-use Rattle.ground.proofs.memory.copy_front.Reads as copy-front-reads
 
 returns : tie.Need-returns
 returns c = let a = row * c .before .before .before .before .before .before .before .args .j in

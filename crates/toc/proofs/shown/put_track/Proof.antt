@@ -6,10 +6,6 @@ use Rattle.toc.specs.ShownLaws.{shownTrack-is, shownTrack-not}
 use borrow.Author.Needs.{needs}
 use Rattle.toc.proofs.shown.put_track.Statement.{statement}
 use Rattle.toc.proofs.shown.put_track.Tie as tie
-use Rattle.toc.proofs.shown.put_track.Reads as reads
-use Rattle.toc.proofs.shown.put_track.Lts as lts
-use Rattle.toc.proofs.shown.is_shown.Reads as is-shown-reads
-use Rattle.toc.proofs.shown.put_described_row.Reads as put-described-row-reads
 
 returns : tie.Need-returns
 returns c = let x = c .before .before .before .before .before .before .before .before .args in

@@ -8,10 +8,6 @@ use Rattle.toc.specs.Shown.{shownAddress}
 use borrow.Author.Needs.{needs}
 use Rattle.toc.proofs.shown.shown_address.Statement.{statement}
 use Rattle.toc.proofs.shown.shown_address.Tie as tie
-use Rattle.toc.proofs.shown.shown_address.Reads as reads
-use Rattle.toc.proofs.shown.shown_address.Lts as lts
-use Rattle.address.proofs.to_msf.Reads as to-msf-reads
-use Rattle.ground.proofs.number.bytes32.Reads as bytes32-reads
 
 fields : MsfAnswer → List ℕ
 fields r = 0 ∷ r .minute ∷ r .second ∷ r .frame ∷ []

@@ -9,9 +9,6 @@ use Rattle.disc.specs.Layout.{rows}
 use Rattle.toc.specs.ShownLaws.{shownCount, shownCount-none, shownCount-is, shownCount-not, shownCount-within}
 use Rattle.toc.proofs.shown.shown_count.Statement.{statement}
 use Rattle.toc.proofs.shown.shown_count.Tie as tie
-use Rattle.toc.proofs.shown.shown_count.Reads as reads
-use Rattle.toc.proofs.shown.shown_count.Lts as lts
-use Rattle.toc.proofs.shown.is_shown.Reads as is-shown-reads
 
 abbrev Inv-loop : tie.InvT-loop
 Inv-loop d n end j₀ k₀ j k = (j ≤ end) × (end ≡ length d / 11) × (k ≡ shownCount n d j)
@@ -22,20 +19,11 @@ abbrev μ-loop : tie.MeasureT-loop
 loop-holds : tie.Need-loop-holds Inv-loop μ-loop
 loop-holds c = (omega arith, refl, sym (shownCount-none _ _))
 
-is-shown-requires : tie.Need-is-shown-requires Inv-loop μ-loop
-is-shown-requires c κs = omega arith
-
 add-k : tie.Need-add-k Inv-loop μ-loop
 add-k c =
     let x = c .before .before .before .before .before .args in
     let l = c .before .before .before .loop in
     omega (arith, shownCount-within (x .n) (now (x .d)) (l .j))
-
-add-j : tie.Need-add-j Inv-loop μ-loop
-add-j c = omega arith
-
-loop-less : tie.Need-loop-less Inv-loop μ-loop
-loop-less c = omega arith
 
 loop-again : tie.Need-loop-again Inv-loop μ-loop
 loop-again c =
@@ -57,13 +45,4 @@ returns c =
 pub shown-count-spec : {M : Type 1} → statement M
 shown-count-spec =
     tie.close
-    (tie.spec
-    Inv-loop
-    μ-loop
-    loop-holds
-    is-shown-requires
-    add-k
-    add-j
-    loop-less
-    loop-again
-    returns)
+    (tie.spec Inv-loop μ-loop loop-holds (λ c κs. omega arith) add-k (λ c. omega arith) (λ c. omega arith) loop-again returns)

@@ -10,10 +10,6 @@ use Rattle.tracks.specs.Track.{trackAt, passes}
 use Rattle.tracks.specs.RunLaws.{passes-read}
 use Rattle.tracks.proofs.run.all_pass.Statement.{statement}
 use Rattle.tracks.proofs.run.all_pass.Tie as tie
-use Rattle.tracks.proofs.run.all_pass.Reads as reads
-use Rattle.tracks.proofs.run.all_pass.Lts as lts
-use Rattle.tracks.proofs.run.passes.Reads as passes-reads
-use Rattle.tracks.proofs.track.track_at.Reads as track-at-reads
 
 abbrev Inv-loop : tie.InvT-loop
 Inv-loop d a n end j₀ j = (j ≤ rows d) × (every j (λ i. passes (trackAt d i) a (a + n)) ≡ true)
@@ -23,18 +19,6 @@ abbrev μ-loop : tie.MeasureT-loop
 
 loop-holds : tie.Need-loop-holds Inv-loop μ-loop
 loop-holds c = (omega arith, every-none _)
-
-track-at-requires : tie.Need-track-at-requires Inv-loop μ-loop
-track-at-requires c κs = omega arith
-
-passes-requires : tie.Need-passes-requires Inv-loop μ-loop
-passes-requires c κs = search needs
-
-add-j : tie.Need-add-j Inv-loop μ-loop
-add-j c = omega arith
-
-loop-less : tie.Need-loop-less Inv-loop μ-loop
-loop-less c = omega arith
 
 loop-again : tie.Need-loop-again Inv-loop μ-loop
 loop-again c = (omega arith, every-more _ _ (c .before .before .before .before .loop .inv .1) (sym (passes-read _ _ _ _ (c .before .before .track-at .ensures)) ∙ sym (c .before .passes .ensures) ∙ c .if1 .taken))
@@ -48,14 +32,5 @@ returns-2 c = sym (every-all _ _ (λ i k. every-at _ _ (c .before .loop .inv .1)
 pub all-pass-spec : {M : Type 1} → statement M
 all-pass-spec =
     tie.close
-    (tie.spec
-    Inv-loop
-    μ-loop
-    loop-holds
-    track-at-requires
-    passes-requires
-    add-j
-    loop-less
-    loop-again
-    returns
-    returns-2)
+    (tie.spec Inv-loop μ-loop loop-holds (λ c κs. omega arith) (λ c κs. search needs) (λ c. omega arith) (λ c. omega arith) loop-again
+    returns returns-2)

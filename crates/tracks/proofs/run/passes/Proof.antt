@@ -6,11 +6,6 @@ use Rattle.tracks.specs.RunLaws.{passes-before, passes-past, passes-trac
 use borrow.Author.Needs.{needs}
 use Rattle.tracks.proofs.run.passes.Statement.{statement}
 use Rattle.tracks.proofs.run.passes.Tie as tie
-use Rattle.tracks.proofs.run.passes.Reads as reads
-use Rattle.tracks.proofs.run.passes.Lts as lts
-use Rattle.disc.proofs.layout.is_track.Reads as is-track-reads
-use Rattle.ground.proofs.number.wide.Reads as wide-reads
-use Rattle.tracks.proofs.track.is_data.Reads as is-data-reads
 
 returns : tie.Need-returns
 returns c = sym (passes-before _ _ _ (c .if1 .taken))

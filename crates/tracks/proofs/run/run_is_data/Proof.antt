@@ -5,12 +5,6 @@ use Rattle.tracks.specs.RunLaws.{run-none, run-off, run-on}
 use borrow.Author.Needs.{needs}
 use Rattle.tracks.proofs.run.run_is_data.Statement.{statement}
 use Rattle.tracks.proofs.run.run_is_data.Tie as tie
-use Rattle.tracks.proofs.run.run_is_data.Reads as reads
-use Rattle.tracks.proofs.run.run_is_data.Lts as lts
-use Rattle.tracks.proofs.run.all_pass.Reads as all-pass-reads
-use Rattle.tracks.proofs.track.descriptors.Reads as descriptors-reads
-use Rattle.tracks.proofs.track.is_data.Reads as is-data-reads
-use Rattle.tracks.proofs.track.track_of.Reads as track-of-reads
 
 returns : tie.Need-returns
 returns c = sym (run-none _ _ _ (c .if1 .taken))

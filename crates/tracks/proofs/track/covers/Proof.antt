@@ -5,8 +5,6 @@ use Rattle.ground.specs.Tests.{and-on, and-off}
 use Rattle.tracks.specs.Track.{covers}
 use Rattle.tracks.proofs.track.covers.Statement.{statement}
 use Rattle.tracks.proofs.track.covers.Tie as tie
-use Rattle.tracks.proofs.track.covers.Reads as reads
-use Rattle.tracks.proofs.track.covers.Lts as lts
 
 returns : tie.Need-returns
 unfolding covers

@@ -6,8 +6,6 @@ use Rattle.ground.specs.Memory.{rest-all}
 use borrow.Author.Needs.{needs}
 use Rattle.tracks.proofs.track.descriptors.Statement.{statement}
 use Rattle.tracks.proofs.track.descriptors.Tie as tie
-use Rattle.tracks.proofs.track.descriptors.Reads as reads
-use Rattle.tracks.proofs.track.descriptors.Lts as lts
 
 returns : tie.Need-returns
 returns c = sym (drop-of-length-le (c .before .before .args .t .now) {i = 4} (omega arith))

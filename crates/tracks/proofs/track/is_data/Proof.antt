@@ -2,9 +2,6 @@
 use borrow.Author.Needs.{needs}
 use Rattle.tracks.proofs.track.is_data.Statement.{statement}
 use Rattle.tracks.proofs.track.is_data.Tie as tie
-use Rattle.tracks.proofs.track.is_data.Reads as reads
-use Rattle.tracks.proofs.track.is_data.Lts as lts
-use Rattle.ground.proofs.number.wide.Reads as wide-reads
 
 returns : tie.Need-returns
 returns c = rw (c .wide .ensures .same)

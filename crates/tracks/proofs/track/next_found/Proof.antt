@@ -4,9 +4,6 @@ use Rattle.tracks.specs.TrackLaws.{nextFound-here, nextFound-on}
 use borrow.Author.Needs.{needs}
 use Rattle.tracks.proofs.track.next_found.Statement.{statement}
 use Rattle.tracks.proofs.track.next_found.Tie as tie
-use Rattle.tracks.proofs.track.next_found.Reads as reads
-use Rattle.tracks.proofs.track.next_found.Lts as lts
-use Rattle.tracks.proofs.track.wanted.Reads as wanted-reads
 
 returns : tie.Need-returns
 returns c = sym (nextFound-here _ _ _ (sym (c .before .wanted .ensures) ∙ c .if1 .taken))

@@ -3,8 +3,6 @@ use mathlib.Core.Path.{sym}
 use Rattle.tracks.specs.TrackLaws.{nextOut-here, nextOut-on}
 use Rattle.tracks.proofs.track.next_out.Statement.{statement}
 use Rattle.tracks.proofs.track.next_out.Tie as tie
-use Rattle.tracks.proofs.track.next_out.Reads as reads
-use Rattle.tracks.proofs.track.next_out.Lts as lts
 
 returns : tie.Need-returns
 returns c = sym (nextOut-here _ (c .if1 .taken))

@@ -3,9 +3,6 @@ use Rattle.disc.specs.Layout.{addressAt}
 use borrow.Author.Needs.{needs}
 use Rattle.tracks.proofs.track.track_at.Statement.{statement}
 use Rattle.tracks.proofs.track.track_at.Tie as tie
-use Rattle.tracks.proofs.track.track_at.Reads as reads
-use Rattle.tracks.proofs.track.track_at.Lts as lts
-use Rattle.address.proofs.address_of.Reads as address-of-reads
 
 returns : tie.Need-returns
 unfolding addressAt

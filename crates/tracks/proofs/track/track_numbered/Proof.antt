@@ -3,10 +3,6 @@ use Rattle.tracks.specs.Track.{trackNumbered}
 use borrow.Author.Needs.{needs}
 use Rattle.tracks.proofs.track.track_numbered.Statement.{statement}
 use Rattle.tracks.proofs.track.track_numbered.Tie as tie
-use Rattle.tracks.proofs.track.track_numbered.Reads as reads
-use Rattle.tracks.proofs.track.track_numbered.Lts as lts
-use Rattle.tracks.proofs.track.descriptors.Reads as descriptors-reads
-use Rattle.tracks.proofs.track.found.Reads as found-reads
 
 returns : tie.Need-returns
 unfolding trackNumbered

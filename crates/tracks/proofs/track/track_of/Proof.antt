@@ -4,11 +4,6 @@ use Rattle.tracks.specs.TrackLaws.{trackOf-below, trackOf-past}
 use borrow.Author.Needs.{needs}
 use Rattle.tracks.proofs.track.track_of.Statement.{statement}
 use Rattle.tracks.proofs.track.track_of.Tie as tie
-use Rattle.tracks.proofs.track.track_of.Reads as reads
-use Rattle.tracks.proofs.track.track_of.Lts as lts
-use Rattle.tracks.proofs.track.descriptors.Reads as descriptors-reads
-use Rattle.tracks.proofs.track.found.Reads as found-reads
-use Rattle.tracks.proofs.track.no_track.Reads as no-track-reads
 
 returns : tie.Need-returns
 returns c = trackOf-below _ _ (rw (c .before .before .before .descriptors .ensures) at (c .before .before .found .ensures)) (c .if1 .taken)

@@ -5,11 +5,6 @@ use Rattle.tracks.specs.TrackLaws.{wanted-not, wanted-block, wanted-numb
 use borrow.Author.Needs.{needs}
 use Rattle.tracks.proofs.track.wanted.Statement.{statement}
 use Rattle.tracks.proofs.track.wanted.Tie as tie
-use Rattle.tracks.proofs.track.wanted.Reads as reads
-use Rattle.tracks.proofs.track.wanted.Lts as lts
-use Rattle.disc.proofs.layout.is_track.Reads as is-track-reads
-use Rattle.ground.proofs.number.wide.Reads as wide-reads
-use Rattle.tracks.proofs.track.covers.Reads as covers-reads
 
 returns : tie.Need-returns
 returns c = rw (c .covers .ensures, c .before .before .ask .given .1) (wanted-block _ _ _ (ap isTrack (sym (c .before .before .before .before .before .before .wide .ensures .same)) ∙ sym (c .before .before .before .before .before .is-track .ensures) ∙ c .before .before .before .before .if1 .taken))

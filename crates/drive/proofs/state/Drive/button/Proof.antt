@@ -5,14 +5,6 @@ use Rattle.drive.specs.StateLaws.{button-closes, button-locked, button-o
 use borrow.Author.Needs.{needs}
 use Rattle.drive.proofs.state.Drive.button.Statement.{statement}
 use Rattle.drive.proofs.state.Drive.button.Tie as tie
-use Rattle.drive.proofs.state.Drive.button.Reads as reads
-use Rattle.drive.proofs.state.Drive.button.Lts as lts
-use Rattle.drive.proofs.sense.is_known.Reads as is-known-reads
-use Rattle.drive.proofs.state.Drive.shift.Reads as shift-reads
-use Rattle.drive.proofs.state.Mechanics.closing.Reads as closing-reads
-use Rattle.drive.proofs.state.Mechanics.opening.Reads as opening-reads
-use Rattle.drive.proofs.state.moves.Reads as moves-reads
-use Rattle.drive.proofs.state.refuse.Reads as refuse-reads
 
 returns : tie.Need-returns
 returns c = let d = c .before .before .before .before .before .before .args .self in c .moves .ensures ∙ ap moves (c .before .shift .ensures ∙ ap (shift d) (c .before .before .closing .ensures)) ∙ sym (button-closes d (sym (c .before .before .before .before .before .is-known .ensures) ∙ c .before .before .before .before .if1 .taken) (c .before .before .before .if2 .taken))

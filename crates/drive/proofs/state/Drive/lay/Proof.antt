@@ -5,12 +5,6 @@ use Rattle.drive.specs.StateLaws.{lay-full, lay-lays, lay-closed, lay-un
 use borrow.Author.Needs.{needs}
 use Rattle.drive.proofs.state.Drive.lay.Statement.{statement}
 use Rattle.drive.proofs.state.Drive.lay.Tie as tie
-use Rattle.drive.proofs.state.Drive.lay.Reads as reads
-use Rattle.drive.proofs.state.Drive.lay.Lts as lts
-use Rattle.drive.proofs.sense.is_known.Reads as is-known-reads
-use Rattle.drive.proofs.state.Drive.with_disc.Reads as with-disc-reads
-use Rattle.drive.proofs.state.moves.Reads as moves-reads
-use Rattle.drive.proofs.state.refuse.Reads as refuse-reads
 
 returns : tie.Need-returns
 returns c = let d = c .before .before .before .before .before .args .self in c .refuse .ensures ∙ sym (lay-full d (sym (c .before .before .before .before .is-known .ensures) ∙ c .before .before .before .if1 .taken) (c .before .before .if2 .taken) (c .before .if3 .taken))

@@ -5,12 +5,6 @@ use Rattle.drive.specs.StateLaws.{lift-lifts, lift-empty, lift-closed, l
 use borrow.Author.Needs.{needs}
 use Rattle.drive.proofs.state.Drive.lift.Statement.{statement}
 use Rattle.drive.proofs.state.Drive.lift.Tie as tie
-use Rattle.drive.proofs.state.Drive.lift.Reads as reads
-use Rattle.drive.proofs.state.Drive.lift.Lts as lts
-use Rattle.drive.proofs.sense.is_known.Reads as is-known-reads
-use Rattle.drive.proofs.state.Drive.with_disc.Reads as with-disc-reads
-use Rattle.drive.proofs.state.moves.Reads as moves-reads
-use Rattle.drive.proofs.state.refuse.Reads as refuse-reads
 
 returns : tie.Need-returns
 returns c = let d = c .before .before .before .before .before .before .args .self in c .moves .ensures ∙ ap moves (c .before .with-disc .ensures) ∙ sym (lift-lifts d (sym (c .before .before .before .before .before .is-known .ensures) ∙ c .before .before .before .before .if1 .taken) (c .before .before .before .if2 .taken) (c .before .before .if3 .taken))

@@ -3,10 +3,6 @@ use Rattle.drive.specs.State.{powerOn}
 use borrow.Author.Needs.{needs}
 use Rattle.drive.proofs.state.Drive.power_on.Statement.{statement}
 use Rattle.drive.proofs.state.Drive.power_on.Tie as tie
-use Rattle.drive.proofs.state.Drive.power_on.Reads as reads
-use Rattle.drive.proofs.state.Drive.power_on.Lts as lts
-use Rattle.drive.proofs.state.Mechanics.with_lock.Reads as with-lock-reads
-use Rattle.drive.proofs.state.Unit.powered_on.Reads as powered-on-reads
 
 returns : tie.Need-returns
 unfolding powerOn

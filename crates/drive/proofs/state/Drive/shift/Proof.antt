@@ -2,9 +2,6 @@
 use borrow.Author.Needs.{needs}
 use Rattle.drive.proofs.state.Drive.shift.Statement.{statement}
 use Rattle.drive.proofs.state.Drive.shift.Tie as tie
-use Rattle.drive.proofs.state.Drive.shift.Reads as reads
-use Rattle.drive.proofs.state.Drive.shift.Lts as lts
-use Rattle.drive.proofs.state.Unit.attend.Reads as attend-reads
 
 returns : tie.Need-returns
 returns c = cc

@@ -2,9 +2,6 @@
 use borrow.Author.Needs.{needs}
 use Rattle.drive.proofs.state.Drive.with_disc.Statement.{statement}
 use Rattle.drive.proofs.state.Drive.with_disc.Tie as tie
-use Rattle.drive.proofs.state.Drive.with_disc.Reads as reads
-use Rattle.drive.proofs.state.Drive.with_disc.Lts as lts
-use Rattle.drive.proofs.state.Mechanics.with_disc.Reads as with-disc-reads
 
 returns : tie.Need-returns
 returns c = cc

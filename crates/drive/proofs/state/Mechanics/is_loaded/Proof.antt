@@ -2,8 +2,6 @@
 use Rattle.ground.specs.Tests.{_and_}
 use Rattle.drive.proofs.state.Mechanics.is_loaded.Statement.{statement}
 use Rattle.drive.proofs.state.Mechanics.is_loaded.Tie as tie
-use Rattle.drive.proofs.state.Mechanics.is_loaded.Reads as reads
-use Rattle.drive.proofs.state.Mechanics.is_loaded.Lts as lts
 
 returns : tie.Need-returns
 unfolding _and_

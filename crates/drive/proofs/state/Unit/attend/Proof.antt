@@ -4,8 +4,6 @@ use Rattle.ground.specs.Tests.{when, unless}
 use Rattle.drive.specs.Unit.{attend}
 use Rattle.drive.proofs.state.Unit.attend.Statement.{statement}
 use Rattle.drive.proofs.state.Unit.attend.Tie as tie
-use Rattle.drive.proofs.state.Unit.attend.Reads as reads
-use Rattle.drive.proofs.state.Unit.attend.Lts as lts
 
 returns : tie.Need-returns
 unfolding attend

@@ -2,9 +2,6 @@
 use borrow.Author.Needs.{needs}
 use Rattle.drive.proofs.state.Unit.powered_on.Statement.{statement}
 use Rattle.drive.proofs.state.Unit.powered_on.Tie as tie
-use Rattle.drive.proofs.state.Unit.powered_on.Reads as reads
-use Rattle.drive.proofs.state.Unit.powered_on.Lts as lts
-use Rattle.drive.proofs.sense.sense_at.Reads as sense-at-reads
 
 returns : tie.Need-returns
 returns c = cc

@@ -1,15 +1,10 @@
--- `target::packet::finish` meets its contract: each arm builds the outcome that the definition gives for it.
+-- `outcome::finish` meets its contract: each arm builds the outcome that the definition gives for it.
 use mathlib.Core.Path.{sym, ap, _∙_}
 use Rattle.drive.specs.declared.sense.Sense.{Sense}
-use Rattle.target.specs.PacketLaws.{checked, finished}
+use Rattle.outcome.specs.Outcome.{checked, finished}
 use borrow.Author.Needs.{needs}
-use Rattle.target.proofs.packet.finish.Statement.{statement}
-use Rattle.target.proofs.packet.finish.Tie as tie
-use Rattle.target.proofs.packet.finish.Reads as reads
-use Rattle.target.proofs.packet.finish.Lts as lts
-use Rattle.drive.proofs.state.Unit.attend.Reads as attend-reads
-use Rattle.gate.proofs.fault.sense_of.Reads as sense-of-reads
-use Rattle.target.proofs.packet.check.Reads as check-reads
+use Rattle.outcome.proofs.finish.Statement.{statement}
+use Rattle.outcome.proofs.finish.Tie as tie
 
 returns : tie.Need-returns
 returns c = let x = c .before .before .before .before .before .args in

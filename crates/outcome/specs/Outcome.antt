@@ -1,0 +1,63 @@
+-- What the code hands back of a packet's answer.
+use Prim.Native.Nat.{ℕ, min}
+use mathlib.Core.Path.{_≡_}
+use mathlib.Core.List.{List}
+use lib.ListN.{length, take}
+use Rattle.ground.specs.Memory.{fill}
+use Rattle.drive.specs.declared.sense.Sense.{Sense}
+use Rattle.drive.specs.declared.state.Unit.{Unit}
+use Rattle.drive.specs.declared.state.Mechanics.{Mechanics}
+use Rattle.drive.specs.declared.state.Drive.{Drive}
+use Rattle.drive.specs.Unit.{attend}
+use Rattle.gate.specs.Fault.{senseOf}
+use Rattle.gate.specs.Unit.{hold}
+use Rattle.gate.specs.Gate.{Reply}
+use Rattle.command.specs.declared.done.Done.{Done}
+use Rattle.command.specs.declared.done.Done.the-variants.{Fails, Goes}
+use Rattle.outcome.specs.declared.Outcome.{Outcome}
+
+-- the state after the answer
+abbrev pub stateOf : Reply Mechanics → Drive
+stateOf a = record { unit = a .unit; mechanics = a .mechanics }
+
+-- "the bytes are the first n of the full answer, n the smaller of the two lengths"
+abbrev pub bytesOf : Reply Mechanics → List ℕ
+bytesOf a = take (a .limit) (a .full)
+
+abbrev pub outcomeOf : Reply Mechanics → Outcome
+outcomeOf a = record {
+  number = a .number;
+  status = a .status;
+  len = min (a .limit) (length (a .full));
+  start = a .start;
+  count = a .count;
+  state = stateOf a;
+}
+
+-- the outcome r and the memory m′ are what the answer says, of the memory m
+pub record Answered (a : Reply Mechanics) (m : List ℕ) (r : Outcome) (m′ : List ℕ) : Type 0 where
+  pub outcome : r ≡ outcomeOf a
+  pub memory : m′ ≡ fill m (bytesOf a)
+
+-- ---- what each way out hands back
+
+-- a refusal: "status 0, 0 bytes, start 0, count 0", the state unchanged
+abbrev pub refused : ℕ → Drive → Outcome
+refused n d = record { number = n; status = 0; len = 0; start = 0; count = 0; state = d }
+
+-- "CHECK CONDITION is status 02h, no bytes, .., the triple held as sense"
+abbrev pub checked : Sense → Unit → Mechanics → Outcome
+checked s u m = record { number = 0; status = 0x02; len = 0; start = 0; count = 0; state = record { unit = hold s u; mechanics = m } }
+
+-- a command's end: CHECK CONDITION over the unit u, or "GOOD is status 00h" over the unit v
+abbrev pub finished : Unit → Unit → Mechanics → Done → Outcome
+finished u v m (Fails f) = checked (senseOf f) u m
+finished u v m (Goes w) =
+    record {
+      number = 0;
+      status = 0x00;
+      len = w .len;
+      start = w .start;
+      count = w .count;
+      state = record { unit = attend (w .loading) v; mechanics = w .next };
+    }

@@ -1,0 +1,85 @@
+// What a packet hands back: a refusal, CHECK CONDITION or GOOD.
+use command::done::Done;
+use drive::sense::Sense;
+use drive::state::Drive;
+use drive::state::Mechanics;
+use drive::state::Unit;
+use gate::fault::sense_of;
+use gate::unit::Pending;
+use gate::unit::hold;
+use gate::unit::sense_of_pending;
+use gate::unit::told;
+ghost use mathlib.Core.Path.{_≡_};
+ghost use Rattle.gate.specs.Unit.{attentionSense, told};
+ghost use Rattle.outcome.specs.Outcome.{refused, checked, finished};
+
+// The refusal's number or 0, the status, how many bytes were written, the blocks that a READ names, and the next state.
+pub struct Outcome {
+    pub number: u8,
+    pub status: u8,
+    pub len: usize,
+    pub start: usize,
+    pub count: usize,
+    pub state: Drive,
+}
+
+// A refusal: nothing done, the state as it was handed in.
+pub fn refuse(number: u8, state: Drive) -> Outcome
+    ensures { λ r. ⌜ r ≡ refused number state ⌝ }
+{
+    Outcome {
+        number,
+        status: 0,
+        len: 0,
+        start: 0,
+        count: 0,
+        state,
+    }
+}
+
+// CHECK CONDITION: the triple held as sense.
+pub fn check(sense: Sense, unit: Unit, mechanics: Mechanics) -> Outcome
+    ensures { λ r. ⌜ r ≡ checked sense unit mechanics ⌝ }
+{
+    Outcome {
+        number: 0,
+        status: 0x02,
+        len: 0,
+        start: 0,
+        count: 0,
+        state: Drive {
+            unit: hold(unit, sense),
+            mechanics,
+        },
+    }
+}
+
+// A command's end: CHECK CONDITION over the unit u, or GOOD over the unit v, attending to a loading.
+pub fn finish(u: Unit, v: Unit, mechanics: Mechanics, done: Done) -> Outcome
+    ensures { λ r. ⌜ r ≡ finished u v mechanics done ⌝ }
+{
+    match done {
+        Done::Fails(f) => check(sense_of(f), u, mechanics),
+        Done::Goes(w) => {
+            let next = w.next;
+            Outcome {
+                number: 0,
+                status: 0x00,
+                len: w.len,
+                start: w.start,
+                count: w.count,
+                state: Drive {
+                    unit: v.attend(w.loading),
+                    mechanics: next,
+                },
+            }
+        }
+    }
+}
+
+// A telling: CHECK CONDITION with the attention's triple, and it stops being pending.
+pub fn tell(a: Pending, unit: Unit, mechanics: Mechanics) -> Outcome
+    ensures { λ r. ⌜ r ≡ checked (attentionSense a) (told a unit) mechanics ⌝ }
+{
+    check(sense_of_pending(a), told(unit, a), mechanics)
+}
