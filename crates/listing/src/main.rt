@@ -14,8 +14,11 @@ use libc::STDOUT_FILENO;
 use line::put_line;
 use print::front::front;
 use target::packet::packet;
+ghost use mathlib.Core.Path.{_≡_};
 ghost use Prim.Native.Nat.{_≤_};
 ghost use lib.ListN.{length};
+ghost use Rattle.disc.specs.Layout.{bound};
+ghost use Rattle.listing.specs.Run.{loaded, stateAfter};
 
 // The bytes of a packet.
 const PACKET: usize = 12;
@@ -33,7 +36,9 @@ fn write(text: &[u8]) -> bool {
 }
 
 // The drive after power-on, tray closed and a disc in.
-fn loaded() -> Drive {
+fn loaded() -> Drive
+    ensures { λ r. ⌜ r ≡ loaded ⌝ }
+{
     let unit = Unit {
         power: false,
         change: false,
@@ -47,9 +52,16 @@ fn loaded() -> Drive {
     Drive { unit, mechanics }.power_on()
 }
 
+// How many packets were met, and the state after the last of them.
+struct Listed {
+    met: usize,
+    state: Drive,
+}
+
 // Meets the packets one after the other, each with the state that the one before left, and writes their lines.
-fn list(table: &[u8], packets: &[u8], mem: &mut [u8], line: &mut [u8])
-    requires { ⌜ length (now packets) ≤ 49152 ⌝ }
+fn list(table: &[u8], packets: &[u8], mem: &mut [u8], line: &mut [u8]) -> Listed
+    requires { ⌜ (length (now packets) ≤ 49152) × (length (now mem) ≡ bound) ⌝ }
+    ensures { λ r. ⌜ r .state ≡ stateAfter (now (table .entry)) (now (packets .entry)) (r .met) ⌝ }
 {
     let mut state = loaded();
     let mut n = 0;
@@ -58,12 +70,13 @@ fn list(table: &[u8], packets: &[u8], mem: &mut [u8], line: &mut [u8])
         let o = packet(state, front(&packets[at..], PACKET), table, mem);
         n += 1;
         let k = put_line(n, o, front(mem, o.len), line);
-        if !write(front(line, k)) {
-            return;
-        }
         state = o.state;
         at += PACKET;
+        if !write(front(line, k)) {
+            return Listed { met: n, state };
+        }
     }
+    Listed { met: n, state }
 }
 
 fn main() {

@@ -1,5 +1,5 @@
 -- `listing::main` is safe and ends: the packets that it hands on are at most 49,152 bytes.
-use mathlib.Core.Path.{_≡_}
+use mathlib.Core.Path.{_≡_, refl}
 use mathlib.Core.List.{List}
 use Prim.Native.Nat.{ℕ, _≤_}
 use native.Mathlib.Omega.{arith}
@@ -13,7 +13,7 @@ few : (r s : List ℕ) (n most : ℕ) → r ≡ take n s → n ≤ most → leng
 few r s n most e h = rw e (let k = length-take n s in omega arith)
 
 list-requires : tie.Need-list-requires
-list-requires c κs = few _ _ _ _ (c .before .before .front2 .ensures .shows) (c .before .before .before .before .before .before .before .before .before .if4 .left)
+list-requires c κs = (few _ _ _ _ (c .before .before .front2 .ensures .shows) (c .before .before .before .before .before .before .before .before .before .if4 .left), refl)
 
 pub main-spec : {M : Type 1} → statement M
 main-spec =
