@@ -4,10 +4,30 @@
 #include <string.h>
 #include "fit.h"
 
+static unsigned told_by_fault(const uint8_t *t, size_t n)
+{
+    return measured_fault(t, n);
+}
+
+static unsigned told_by_read(const uint8_t *t, size_t n)
+{
+    return measured_read(t, n) >> 32;
+}
+
 int main(int argc, char **argv)
 {
     static uint8_t table[8192];
     if (argc != 4)
+        return 2;
+    /* chosen once, so that a turn costs the call alone */
+    unsigned (*measured)(const uint8_t *, size_t);
+    if (!strcmp(argv[1], "c"))
+        measured = fault;
+    else if (!strcmp(argv[1], "fault"))
+        measured = told_by_fault;
+    else if (!strcmp(argv[1], "read"))
+        measured = told_by_read;
+    else
         return 2;
     FILE *f = fopen(argv[2], "rb");
     if (!f)
@@ -17,14 +37,7 @@ int main(int argc, char **argv)
     long turns = atol(argv[3]);
     unsigned told = 0;
     for (long i = 0; i < turns; i++) {
-        if (!strcmp(argv[1], "c"))
-            told = fault(table, n);
-        else if (!strcmp(argv[1], "fault"))
-            told = measured_fault(table, n);
-        else if (!strcmp(argv[1], "read"))
-            told = measured_read(table, n) >> 32;
-        else
-            return 2;
+        told = measured(table, n);
         __asm__ volatile("" ::: "memory");
     }
     printf("%u\n", told);

@@ -2,7 +2,7 @@
 
 use crate::cases::packets::{capacity, read10, request_sense, test_ready, toc, Packet};
 use crate::cases::sheet::{disc_e, two_sessions};
-use crate::stored::File;
+use crate::files::File;
 
 /// "Table E with 00h, 03h (length 18), 25h and READ(10) 149 for 2, unused
 /// bytes 0".

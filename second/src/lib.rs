@@ -8,6 +8,7 @@ pub mod answers;
 pub mod cases;
 pub mod drive;
 pub mod examples;
+pub mod files;
 pub mod limits;
 pub mod listing;
 pub mod packet;

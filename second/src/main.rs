@@ -6,8 +6,8 @@ use std::io::{self, Read, Write};
 use std::path::Path;
 use std::process::ExitCode;
 
-use second::cases::{bad, listing as pairs};
-use second::{examples, listing, replay, stored};
+use second::cases::{bad, made, pairs};
+use second::{examples, files, listing, replay, stored};
 
 const USAGE: &str = "usage: second replay
        second listing TABLE PACKETS
@@ -15,7 +15,9 @@ const USAGE: &str = "usage: second replay
        second make-listing SEED COUNT DIR
        second stored ROOT
        second check ROOT
-       second examples DIR";
+       second examples DIR
+       second made
+       second made NAME DIR";
 
 fn main() -> ExitCode {
     let words: Vec<String> = env::args().skip(1).collect();
@@ -49,7 +51,7 @@ fn run(words: &[&str]) -> io::Result<ExitCode> {
         }
         ["stored", root] => {
             let files = stored::files();
-            stored::write(Path::new(root), &files)?;
+            files::write(Path::new(root), &files)?;
             let size: usize = files.iter().map(|(_, bytes)| bytes.len()).sum();
             let calls = stored::stored_stream().calls;
             println!(
@@ -65,7 +67,15 @@ fn run(words: &[&str]) -> io::Result<ExitCode> {
             }
             println!("stored cases: {count} files agree");
         }
-        ["examples", dir] => stored::write(Path::new(dir), &examples::files())?,
+        ["examples", dir] => files::write(Path::new(dir), &examples::files())?,
+        ["made"] => {
+            let names: Vec<&str> = made::names().collect();
+            print((names.join("\n") + "\n").as_bytes())?;
+        }
+        ["made", name, dir] => {
+            let made = made::made(name).ok_or_else(|| problem("no such maker", name))?;
+            files::write(Path::new(dir), &made)?;
+        }
         _ => {
             eprintln!("{USAGE}");
             return Ok(ExitCode::from(2));
@@ -80,9 +90,12 @@ fn print(bytes: &[u8]) -> io::Result<()> {
     out.flush()
 }
 
+fn problem(what: &str, word: &str) -> io::Error {
+    io::Error::new(io::ErrorKind::InvalidInput, format!("{what}: {word}"))
+}
+
 fn number(word: &str) -> io::Result<u64> {
-    word.parse()
-        .map_err(|_| io::Error::new(io::ErrorKind::InvalidInput, format!("not a number: {word}")))
+    word.parse().map_err(|_| problem("not a number", word))
 }
 
 /// Writes DIR/NNNN.table, DIR/NNNN.packets and DIR/NNNN.expected.
@@ -95,7 +108,7 @@ fn make_listing(seed: u64, count: u64, dir: &Path) -> io::Result<()> {
             (format!("{i:04}.packets"), pair.packets),
             (format!("{i:04}.expected"), expected.into_bytes()),
         ];
-        stored::write(dir, &files)?;
+        files::write(dir, &files)?;
     }
     Ok(())
 }

@@ -1,15 +1,15 @@
 //! The stored cases and their check.
 
 use std::fs;
-use std::io;
 use std::path::Path;
 
 use crate::cases::bad;
-use crate::cases::listing::stored_pair;
+use crate::cases::pairs::stored_pair;
 use crate::cases::picked;
 use crate::cases::random;
 use crate::cases::stream::Stream;
 use crate::examples;
+use crate::files::File;
 use crate::listing;
 use crate::replay;
 use crate::rng::Rng;
@@ -19,9 +19,6 @@ pub const SEED: u64 = 0x01C_D0D;
 
 /// Calls in the stored stream, the picked ones among them.
 pub const CALLS: usize = 27_000;
-
-/// A file to be stored: its path below the root, and what it holds.
-pub type File = (String, Vec<u8>);
 
 pub fn stored_stream() -> Stream {
     let mut stream = Stream::new();
@@ -46,17 +43,6 @@ pub fn files() -> Vec<File> {
         ("crates/listing/data/packets".into(), pair.packets),
         ("crates/listing/stdout".into(), printed.into()),
     ]
-}
-
-pub fn write(root: &Path, files: &[File]) -> io::Result<()> {
-    for (name, bytes) in files {
-        let path = root.join(name);
-        if let Some(parent) = path.parent() {
-            fs::create_dir_all(parent)?;
-        }
-        fs::write(path, bytes)?;
-    }
-    Ok(())
 }
 
 /// One line for each file that is missing or differs; the number looked at.

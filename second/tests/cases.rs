@@ -3,7 +3,11 @@
 use std::collections::BTreeSet;
 
 use second::cases::bad::random_stream;
-use second::cases::listing::pair;
+use second::cases::made;
+use second::cases::packets::{
+    capacity, prevent, request_sense, start_stop, test_ready, Packet, EJECT, LOAD,
+};
+use second::cases::pairs::pair;
 use second::cases::sheet::{disc_e, fullest};
 use second::{examples, listing, replay, sense, stored};
 
@@ -100,4 +104,64 @@ fn examples_show_the_marked_results() {
     assert!(out.contains("\n5 00 00 00 00 12 000A01020010AA0000000600 0 0\n"));
     let out = listing::print(find("two-sessions.table"), find("sessions.packets"));
     assert!(out.contains("\n3 00 00 00 00 12 000A0102001404000000300C 0 0\n"));
+}
+
+/// The lines that the listing prints for these packets on Table E.
+fn listed(packets: &[Packet]) -> Vec<String> {
+    let out = listing::print(&disc_e().bytes(), &packets.concat());
+    out.lines().skip(1).map(String::from).collect()
+}
+
+/// "powers on loaded": the power-on is told first, then the disc is there.
+#[test]
+fn listing_powers_on_loaded() {
+    let lines = listed(&[test_ready(), test_ready(), capacity()]);
+    assert_eq!(lines[0], "1 02 06 29 00 0 - 0 0");
+    assert_eq!(lines[1], "2 00 00 00 00 0 - 0 0");
+    assert_eq!(lines[2], "3 00 00 00 00 8 0000012B00000800 0 0");
+}
+
+/// Attention, sense, lock and tray are each met by a later packet.
+#[test]
+fn listing_carries_the_state() {
+    let lines = listed(&[
+        prevent(1),
+        prevent(1),
+        start_stop(EJECT),
+        request_sense(14),
+        prevent(0),
+        start_stop(EJECT),
+        test_ready(),
+        start_stop(LOAD),
+        test_ready(),
+        test_ready(),
+    ]);
+    let expected = [
+        "1 02 06 29 00 0 - 0 0",
+        "2 00 00 00 00 0 - 0 0",
+        "3 02 05 53 02 0 - 0 0",
+        "4 00 00 00 00 14 700005000000000A000000005302 0 0",
+        "5 00 00 00 00 0 - 0 0",
+        "6 00 00 00 00 0 - 0 0",
+        "7 02 02 3A 02 0 - 0 0",
+        "8 00 00 00 00 0 - 0 0",
+        "9 02 06 28 00 0 - 0 0",
+        "10 00 00 00 00 0 - 0 0",
+    ];
+    assert_eq!(lines, expected);
+}
+
+/// Each maker is there under its name and makes something that runs.
+#[test]
+fn makers_by_name() {
+    for name in made::names() {
+        let files = made::made(name).expect("a name of the list");
+        for (file, bytes) in files {
+            if file == "stream" {
+                let lines = replay::run(&bytes);
+                assert!(!lines.is_empty() && !lines.contains("bad record"), "{name}");
+            }
+        }
+    }
+    assert!(made::made("made.rs#made").is_none());
 }

@@ -80,6 +80,14 @@ fn every_address_there_and_back() {
     for address in 0..=449_849 {
         assert_eq!(to_msf(address).unwrap().address(), Ok(address));
     }
+    for m in 0..=99 {
+        for s in 0..=59 {
+            for f in (0..=74).filter(|_| (m, s) >= (0, 2)) {
+                let time = Msf::new(m, s, f);
+                assert_eq!(time.address().and_then(to_msf), Ok(time));
+            }
+        }
+    }
     for (m, s, f) in second::cases::breaks::OUTSIDE {
         assert_eq!(Msf::new(m, s, f).address().unwrap_err().number(), 8);
     }

@@ -5,15 +5,14 @@ mod common;
 use common::number;
 use second::cases::breaks::breaks;
 use second::cases::fits::fits;
-use second::cases::packets::{inquiry, one_of_each, start_stop, test_ready};
+use second::cases::packets::{inquiry, one_of_each, start_stop, test_ready, toc};
 use second::cases::picked_state::strangers;
-use second::cases::sheet::disc_e;
+use second::cases::sheet::{any_fit, disc_e, Sheet};
 use second::drive::State;
 use second::packet::perform;
 use second::refusal::{number_of, Refusal};
-use second::sense::{self, TEN};
-use second::table::read;
-use second::toc::{full_answer, TocRequest};
+use second::rng::Rng;
+use second::sense::{self, Sense, TEN};
 
 const READY: State = State::READY;
 
@@ -30,7 +29,10 @@ fn one_wrong_length() {
 #[test]
 fn two_unknown_sense() {
     let table = disc_e().bytes();
-    for held in strangers() {
+    // Some by hand: what `strangers` leaves out hangs on the ten as they are kept.
+    let near = [(0, 0, 1), (2, 0x3A, 0), (5, 0x53, 0), (6, 0x29, 1)];
+    let near = near.map(|(key, asc, ascq)| Sense::new(key, asc, ascq));
+    for held in strangers().into_iter().chain(near) {
         let state = State {
             sense: held,
             ..READY
@@ -85,7 +87,7 @@ fn one_to_four_in_order() {
         let table = if n & 8 != 0 { &unfit } else { &fit };
         let mut memory = vec![0; if n & 4 != 0 { 4_359 } else { 4_360 }];
         let state = State {
-            sense: sense::Sense::new(0, 0, n as u8 / 2 % 2),
+            sense: Sense::new(0, 0, n as u8 / 2 % 2),
             ..READY
         };
         let packet = vec![0; if n & 1 != 0 { 13 } else { 12 }];
@@ -99,37 +101,49 @@ fn one_to_four_in_order() {
 
 #[test]
 fn five_six_seven_tray() {
-    let locked = State {
-        lock: true,
-        ..READY
-    };
-    assert_eq!(number_of(&locked.button()), 5);
-    assert_eq!(number_of(&locked.opened().button()), 0);
-    assert_eq!(number_of(&State::ZERO.lay()), 6);
-    assert_eq!(number_of(&READY.lay()), 6);
-    assert_eq!(number_of(&READY.opened().lay()), 6);
-    assert_eq!(number_of(&State::ZERO.opened().lay()), 0);
-    assert_eq!(number_of(&State::ZERO.lift()), 7);
-    assert_eq!(number_of(&READY.lift()), 7);
-    assert_eq!(number_of(&State::ZERO.opened().lift()), 7);
-    assert_eq!(number_of(&READY.opened().lift()), 0);
+    let empty = State::ZERO;
+    for state in [empty, READY, empty.opened(), READY.opened()] {
+        let (open, disc) = (state.tray_open, state.disc_in);
+        for lock in [false, true] {
+            let state = State { lock, ..state };
+            let laid = State {
+                disc_in: true,
+                ..state
+            };
+            let lifted = State {
+                disc_in: false,
+                ..state
+            };
+            assert_eq!(
+                number_of(&state.button()),
+                if lock && !open { 5 } else { 0 }
+            );
+            assert_eq!(state.lay().ok(), (open && !disc).then_some(laid));
+            assert_eq!(state.lift().ok(), (open && disc).then_some(lifted));
+            assert!([0, 6].contains(&number_of(&state.lay())));
+            assert!([0, 7].contains(&number_of(&state.lift())));
+        }
+    }
 }
 
-/// Eight, nine and ten: 8 and 10 are in `marked` and `rules`; 9 is never met
-/// with a fit table.
+/// 8 and 10 are in `marked` and `rules`; 9 is never given, whatever READ TOC
+/// asks of a fit table: the longest answer just reaches the bound.
 #[test]
 fn nine_is_out_of_reach() {
     assert_eq!(Refusal::LongAnswer.number(), 9);
+    let mut rng = Rng::new(9);
+    let picked = fits().into_iter().map(|(_, sheet)| sheet);
+    let drawn: Vec<Sheet> = (0..30).map(|_| any_fit(&mut rng)).collect();
     let mut longest = 0;
-    for (_, sheet) in fits() {
-        let disc = read(&sheet.bytes()).unwrap();
-        for format in 0..3 {
-            let request = TocRequest {
-                msf: false,
-                format,
-                number: 0,
-            };
-            longest = longest.max(full_answer(&disc, request).unwrap().len());
+    for table in picked.chain(drawn).map(|sheet| sheet.bytes()) {
+        let mut memory = vec![0; 8_191];
+        for number in 0..=255 {
+            for (msf, format) in [(false, 0), (true, 0), (false, 1), (true, 1), (false, 2)] {
+                let packet = toc(msf, format, number, u16::MAX);
+                let reply = perform(READY, &table, &packet, &mut memory);
+                assert_eq!(reply.refusal, None);
+                longest = longest.max(reply.length);
+            }
         }
     }
     assert_eq!(longest, 4_360);

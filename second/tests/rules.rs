@@ -2,7 +2,7 @@
 
 use second::cases::breaks::breaks;
 use second::cases::fits::fits;
-use second::cases::sheet::{any_fit, fullest};
+use second::cases::sheet::{any_fit, fullest, two_sessions, Sheet};
 use second::cases::spoil::spoil;
 use second::rng::Rng;
 use second::table::{read, session_part};
@@ -125,6 +125,38 @@ fn parts_join_to_the_table() {
         for session in [0, 1, 255] {
             let refused = session_part(&broken.table, session).unwrap_err();
             assert_eq!(refused.number(), 4);
+        }
+    }
+}
+
+/// Breaks a rule of the two-session sheet, from 3 on in the session named.
+fn break_in(sheet: &mut Sheet, rule: u8, session: usize) {
+    let a0 = if session == 1 { 0 } else { 6 };
+    match rule {
+        2 => sheet.first = 2,
+        3 => sheet.rows[a0][7] = 1,
+        4 => sheet.rows[a0 + 3][3] = 77,
+        5 => sheet.rows[a0][10] = 1,
+        6 => sheet.rows[a0 + 3][9] = 60,
+        7 => sheet.set_block(a0 + 4, 0),
+        _ => {}
+    }
+}
+
+/// Each rule is tested over the whole table before the next, wherever in the
+/// table the two are broken.
+#[test]
+fn the_first_of_two_broken_rules() {
+    for first in 1..=7 {
+        for later in first + 1..=7 {
+            for (here, there) in [(1, 1), (1, 2), (2, 1), (2, 2)] {
+                let mut sheet = two_sessions();
+                break_in(&mut sheet, first, here);
+                break_in(&mut sheet, later, there);
+                let mut table = sheet.bytes();
+                table[1] ^= u8::from(first == 1);
+                assert_eq!(read(&table), Err(first), "{first} {later}");
+            }
         }
     }
 }

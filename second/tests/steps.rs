@@ -7,8 +7,9 @@ use second::cases::packets::*;
 use second::cases::picked_state::all_flags;
 use second::cases::sheet::{any_fit, disc_e, three_sessions, two_sessions};
 use second::drive::State;
+use second::refusal::Refusal;
 use second::rng::Rng;
-use second::sense::{self, NONE};
+use second::sense::{self, Sense, NONE};
 use second::table::{read, Disc};
 
 const READY: State = State::READY;
@@ -20,7 +21,7 @@ fn inquiry_leaves_sense_and_attentions() {
             sense: sense::WRONG_MODE,
             ..flags
         };
-        let (reply, memory) = on_e(state, &inquiry(36));
+        let (reply, memory) = on_e(state, &inquiry(255));
         assert_eq!((reply.status, reply.length, reply.next), (0, 36, state));
         assert_eq!(&memory[..8], [5, 0x80, 0, 0x21, 0x1F, 0, 0, 0]);
         assert_eq!(&memory[8..36], b"LECTERN PACKET TARGET   0100");
@@ -91,69 +92,137 @@ fn request_sense_tells_held_then_power_then_change() {
     assert_eq!(state, READY);
 }
 
+/// What 1Bh must do to a state without attentions, and the triple told.
+fn moved_by(bits: u8, state: State) -> (State, Option<Sense>) {
+    let (open, disc) = (state.tray_open, state.disc_in);
+    match (bits, open) {
+        (EJECT, false) if state.lock => (state, Some(Sense::new(5, 0x53, 2))),
+        (EJECT, _) => (tray(state, true), None),
+        (LOAD, true) => {
+            let change = disc;
+            (tray(State { change, ..state }, false), None)
+        }
+        (1, true) => (state, Some(Sense::new(2, 0x3A, 2))),
+        (1, false) if !disc => (state, Some(Sense::new(2, 0x3A, 1))),
+        _ => (state, None),
+    }
+}
+
+fn tray(state: State, tray_open: bool) -> State {
+    State { tray_open, ..state }
+}
+
 #[test]
 fn tray_by_packet() {
-    let locked = State {
-        lock: true,
-        ..READY
-    };
-    assert_eq!(check(locked, &start_stop(EJECT)), sense::PREVENTED);
-    let open = on_e(READY, &start_stop(EJECT)).0.next;
-    assert_eq!(open, READY.opened());
-    assert_eq!(on_e(open, &start_stop(EJECT)).0.next, open);
-    let loaded = on_e(open, &start_stop(LOAD)).0.next;
-    assert_eq!(
-        loaded,
-        State {
-            change: true,
-            ..READY
+    for state in all_flags().filter(|one| !one.power && !one.change) {
+        for bits in 0..4 {
+            let (reply, _) = on_e(state, &start_stop(bits));
+            let (next, told) = moved_by(bits, state);
+            let sense = told.unwrap_or(NONE);
+            assert_eq!(reply.next, State { sense, ..next }, "{bits} {state:?}");
+            assert_eq!(reply.status, if told.is_some() { 2 } else { 0 });
+            assert_eq!(reply.length, 0);
         }
-    );
-    assert_eq!(on_e(READY, &start_stop(LOAD)).0.next, READY);
-    let empty = State::ZERO.opened();
-    assert_eq!(on_e(empty, &start_stop(LOAD)).0.next, State::ZERO);
-    assert_eq!(check(empty, &start_stop(1)), sense::TRAY_OPEN);
-    assert_eq!(check(State::ZERO, &start_stop(1)), sense::NO_MEDIUM);
-    assert_eq!(good(State::ZERO, &start_stop(0)), []);
-    assert_eq!(
-        on_e(empty, &prevent(1)).0.next,
-        State {
-            lock: true,
-            ..empty
+        for (byte_4, lock) in [(0, false), (1, true), (0xFE, false), (0xFF, true)] {
+            let (reply, _) = on_e(state, &prevent(byte_4));
+            assert_eq!((reply.status, reply.next), (0, State { lock, ..state }));
         }
-    );
-    assert_eq!(on_e(locked, &prevent(0xFE)).0.next, READY);
+    }
 }
 
 #[test]
 fn button_and_power_on() {
-    assert_eq!(READY.button(), Ok(READY.opened()));
-    let loaded = State {
-        change: true,
-        ..READY
-    };
-    assert_eq!(READY.opened().button(), Ok(loaded));
-    assert_eq!(State::ZERO.opened().button(), Ok(State::ZERO));
     for state in all_flags() {
-        let next = state.power_on();
-        assert_eq!(
-            (next.tray_open, next.disc_in),
-            (state.tray_open, state.disc_in)
-        );
-        assert_eq!((next.lock, next.power, next.change), (false, true, false));
+        let (tray_open, disc_in) = (state.tray_open, state.disc_in);
+        let next = State {
+            tray_open: !tray_open,
+            change: state.change || tray_open && disc_in,
+            ..state
+        };
+        let due = if state.lock && !tray_open {
+            Err(Refusal::Locked)
+        } else {
+            Ok(next)
+        };
+        assert_eq!(state.button(), due);
+        for held in [NONE, sense::PREVENTED, sense::CHANGED, Sense::new(1, 2, 3)] {
+            let on = State {
+                sense: held,
+                ..state
+            };
+            let next = State {
+                tray_open,
+                disc_in,
+                lock: false,
+                power: true,
+                change: false,
+                sense: Sense::new(0, 0, 0),
+            };
+            assert_eq!(on.power_on(), next);
+        }
     }
 }
 
 #[test]
 fn who_needs_a_disc() {
-    for code in [0x00, 0x25, 0x28, 0x2B, 0x43, 0xA8] {
-        assert_eq!(check(State::ZERO, &plain(code)), sense::NO_MEDIUM);
-        assert_eq!(check(READY.opened(), &plain(code)), sense::TRAY_OPEN);
+    let mut needing: Vec<Packet> = [0x00, 0x25, 0x28, 0x2B, 0x43, 0xA8].map(plain).to_vec();
+    needing.push(start_stop(1));
+    for packet in needing {
+        assert_eq!(check(State::ZERO, &packet), Sense::new(2, 0x3A, 1));
+        assert_eq!(check(State::ZERO.opened(), &packet), Sense::new(2, 0x3A, 2));
+        assert_eq!(check(READY.opened(), &packet), Sense::new(2, 0x3A, 2));
+        assert_eq!(on_e(READY, &packet).0.status, 0);
+    }
+    for packet in [0, EJECT, LOAD]
+        .map(start_stop)
+        .into_iter()
+        .chain([0, 1].map(prevent))
+    {
+        for state in [READY, State::ZERO, State::ZERO.opened(), READY.opened()] {
+            assert_eq!(on_e(state, &packet).0.status, 0);
+        }
     }
     for code in (0..=255).filter(|code| !CODES.contains(code)) {
         for state in [READY, State::ZERO, READY.opened()] {
-            assert_eq!(check(state, &plain(code)), sense::UNKNOWN_CODE);
+            assert_eq!(check(state, &plain(code)), Sense::new(5, 0x20, 0));
         }
+    }
+}
+
+/// Each of the ten as bytes: how it comes about, and that it may be held.
+#[test]
+fn each_triple() {
+    let locked = State {
+        lock: true,
+        ..READY
+    };
+    let loading = State {
+        change: true,
+        ..READY
+    };
+    let ways: [(State, Packet, [u8; 3]); 10] = [
+        (READY, test_ready(), [0x00, 0x00, 0x00]),
+        (State::ZERO, test_ready(), [0x02, 0x3A, 0x01]),
+        (READY.opened(), test_ready(), [0x02, 0x3A, 0x02]),
+        (READY, plain(0xBE), [0x05, 0x20, 0x00]),
+        (READY, seek(300), [0x05, 0x21, 0x00]),
+        (READY, toc(false, 3, 0, 4), [0x05, 0x24, 0x00]),
+        (locked, start_stop(EJECT), [0x05, 0x53, 0x02]),
+        (READY, read10(150, 1), [0x05, 0x64, 0x00]),
+        (loading, test_ready(), [0x06, 0x28, 0x00]),
+        (READY.power_on(), test_ready(), [0x06, 0x29, 0x00]),
+    ];
+    for (state, packet, [key, asc, ascq]) in ways {
+        let held = Sense::new(key, asc, ascq);
+        let (reply, _) = on_e(state, &packet);
+        assert_eq!((reply.refusal, reply.next.sense), (None, held));
+        let holding = State {
+            sense: held,
+            ..READY
+        };
+        let (reply, memory) = on_e(holding, &request_sense(18));
+        assert_eq!(reply.refusal, None);
+        assert_eq!([memory[2], memory[12], memory[13]], [key, asc, ascq]);
     }
 }
 
@@ -241,6 +310,10 @@ fn reads_agree_with_the_block_rule() {
 fn sums_past_32_bits() {
     for (address, count) in [(1, u32::MAX), (149, u32::MAX - 148), (150, u32::MAX)] {
         assert_eq!(check(READY, &read12(address, count)), sense::OUT_OF_RANGE);
+    }
+    // Counts with one high bit: every byte of the field tells.
+    for bit in 9..32 {
+        assert_eq!(check(READY, &read12(0, 1 | 1 << bit)), sense::OUT_OF_RANGE);
     }
     assert_eq!(check(READY, &seek(300)), sense::OUT_OF_RANGE);
     assert_eq!(check(READY, &seek(u32::MAX)), sense::OUT_OF_RANGE);

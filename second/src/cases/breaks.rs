@@ -34,7 +34,7 @@ pub fn breaks() -> Vec<Break> {
     list
 }
 
-fn rule_1(list: &mut Vec<Break>) {
+pub fn rule_1(list: &mut Vec<Break>) {
     let e = disc_e().bytes();
     add(list, 1, "empty", vec![]);
     add(list, 1, "one byte", vec![0]);
@@ -82,7 +82,7 @@ fn rule_1(list: &mut Vec<Break>) {
     add(list, 1, "8,191 bytes", vec![1; 8_191]);
 }
 
-fn rule_2(list: &mut Vec<Break>) {
+pub fn rule_2(list: &mut Vec<Break>) {
     for first in [0, 2, 99, 255] {
         edit(list, 2, "first session", |sheet| sheet.first = first);
     }
@@ -95,7 +95,7 @@ fn rule_2(list: &mut Vec<Break>) {
     add(list, 2, "100 sessions on the fullest", both.bytes());
 }
 
-fn rule_3(list: &mut Vec<Break>) {
+pub fn rule_3(list: &mut Vec<Break>) {
     for row in 0..11 {
         edit(list, 3, "TNO 1", |sheet| sheet.rows[row][2] = 1);
         edit(list, 3, "ZERO 1", |sheet| sheet.rows[row][7] = 1);
@@ -110,7 +110,7 @@ fn rule_3(list: &mut Vec<Break>) {
     edit(list, 3, "ZERO 80h", |sheet| sheet.rows[2][7] = 0x80);
 }
 
-fn rule_4(list: &mut Vec<Break>) {
+pub fn rule_4(list: &mut Vec<Break>) {
     add(list, 4, "four bytes, one session", vec![0, 2, 1, 1]);
     edit(list, 4, "S one less", |sheet| sheet.last = 1);
     edit(list, 4, "S one more", |sheet| sheet.last = 3);
@@ -211,7 +211,7 @@ fn rule_4(list: &mut Vec<Break>) {
     add(list, 4, "last A2 of the fullest", full.bytes());
 }
 
-fn rule_5(list: &mut Vec<Break>) {
+pub fn rule_5(list: &mut Vec<Break>) {
     for row in [0, 6] {
         for second in [1, 0x0F, 0x11, 0x1F, 0x21, 0x30, 0x40, 0x80, 0xFF] {
             edit(list, 5, "A0 PSEC", |sheet| sheet.rows[row][9] = second);
@@ -248,7 +248,7 @@ pub const OUTSIDE: [(u8, u8, u8); 16] = [
     (255, 255, 255),
 ];
 
-fn rule_6(list: &mut Vec<Break>) {
+pub fn rule_6(list: &mut Vec<Break>) {
     for row in [2, 3, 5, 8, 9, 10] {
         for (m, s, f) in OUTSIDE {
             edit(list, 6, "address", |sheet| sheet.set_address(row, m, s, f));
@@ -256,7 +256,7 @@ fn rule_6(list: &mut Vec<Break>) {
     }
 }
 
-fn rule_7(list: &mut Vec<Break>) {
+pub fn rule_7(list: &mut Vec<Break>) {
     // Tracks at 0, 400, 600, lead-out 900; 12,300, 12,800, lead-out 13,000.
     for (row, block, name) in [
         (3, 400, "track 1 at track 2"),

@@ -3,8 +3,9 @@
 pub mod bad;
 pub mod breaks;
 pub mod fits;
-pub mod listing;
+pub mod made;
 pub mod packets;
+pub mod pairs;
 pub mod picked;
 pub mod picked_fields;
 pub mod picked_state;

@@ -26,7 +26,7 @@ pub fn all(stream: &mut Stream) {
 }
 
 /// Kinds 8 and 9 at all boundaries.
-fn conversions(stream: &mut Stream) {
+pub fn conversions(stream: &mut Stream) {
     for m in [0, 1, 2, 59, 60, 98, 99, 100, 128, 255] {
         for s in [0, 1, 2, 3, 58, 59, 60, 61, 255] {
             for f in [0, 1, 73, 74, 75, 76, 255] {

@@ -1,6 +1,6 @@
 //! Tables picked by hand, broken and fit, and the parts of sessions.
 
-use crate::cases::breaks::breaks;
+use crate::cases::breaks::{breaks, Break};
 use crate::cases::fits::fits;
 use crate::cases::packets::{capacity, read10, request_sense, seek, start_stop, test_ready, toc};
 use crate::cases::picked_state::MEMORY;
@@ -8,10 +8,15 @@ use crate::cases::sheet::{fullest, three_sessions};
 use crate::cases::stream::Stream;
 use crate::drive::State;
 
-/// Each break: the part is refused, a loaded packet too, an unloaded one not.
+/// Every break picked by hand.
 pub fn broken(stream: &mut Stream) {
     stream.memory(MEMORY, 0x99);
-    for (i, broken) in breaks().iter().enumerate() {
+    meet(stream, &breaks());
+}
+
+/// Each break: the part is refused, a loaded packet too, an unloaded one not.
+pub fn meet(stream: &mut Stream, list: &[Break]) {
+    for (i, broken) in list.iter().enumerate() {
         stream.table(&broken.table);
         stream.part(1);
         stream.packet_from(State::READY, &test_ready());

@@ -103,7 +103,7 @@ fn disc_scene(stream: &mut Stream, rng: &mut Rng) {
 }
 
 /// A long trace of tray calls and packets, the table changing with the disc.
-fn trace_scene(stream: &mut Stream, rng: &mut Rng) {
+pub fn trace_scene(stream: &mut Stream, rng: &mut Rng) {
     let mut marks = lend(stream, &any_fit(rng));
     stream.state(State {
         sense: sense::NONE,

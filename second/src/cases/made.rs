@@ -1,0 +1,146 @@
+//! Every maker of calls, broken tables or pairs of files by its name, so that
+//! what one of them makes can be looked at apart from the others.
+
+use crate::cases::breaks::{self, Break};
+use crate::cases::packets::Packet;
+use crate::cases::pairs::{self, Pair};
+use crate::cases::sheet::{disc_e, two_sessions, Sheet};
+use crate::cases::stream::Stream;
+use crate::cases::{picked, picked_fields, picked_state, picked_tables, random};
+use crate::examples;
+use crate::files::File;
+use crate::rng::Rng;
+use crate::stored::SEED;
+
+/// Calls drawn by `random::fill`, and scenes by `random::trace_scene`.
+const DRAWN_CALLS: usize = 6_000;
+const DRAWN_TRACES: usize = 60;
+
+/// Pairs of files: two turns of the ten shapes.
+const PAIRS: u64 = 20;
+
+enum Maker {
+    /// Calls, from the very start of a run.
+    Start(fn(&mut Stream)),
+    /// Calls, with a memory and Table E lent before.
+    Calls(fn(&mut Stream)),
+    /// Broken tables, met as `picked_tables::broken` lets them be met.
+    Tables(fn(&mut Vec<Break>)),
+    /// Packets for the listing program, with the sheet of their table.
+    Packets(fn() -> Sheet, fn() -> Vec<Packet>),
+    Pairs(fn() -> Vec<Pair>),
+}
+
+use Maker::{Calls, Packets, Pairs, Start, Tables};
+
+/// A maker under the name of its file and function.
+macro_rules! named {
+    ($file:ident::$function:ident, $maker:expr) => {
+        (
+            concat!(stringify!($file), ".rs#", stringify!($function)),
+            $maker,
+        )
+    };
+    ($kind:ident, $file:ident::$function:ident) => {
+        named!($file::$function, $kind($file::$function))
+    };
+}
+
+const MAKERS: [(&str, Maker); 32] = [
+    named!(Start, picked_state::from_nothing),
+    named!(Calls, picked_state::attentions),
+    named!(Calls, picked_state::senses),
+    named!(Calls, picked_state::refusal_order),
+    named!(Calls, picked_state::packet_lengths),
+    named!(Calls, picked_state::memories),
+    named!(Calls, picked_state::tray_traces),
+    named!(Calls, picked::conversions),
+    named!(Calls, picked_fields::codes),
+    named!(Calls, picked_fields::bits),
+    named!(Calls, picked_fields::lengths),
+    named!(Calls, picked_fields::toc_numbers),
+    named!(Calls, picked_fields::toc_formats),
+    named!(Calls, picked_fields::reads),
+    named!(Calls, picked_fields::long_reads),
+    named!(Calls, picked_tables::broken),
+    named!(Calls, picked_tables::fit),
+    named!(Calls, picked_tables::parts),
+    named!(random::fill, Calls(drawn)),
+    named!(random::trace_scene, Calls(traces)),
+    named!(Tables, breaks::rule_1),
+    named!(Tables, breaks::rule_2),
+    named!(Tables, breaks::rule_3),
+    named!(Tables, breaks::rule_4),
+    named!(Tables, breaks::rule_5),
+    named!(Tables, breaks::rule_6),
+    named!(Tables, breaks::rule_7),
+    named!(pairs::pair, Pairs(twenty)),
+    named!(pairs::stored_pair, Pairs(|| vec![pairs::stored_pair(SEED)])),
+    named!(examples::four, Packets(disc_e, examples::four)),
+    named!(examples::marked, Packets(disc_e, examples::marked)),
+    named!(
+        examples::sessions,
+        Packets(two_sessions, examples::sessions)
+    ),
+];
+
+fn drawn(stream: &mut Stream) {
+    random::fill(stream, &mut Rng::new(SEED), DRAWN_CALLS);
+}
+
+fn traces(stream: &mut Stream) {
+    let mut rng = Rng::new(SEED);
+    for _ in 0..DRAWN_TRACES {
+        random::trace_scene(stream, &mut rng);
+    }
+}
+
+fn twenty() -> Vec<Pair> {
+    (0..PAIRS).map(|number| pairs::pair(SEED, number)).collect()
+}
+
+pub fn names() -> impl Iterator<Item = &'static str> {
+    MAKERS.iter().map(|(name, _)| *name)
+}
+
+/// What the maker of this name makes: `stream`, or `NNNN.table` and
+/// `NNNN.packets` for each pair.
+pub fn made(name: &str) -> Option<Vec<File>> {
+    let (_, maker) = MAKERS.iter().find(|(one, _)| *one == name)?;
+    Some(match *maker {
+        Start(calls) => stream_of(Stream::new(), calls),
+        Calls(calls) => stream_of(on_a_bench(), calls),
+        Tables(tables) => {
+            let mut list = Vec::new();
+            tables(&mut list);
+            stream_of(on_a_bench(), |stream| picked_tables::meet(stream, &list))
+        }
+        Packets(sheet, packets) => files_of(vec![Pair {
+            table: sheet().bytes(),
+            packets: packets().concat(),
+        }]),
+        Pairs(pairs) => files_of(pairs()),
+    })
+}
+
+/// Some makers take over memory and table from the one before them.
+fn on_a_bench() -> Stream {
+    let mut stream = Stream::new();
+    stream.memory(picked_state::MEMORY, 0x5A);
+    stream.table(&disc_e().bytes());
+    stream
+}
+
+fn stream_of(mut stream: Stream, calls: impl FnOnce(&mut Stream)) -> Vec<File> {
+    calls(&mut stream);
+    vec![("stream".into(), stream.bytes)]
+}
+
+fn files_of(pairs: Vec<Pair>) -> Vec<File> {
+    let mut files = Vec::new();
+    for (i, pair) in pairs.into_iter().enumerate() {
+        files.push((format!("{i:04}.table"), pair.table));
+        files.push((format!("{i:04}.packets"), pair.packets));
+    }
+    files
+}

@@ -1,0 +1,173 @@
+//! Whole runs of calls: what a run may depend on, and what not.
+
+use second::cases::packets::{any_packet, one_of_each, Marks, Packet};
+use second::cases::picked_state::all_flags;
+use second::cases::sheet::any_fit;
+use second::drive::State;
+use second::limits::BOUND;
+use second::packet::{perform, Reply};
+use second::refusal::Refusal;
+use second::rng::Rng;
+use second::sense::Sense;
+use second::table::read;
+
+#[derive(Clone, Copy)]
+enum Call {
+    PowerOn,
+    Button,
+    Lay,
+    Lift,
+    Packet(Packet),
+}
+
+/// What a call gives back: a packet's reply, or a tray call's result.
+#[derive(Debug, PartialEq)]
+enum Given {
+    Reply(Reply),
+    Moved(Result<State, Refusal>),
+}
+
+/// A drive with the table and the memory lent to it.
+struct Bench {
+    state: State,
+    table: Vec<u8>,
+    memory: Vec<u8>,
+}
+
+impl Bench {
+    fn new(state: State, table: Vec<u8>) -> Bench {
+        Bench {
+            state,
+            table,
+            memory: vec![0xC5; BOUND],
+        }
+    }
+
+    fn call(&mut self, call: Call) -> Given {
+        let moved = match call {
+            Call::Packet(packet) => {
+                let reply = perform(self.state, &self.table, &packet, &mut self.memory);
+                self.state = reply.next;
+                return Given::Reply(reply);
+            }
+            Call::PowerOn => Ok(self.state.power_on()),
+            Call::Button => self.state.button(),
+            Call::Lay => self.state.lay(),
+            Call::Lift => self.state.lift(),
+        };
+        self.state = moved.unwrap_or(self.state);
+        Given::Moved(moved)
+    }
+}
+
+fn any_call(rng: &mut Rng, marks: &Marks) -> Call {
+    match rng.below(12) {
+        0 => Call::PowerOn,
+        1 => Call::Button,
+        2 => Call::Lay,
+        3 => Call::Lift,
+        4..=7 => Call::Packet(rng.pick(&one_of_each())),
+        _ => Call::Packet(any_packet(rng, marks)),
+    }
+}
+
+fn any_bench(rng: &mut Rng) -> (Bench, Marks) {
+    let flags: Vec<State> = all_flags().collect();
+    let table = any_fit(rng).bytes();
+    let marks = Marks::of(read(&table).ok().as_ref());
+    (Bench::new(rng.pick(&flags), table), marks)
+}
+
+/// From a power-on two runs of the same calls, with different fit tables, give
+/// the same answers, states and memory, up to and with the answer that leaves
+/// nothing pending.
+#[test]
+fn two_runs_agree() {
+    let mut rng = Rng::new(5);
+    let (mut told, mut longest) = (0, 0);
+    for _ in 0..3_000 {
+        let (mut one, marks) = any_bench(&mut rng);
+        one.state = one.state.power_on();
+        let mut other = Bench::new(one.state, any_fit(&mut rng).bytes());
+        for calls in 0..40 {
+            let call = any_call(&mut rng, &marks);
+            assert_eq!(one.call(call), other.call(call));
+            assert_eq!((one.state, &one.memory), (other.state, &other.memory));
+            longest = longest.max(calls);
+            if !one.state.power && !one.state.change {
+                told += 1;
+                break;
+            }
+        }
+    }
+    assert!(told > 2_500 && longest > 10, "{told} {longest}");
+}
+
+/// The same call on the same drive gives the same, however often it is made.
+#[test]
+fn same_input_same_outcome() {
+    let mut rng = Rng::new(6);
+    for _ in 0..300 {
+        let (mut one, marks) = any_bench(&mut rng);
+        for _ in 0..20 {
+            let call = any_call(&mut rng, &marks);
+            let mut again = Bench::new(one.state, one.table.clone());
+            again.memory.clone_from(&one.memory);
+            assert_eq!(one.call(call), again.call(call));
+            assert_eq!((one.state, &one.memory), (again.state, &again.memory));
+        }
+    }
+}
+
+/// The ASC of the attention that a packet tells, given what is pending.
+fn told(packet: &Packet, held: Sense, reply: &Reply, power: bool, change: bool) -> Option<u8> {
+    let first = match (power, change) {
+        (true, _) => Some(0x29),
+        (false, true) => Some(0x28),
+        _ => None,
+    };
+    match packet[0] {
+        // "INQUIRY and REQUEST SENSE are performed even with an attention
+        // pending"; the latter tells with nothing held, its length may be 0.
+        0x12 => None,
+        0x03 => first.filter(|_| held == Sense::new(0, 0, 0)),
+        _ => {
+            let key = reply.next.sense.key;
+            let asc = (reply.status == 2 && key == 6).then_some(reply.next.sense.asc);
+            assert_eq!(asc, first, "{packet:02X?}");
+            asc
+        }
+    }
+}
+
+/// An attention is pending exactly when it was caused at or since the last
+/// power-on and not told later: kept here from what each call shows.
+#[test]
+fn pending_from_the_history() {
+    let mut rng = Rng::new(7);
+    for _ in 0..1_000 {
+        let (mut bench, marks) = any_bench(&mut rng);
+        bench.call(Call::PowerOn);
+        let (mut power, mut change) = (true, false);
+        for _ in 0..40 {
+            let call = any_call(&mut rng, &marks);
+            let before = bench.state;
+            let given = bench.call(call);
+            match (call, given) {
+                (Call::PowerOn, _) => (power, change) = (true, false),
+                (Call::Packet(packet), Given::Reply(reply)) => {
+                    match told(&packet, before.sense, &reply, power, change) {
+                        Some(0x29) => power = false,
+                        Some(_) => change = false,
+                        None => {}
+                    }
+                }
+                _ => {}
+            }
+            // Loading, by button or packet; before one telling it counts once.
+            let after = bench.state;
+            change |= before.tray_open && !after.tray_open && after.disc_in;
+            assert_eq!((after.power, after.change), (power, change), "{before:?}");
+        }
+    }
+}
