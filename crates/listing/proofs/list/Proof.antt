@@ -1,11 +1,9 @@
 -- `listing::list` meets its contract: each turn takes the next twelve bytes, and its packet meets the state that the one before left.
 use mathlib.Core.Path.{_≡_, refl, sym, ap, _∙_}
-use mathlib.Core.List.{List}
-use Prim.Native.Nat.{ℕ, _+_, _-_, _*_, _≤_}
+use Prim.Native.Nat.{_+_, _-_, _*_, _≤_}
 use native.Mathlib.Omega.{arith}
 use lib.ListN.{length, take}
 use Rattle.ground.specs.Memory.{rest-all}
-use Rattle.disc.specs.Layout.{bound}
 use Rattle.listing.specs.Run.{stateAfter, stateAfter-none, stateAfter-met}
 use borrow.Author.Needs.{needs}
 use Rattle.listing.proofs.list.Statement.{statement}
