@@ -192,6 +192,7 @@ fit-loaded t l true e h k = e
 fit-loaded t true false e h k = absurd (true≢false h)
 fit-loaded t false false e h k = absurd (true≢false (sym k))
 
+-- whatever the first three tests say, the test for 9 does not hold
 pub over-never : (d : Drive) (p t : List ℕ) (twelve known under : Bool)
     → twelve and known and not under and not (isLoaded (d .mechanics) and not (isFit t)) and ltb bound (length (stepped d p t .full)) ≡ false
 over-never d p t a b c = last-off a b c _ _

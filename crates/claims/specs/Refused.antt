@@ -68,13 +68,13 @@ module _ (d : Drive) where
 
     -- it is never given: of a fit table, and without one, no full answer passes the bound
     pub refused-9-never : gives (packet p t m) 9 ≡ false
-    refused-9-never = refused-9 ∙ over-never d p t (eqb (length p) 12) (isKnown (d .unit .sense)) (ltb (length m) 4360)
+    refused-9-never = refused-9 ∙ over-never d p t isTwelve isOfTen isUnder
 
     -- and no other number but 0
     pub refused-not : gives (packet p t m) 0 ≡ isTwelve and isOfTen and not isUnder and not isUnfit and not isOver
     refused-not = reply-ordered d p t (length m) .zero
 
-  -- ---- "Button, laying and lifting test 2 before 5 to 7."
+  -- ---- power-on
 
   -- "Power-on .. keeps the handed state's tray and disc and is never refused: lock off, sense 00/00/00, power attention pending,
   -- change attention not": of every state, also with a held sense that is none of the ten. It hands back the state alone, and no number.
@@ -86,6 +86,8 @@ module _ (d : Drive) where
       }
   unfolding powerOn senseAt
   refused-power = refl
+
+  -- ---- "Button, laying and lifting test 2 before 5 to 7."
 
   -- "an open tray closes; a closed one opens, unless locked (5)"
   pub refused-button-2 : gives pressing 2 ≡ not isOfTen

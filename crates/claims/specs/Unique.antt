@@ -47,7 +47,7 @@ use Rattle.command.specs.Tray.{done, startStop, prevent, noMedium}
 use Rattle.command.specs.Done.{doneOf}
 use Rattle.toc.specs.Answer.{tocBytes, tocBad}
 use Rattle.outcome.specs.declared.Outcome.{Outcome}
-use Rattle.outcome.specs.Outcome.{Answered, refused, checked, finished}
+use Rattle.outcome.specs.Outcome.{Answered, refused, checked, granted, finished}
 use Rattle.target.specs.Packet.{answer}
 
 -- ---- the shapes of a promise, a law each
@@ -271,6 +271,10 @@ unique-refuse n d r s = value-once
 
 pub unique-check : (a : Sense) (u : Unit) (m : Mechanics) (r s : Outcome) → r ≡ checked a u m → s ≡ checked a u m → r ≡ s
 unique-check a u m r s = value-once
+
+pub unique-good : (len start count : ℕ) (u : Unit) (m : Mechanics) (r s : Outcome)
+    → r ≡ granted len start count u m → s ≡ granted len start count u m → r ≡ s
+unique-good len start count u m r s = value-once
 
 pub unique-finish : (u v : Unit) (m : Mechanics) (d : Done) (r s : Outcome) → r ≡ finished u v m d → s ≡ finished u v m d → r ≡ s
 unique-finish u v m d r s = value-once

@@ -15,7 +15,8 @@ use line::put_line;
 use print::front::front;
 use target::packet::packet;
 ghost use mathlib.Core.Path.{_≡_};
-ghost use Prim.Native.Nat.{_≤_};
+ghost use mathlib.Core.Bool.{true};
+ghost use Prim.Native.Nat.{_*_, _≤_};
 ghost use lib.ListN.{length};
 ghost use Rattle.disc.specs.Layout.{bound};
 ghost use Rattle.listing.specs.Run.{loaded, stateAfter};
@@ -52,16 +53,18 @@ fn loaded() -> Drive
     Drive { unit, mechanics }.power_on()
 }
 
-// How many packets were met, and the state after the last of them.
+// How many packets were met, the state after the last of them, and whether that was the file's last: not so where a line could not be
+// written. It is there for the promise alone.
 struct Listed {
     met: usize,
     state: Drive,
+    whole: bool,
 }
 
 // Meets the packets one after the other, each with the state that the one before left, and writes their lines.
 fn list(table: &[u8], packets: &[u8], mem: &mut [u8], line: &mut [u8]) -> Listed
     requires { ⌜ (length (now packets) ≤ 49152) × (length (now mem) ≡ bound) ⌝ }
-    ensures { λ r. ⌜ r .state ≡ stateAfter (now (table .entry)) (now (packets .entry)) (r .met) ⌝ }
+    ensures { λ r. ⌜ (r .state ≡ stateAfter (now (table .entry)) (now (packets .entry)) (r .met)) × (r .whole ≡ true → length (now (packets .entry)) ≤ 12 * r .met) ⌝ }
 {
     let mut state = loaded();
     let mut n = 0;
@@ -73,10 +76,18 @@ fn list(table: &[u8], packets: &[u8], mem: &mut [u8], line: &mut [u8]) -> Listed
         state = o.state;
         at += PACKET;
         if !write(front(line, k)) {
-            return Listed { met: n, state };
+            return Listed {
+                met: n,
+                state,
+                whole: false,
+            };
         }
     }
-    Listed { met: n, state }
+    Listed {
+        met: n,
+        state,
+        whole: true,
+    }
 }
 
 fn main() {

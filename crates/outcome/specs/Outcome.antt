@@ -24,6 +24,7 @@ stateOf a = record { unit = a .unit; mechanics = a .mechanics }
 abbrev pub bytesOf : Reply Mechanics → List ℕ
 bytesOf a = take (a .limit) (a .full)
 
+-- what is handed back of an answer: its number, status, how many bytes, start, count, and the state
 abbrev pub outcomeOf : Reply Mechanics → Outcome
 outcomeOf a = record {
   number = a .number;
@@ -49,15 +50,12 @@ refused n d = record { number = n; status = 0; len = 0; start = 0; count = 0; st
 abbrev pub checked : Sense → Unit → Mechanics → Outcome
 checked s u m = record { number = 0; status = 0x02; len = 0; start = 0; count = 0; state = record { unit = hold s u; mechanics = m } }
 
--- a command's end: CHECK CONDITION over the unit u, or "GOOD is status 00h" over the unit v
+-- "GOOD is status 00h"
+abbrev pub granted : ℕ → ℕ → ℕ → Unit → Mechanics → Outcome
+granted len start count u m =
+    record { number = 0; status = 0x00; len = len; start = start; count = count; state = record { unit = u; mechanics = m } }
+
+-- a command's end: CHECK CONDITION over the unit u, or GOOD over the unit v, a loading attended to
 abbrev pub finished : Unit → Unit → Mechanics → Done → Outcome
 finished u v m (Fails f) = checked (senseOf f) u m
-finished u v m (Goes w) =
-    record {
-      number = 0;
-      status = 0x00;
-      len = w .len;
-      start = w .start;
-      count = w .count;
-      state = record { unit = attend (w .loading) v; mechanics = w .next };
-    }
+finished u v m (Goes w) = granted (w .len) (w .start) (w .count) (attend (w .loading) v) (w .next)

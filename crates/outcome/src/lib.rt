@@ -11,7 +11,7 @@ use gate::unit::sense_of_pending;
 use gate::unit::told;
 ghost use mathlib.Core.Path.{_≡_};
 ghost use Rattle.gate.specs.Unit.{attentionSense, told};
-ghost use Rattle.outcome.specs.Outcome.{refused, checked, finished};
+ghost use Rattle.outcome.specs.Outcome.{refused, checked, granted, finished};
 
 // The refusal's number or 0, the status, how many bytes were written, the blocks that a READ names, and the next state.
 pub struct Outcome {
@@ -54,6 +54,20 @@ pub fn check(sense: Sense, unit: Unit, mechanics: Mechanics) -> Outcome
     }
 }
 
+// GOOD: what was written, the blocks that a READ names, and the state after it.
+pub fn good(len: usize, start: usize, count: usize, unit: Unit, mechanics: Mechanics) -> Outcome
+    ensures { λ r. ⌜ r ≡ granted len start count unit mechanics ⌝ }
+{
+    Outcome {
+        number: 0,
+        status: 0x00,
+        len,
+        start,
+        count,
+        state: Drive { unit, mechanics },
+    }
+}
+
 // A command's end: CHECK CONDITION over the unit u, or GOOD over the unit v, attending to a loading.
 pub fn finish(u: Unit, v: Unit, mechanics: Mechanics, done: Done) -> Outcome
     ensures { λ r. ⌜ r ≡ finished u v mechanics done ⌝ }
@@ -62,17 +76,7 @@ pub fn finish(u: Unit, v: Unit, mechanics: Mechanics, done: Done) -> Outcome
         Done::Fails(f) => check(sense_of(f), u, mechanics),
         Done::Goes(w) => {
             let next = w.next;
-            Outcome {
-                number: 0,
-                status: 0x00,
-                len: w.len,
-                start: w.start,
-                count: w.count,
-                state: Drive {
-                    unit: v.attend(w.loading),
-                    mechanics: next,
-                },
-            }
+            good(w.len, w.start, w.count, v.attend(w.loading), next)
         }
     }
 }

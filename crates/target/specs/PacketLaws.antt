@@ -5,7 +5,6 @@ use mathlib.Core.List.{List}
 use Prim.Native.Nat.{ℕ, _≤_, _<_, min}
 use native.Mathlib.Omega.{arith}
 use lib.ListN.{length, take, length-take}
-use lib.Dec.{eqb}
 use borrow.Author.Tests.{eq-eqb, ne-eqb, lt-ltb, le-ltb}
 use Rattle.ground.specs.Tests.{_and_, when, unless, and-both, and-off, and-late}
 use Rattle.ground.specs.Memory.{Laid, fill, fill-none}
@@ -14,24 +13,21 @@ use Rattle.drive.specs.declared.state.Unit.{Unit}
 use Rattle.drive.specs.declared.state.Mechanics.{Mechanics}
 use Rattle.drive.specs.declared.state.Drive.{Drive}
 use Rattle.drive.specs.Sense.{isKnown}
-use Rattle.drive.specs.Unit.{attend}
 use Rattle.drive.specs.State.{isLoaded, unknownSense}
 use Rattle.disc.specs.Layout.{bound}
 use Rattle.disc.specs.Rules.{isFit}
 use Rattle.disc.specs.Part.{unfit}
 use Rattle.disc.specs.declared.disc.Disc.{Disc}
-use Rattle.gate.specs.Fault.{senseOf}
 use Rattle.gate.specs.declared.unit.Pending.{Pending}
 use Rattle.gate.specs.declared.unit.Pending.the-variants.{Power, Change, Nothing}
-use Rattle.gate.specs.Unit.{hold, clear, pendingOf, attentionSense, told}
+use Rattle.gate.specs.Unit.{clear, pendingOf, attentionSense, told}
 use Rattle.gate.specs.Gate.{Result, fails, goes, Reply, refuse, check, good, settle, pass, meet, gate}
 use Rattle.command.specs.declared.decode.Command.{Command}
 use Rattle.command.specs.declared.decode.Kind.{Kind}
 use Rattle.command.specs.declared.decode.Kind.the-variants.{Asks, Passes, Gates}
 use Rattle.command.specs.declared.done.Done.{Done}
-use Rattle.command.specs.declared.done.Done.the-variants.{Fails, Goes}
 use Rattle.outcome.specs.declared.Outcome.{Outcome}
-use Rattle.outcome.specs.Outcome.{outcomeOf, bytesOf, Answered, refused, checked, finished}
+use Rattle.outcome.specs.Outcome.{outcomeOf, bytesOf, Answered, refused, checked, granted, finished}
 use Rattle.command.specs.Done.{doneOf}
 use Rattle.target.specs.Perform.{written, Performed, perform}
 use Rattle.target.specs.FitFacts.{ReadOff}
@@ -92,8 +88,7 @@ answered-pass u k r {m = m} f e = record {
 -- an answer with an allocation length, laid into a memory that holds it whole
 pub answered-good :
     (full : List ℕ) (u : Unit) (k : Mechanics) {limit n : ℕ} {m m′ : List ℕ} → length full ≤ length m → Laid m (take limit full) n m′
-    → Answered (good full limit 0 0 u k) m
-    (record { number = 0; status = 0x00; len = n; start = 0; count = 0; state = record { unit = u; mechanics = k } }) m′
+    → Answered (good full limit 0 0 u k) m (granted n 0 0 u k) m′
 answered-good full u k {limit} {n} h l =
     let e : n ≡ min limit (length full) = let a = l .count in let b = length-take limit full in omega arith in
     record { outcome = rw e; memory = l .bytes }

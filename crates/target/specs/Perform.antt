@@ -45,7 +45,7 @@ L t = leadOut (lastPart t)
 abbrev pub readCapacity : Mechanics → ℕ → Result Mechanics
 readCapacity m l = goes m false (bytes32 (l - 1) ++ bytes32 2048) 8 0 0
 
--- "over L − 1": l is L
+-- "over L − 1": l is L, which is 1 or more of a fit table
 abbrev pub over : ℕ → ℕ → Bool
 over a l = ltb (l - 1) a
 

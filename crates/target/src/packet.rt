@@ -4,7 +4,6 @@ use command::decode::Command;
 use command::decode::Kind;
 use command::decode::decode;
 use command::decode::kind_of;
-use command::done::Done;
 use disc::disc::Disc;
 use disc::disc::Reading;
 use disc::disc::read;
@@ -22,6 +21,7 @@ use ground::memory::put_cut;
 use ground::number::wide;
 use outcome::Outcome;
 use outcome::finish;
+use outcome::good;
 use outcome::refuse;
 use outcome::tell;
 ghost use mathlib.Core.Path.{_≡_};
@@ -52,14 +52,7 @@ fn ask_sense(d: Drive, limit: usize, mem: &mut [u8]) -> Outcome
     let unit = g.unit;
     let full = sense_bytes(g.sense);
     let len = put_cut(&full, limit, mem);
-    Outcome {
-        number: 0,
-        status: 0x00,
-        len,
-        start: 0,
-        count: 0,
-        state: Drive { unit, mechanics },
-    }
+    good(len, 0, 0, unit, mechanics)
 }
 
 // Step 1: performed even with an attention pending; GOOD leaves the sense.

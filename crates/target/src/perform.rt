@@ -169,7 +169,7 @@ fn read12(p: &[u8], m: Mechanics, t: &[u8], disc: Disc) -> Done
     read(word_at(p, 2), word_at(p, 6), m, t, disc)
 }
 
-// Step 5: each command's own work.
+// Step 5: each command's own work. (REQUEST SENSE never comes here: `steps` answers it by `ask_sense`.)
 fn work(c: Command, p: &[u8], m: Mechanics, t: &[u8], disc: Disc, mem: &mut [u8]) -> Done
     requires { ⌜ Met c (now p) (now t) disc (now mem) ⌝ }
     ensures { λ r. ⌜ Performed (work c (now (p .entry)) m (now (t .entry))) (now (mem .entry)) r (now (mem .exit)) ⌝ }

@@ -1,10 +1,12 @@
 -- `listing::list` meets its contract: each turn takes the next twelve bytes, and its packet meets the state that the one before left.
 use mathlib.Core.Path.{_≡_, refl, sym, ap, _∙_}
+use mathlib.Core.Bool.{true≢false}
 use Prim.Native.Nat.{_+_, _-_, _*_, _≤_}
 use native.Mathlib.Omega.{arith}
 use lib.ListN.{length, take}
 use Rattle.ground.specs.Memory.{rest-all}
-use Rattle.listing.specs.Run.{stateAfter, stateAfter-none, stateAfter-met}
+use Rattle.listing.specs.Run.{stateAfter}
+use Rattle.listing.specs.RunLaws.{stateAfter-none, stateAfter-met}
 use borrow.Author.Needs.{needs}
 use Rattle.listing.proofs.list.Statement.{statement}
 use Rattle.listing.proofs.list.Tie as tie
@@ -26,7 +28,7 @@ more c =
     stateAfter-met _ _ _ _ (l .0) (l .4) (c .before .before .before .before .before .before .before .before .before .before .before .before .before .before .front .ensures .shows ∙ ap (take 12) (rest-all (c .before .before .before .before .before .before .before .before .before .before .before .before .before .before .before .before .before .loop .at) (c .before .before .before .before .before .before .before .before .before .before .before .before .before .before .before .before .before .before .before .before .before .before .before .args .packets .now))) (l .2 ∙ c .before .before .before .before .before .before .before .before .before .before .before .before .before .before .before .before .before .before .before .before .before .before .before .pre .1) (c .before .before .before .before .before .before .before .before .before .before .before .before .packet .ensures)
 
 returns : tie.Need-returns Inv-loop μ-loop
-returns c = more (c .before)
+returns c = (more (c .before), λ e. absurd (true≢false (sym e)))
 
 loop-again : tie.Need-loop-again Inv-loop μ-loop
 loop-again c =
@@ -36,7 +38,7 @@ loop-again c =
     (omega arith, omega arith, search needs, search needs, more (c .before))
 
 returns-2 : tie.Need-returns-2 Inv-loop μ-loop
-returns-2 c = c .before .loop .inv .4
+returns-2 c = let l = c .before .loop .inv in let t = c .loop-test .left in (l .4, λ e. omega arith)
 
 pub list-spec : {M : Type 1} → statement M
 list-spec =

@@ -7,11 +7,12 @@ use Rattle.target.proofs.packet.ask_sense.Tie as tie
 
 returns : tie.Need-returns
 returns c =
-    let h = c .before .before .before .before .before .before .before .before .before .before .pre in
-    rw (← c .before .before .before .before .before .before .before .give .ensures)
-    (answered-good _ _ _ (omega arith) (rw (c .before .before .before .before .before .sense-bytes .ensures) at (c .before .before .put-cut .ensures)))
+    let h = c .before .before .before .before .before .before .before .before .before .before .before .pre in
+    rw (← c .before .before .before .before .before .before .before .before .give .ensures, c .good2 .ensures)
+    (answered-good _ _ _ (omega arith) (rw (c .before .before .before .before .before .before .sense-bytes .ensures) at (c .before .before .before .put-cut .ensures)))
 
 pub ask-sense-spec : {M : Type 1} → statement M
 ask-sense-spec =
     tie.close
-    (tie.spec (λ c κs. search needs) (λ c κs. search needs) (λ c. search needs) (λ c κs. search needs) (λ c. search needs) returns)
+    (tie.spec (λ c κs. search needs) (λ c κs. search needs) (λ c. search needs) (λ c κs. search needs) (λ c κs. search needs)
+    (λ c. search needs) returns)
