@@ -42,6 +42,7 @@ abbrev pub calls : List Asked → List Call
 calls [] = []
 calls (a ∷ qs) = packet (a .bytes) (a .table) (a .memory) ∷ calls qs
 
+-- what came back is its outcome and its memory, and nothing else
 same-got : (g h : Got) → g .outcome ≡ h .outcome → g .memory ≡ h .memory → g ≡ h
 same-got g h p q = ap₂ (λ (o : Outcome) (m : List ℕ). record { outcome = o; memory = m }) p q
 

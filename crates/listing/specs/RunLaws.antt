@@ -11,10 +11,12 @@ use Rattle.outcome.specs.Outcome.{stateOf, Answered}
 use Rattle.target.specs.Packet.{answer}
 use Rattle.listing.specs.Run.{loaded, packetAt, stateAfter}
 
+-- before the first packet
 pub stateAfter-none : (t f : List ℕ) → stateAfter t f 0 ≡ loaded
 unfolding stateAfter
 stateAfter-none t f = refl
 
+-- after one packet more, with the counter as the code has it
 pub stateAfter-more : (t f : List ℕ) (n : ℕ) → stateAfter t f (n + 1) ≡ stateOf (answer (stateAfter t f n) (packetAt f n) t bound)
 unfolding stateAfter
 stateAfter-more t f n = rw add-one

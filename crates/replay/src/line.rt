@@ -11,7 +11,6 @@ use print::hex::next_shown;
 use print::hex::next_three;
 use print::sum::adler32;
 ghost use mathlib.Core.Path.{_≡_};
-ghost use lib.ListN.{length};
 ghost use Rattle.ground.specs.Memory.{Laid};
 ghost use Rattle.replay.specs.Line.{digit as Line·digit};
 ghost use Rattle.replay.specs.Line.{stateText, call, sumText, decimals, movedLine, outcomeText, memoryText, packetLine, msfLine, addressLine, partText, partLine};
