@@ -1,9 +1,9 @@
-/* The seven rules of a disc table in plain C, one function a rule: what our code is measured against. */
+/* The seven rules of a disc table in plain C, one function a rule: what our code is measured against. It names the broken one. */
 #include <stddef.h>
 #include <stdint.h>
 #include "fit.h"
 
-enum { HEADER = 4, ROW = 11, BOUND = 4360 };
+enum { HEADER = 4, ROW = 11, BOUND = 6538 };
 
 static unsigned address(const uint8_t *e)
 {
@@ -13,6 +13,12 @@ static unsigned address(const uint8_t *e)
 static int is_track(unsigned point)
 {
     return point >= 1 && point <= 99;
+}
+
+/* B0h and C0h, which may follow a session's tracks. */
+static int is_mode5(unsigned point)
+{
+    return point == 0xB0 || point == 0xC0;
 }
 
 static int rule1(const uint8_t *t, size_t n)
@@ -29,7 +35,9 @@ static int rule3(const uint8_t *d, size_t rows)
 {
     for (size_t j = 0; j < rows; j++) {
         const uint8_t *e = d + ROW * j;
-        if (e[1] / 16 != 1 || e[2] != 0 || e[7] != 0)
+        if (e[2] != 0)
+            return 0;
+        if (is_mode5(e[3]) ? e[1] / 16 != 5 : e[1] / 16 != 1 || e[7] != 0)
             return 0;
     }
     return 1;
@@ -57,6 +65,10 @@ static int rule4(const uint8_t *d, size_t rows, unsigned sessions)
             if (!named(e + ROW * (3 + n - f), k, n))
                 return 0;
         j += 3 + (l + 1 - f);
+        if (j < rows && named(d + ROW * j, k, 0xB0))
+            j++;
+        if (j < rows && named(d + ROW * j, k, 0xC0))
+            j++;
         last = l;
     }
     return j == rows;
@@ -84,9 +96,9 @@ static int rule6(const uint8_t *d, size_t rows)
     return 1;
 }
 
-static int rule7(const uint8_t *d, unsigned sessions)
+static int rule7(const uint8_t *d, size_t rows, unsigned sessions)
 {
-    const uint8_t *e = d;
+    const uint8_t *e = d, *end = d + ROW * rows;
     unsigned out = 0;
     for (unsigned k = 1; k <= sessions; k++) {
         unsigned n = e[ROW + 8] + 1 - e[8];
@@ -100,6 +112,8 @@ static int rule7(const uint8_t *d, unsigned sessions)
         if (address(track) >= out)
             return 0;
         e = track + ROW;
+        while (e < end && is_mode5(e[3]))
+            e += ROW;
     }
     return 1;
 }
@@ -121,7 +135,7 @@ unsigned fault(const uint8_t *t, size_t n)
         return 5;
     if (!rule6(d, rows))
         return 6;
-    if (!rule7(d, t[3]))
+    if (!rule7(d, rows, t[3]))
         return 7;
     return 0;
 }

@@ -7,7 +7,7 @@ extern size_t measured_packet(const uint8_t *p, size_t pn, const uint8_t *t, siz
 
 int main(int argc, char **argv)
 {
-    static uint8_t table[8192], memory[4360], packet[12];
+    static uint8_t table[8192], memory[6538], packet[12];
     if (argc < 3)
         return 2;
     FILE *f = fopen(argv[1], "rb");

@@ -1,12 +1,14 @@
-/* table SESSIONS TRACKS [ROWS [late]]: writes a fit table of 3 * SESSIONS + TRACKS descriptors; the first session has the tracks that are over.
-   ROWS keeps that many descriptors; `late` puts the last lead-out at block 0, which breaks rule 7 as late as can be. */
+/* table [b0c0] SESSIONS TRACKS [ROWS [late]]: writes a fit table of 3 * SESSIONS + TRACKS descriptors; the first session has the tracks that are
+   over. `b0c0` ends each session with a B0h and a C0h descriptor: 2 * SESSIONS more. ROWS keeps that many descriptors; `late` puts the last
+   lead-out at block 0, which breaks rule 7 as late as can be. */
 #include <stdio.h>
 #include <stdlib.h>
+#include <string.h>
 
 static unsigned char d[8192];
 static unsigned n;
 
-static void put(unsigned session, unsigned point, unsigned a, unsigned b, unsigned c)
+static unsigned char *put(unsigned session, unsigned point, unsigned a, unsigned b, unsigned c)
 {
     unsigned char *e = d + 11 * n++;
     e[0] = session;
@@ -15,6 +17,7 @@ static void put(unsigned session, unsigned point, unsigned a, unsigned b, unsign
     e[8] = a;
     e[9] = b;
     e[10] = c;
+    return e;
 }
 
 static void put_at(unsigned session, unsigned point, unsigned address)
@@ -22,8 +25,19 @@ static void put_at(unsigned session, unsigned point, unsigned address)
     put(session, point, (address + 150) / 75 / 60, (address + 150) / 75 % 60, (address + 150) % 75);
 }
 
+/* B0h or C0h, with bytes that no other descriptor may hold: ADR 5, a ZERO of 2, minutes over 99 */
+static void put_mode5(unsigned session, unsigned point)
+{
+    unsigned char *e = put(session, point, 0xFF, 0xFF, 0xFF);
+    e[1] = 0x54;
+    e[7] = 2;
+}
+
 int main(int argc, char **argv)
 {
+    int mode5 = argc > 1 && !strcmp(argv[1], "b0c0");
+    argc -= mode5;
+    argv += mode5;
     if (argc < 3 || argc > 5)
         return 2;
     unsigned sessions = atoi(argv[1]), tracks = atoi(argv[2]), track = 1, at = 0;
@@ -34,6 +48,10 @@ int main(int argc, char **argv)
         put_at(k, 0xA2, argc == 5 && k == sessions ? 0 : at + 1000 * count);
         for (unsigned i = 0; i < count; i++, at += 1000)
             put_at(k, track++, at);
+        if (mode5) {
+            put_mode5(k, 0xB0);
+            put_mode5(k, 0xC0);
+        }
         at += 1000;
     }
     if (argc >= 4 && atoi(argv[3]) < (int)n)

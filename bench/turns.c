@@ -23,6 +23,8 @@ int main(int argc, char **argv)
     unsigned (*measured)(const uint8_t *, size_t);
     if (!strcmp(argv[1], "c"))
         measured = fault;
+    else if (!strcmp(argv[1], "pass"))
+        measured = fit_in_one_pass;
     else if (!strcmp(argv[1], "fault"))
         measured = told_by_fault;
     else if (!strcmp(argv[1], "read"))

@@ -1,5 +1,6 @@
 //! The example files for the README.
 
+use crate::cases::draft;
 use crate::cases::packets::{capacity, read10, request_sense, test_ready, toc, Packet};
 use crate::cases::sheet::{disc_e, two_sessions};
 use crate::files::File;
@@ -37,6 +38,27 @@ pub fn sessions() -> Vec<Packet> {
     ]
 }
 
+/// 004's READ TOC over its Table 134: format 1 (its Table 135), also with MSF,
+/// format 0, format 2 from the first and the last session; then the capacity.
+/// Lengths and byte 9 as 004 prints them; the format stands in byte 2 too, the
+/// one place where 01 looks for it.
+pub fn t134() -> Vec<Packet> {
+    let printed = |msf, format: u8, number| {
+        let mut p = toc(msf, format, number, 0x1000);
+        p[9] = format << 6;
+        p
+    };
+    vec![
+        test_ready(),
+        printed(false, 1, 0),
+        printed(true, 1, 0),
+        printed(false, 0, 0),
+        printed(false, 2, 1),
+        printed(false, 2, 4),
+        capacity(),
+    ]
+}
+
 pub fn files() -> Vec<File> {
     vec![
         ("disc-e.table".into(), disc_e().bytes()),
@@ -44,5 +66,7 @@ pub fn files() -> Vec<File> {
         ("marked.packets".into(), marked().concat()),
         ("two-sessions.table".into(), two_sessions().bytes()),
         ("sessions.packets".into(), sessions().concat()),
+        ("sff-8020i-t134.table".into(), draft::t134().bytes()),
+        ("sff-8020i-t134.packets".into(), t134().concat()),
     ]
 }

@@ -6,7 +6,7 @@ pub enum Refusal {
     PacketLength,
     /// "held sense is none of the ten below"
     UnknownSense,
-    /// "response memory is under 4,360 bytes"
+    /// "response memory is under 6,538 bytes" (K1's bound)
     SmallMemory,
     /// "loaded, or asked for a session's part, and the table is not fit"
     UnfitTable,
@@ -18,7 +18,7 @@ pub enum Refusal {
     CannotLift,
     /// "address over 449,849, or M:S:F outside rule 6"
     BadAddress,
-    /// "a full answer would pass 4,360 bytes"
+    /// "a full answer would pass 6,538 bytes" (K1's bound)
     LongAnswer,
     /// "a session asked for is 0 or over S"
     NoSession,

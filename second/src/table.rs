@@ -8,6 +8,10 @@ pub const POINT_FIRST: u8 = 0xA0;
 pub const POINT_LAST: u8 = 0xA1;
 pub const POINT_LEAD_OUT: u8 = 0xA2;
 
+/// K1: "at most one POINT B0h and then at most one C0h descriptor".
+pub const POINT_B0: u8 = 0xB0;
+pub const POINT_C0: u8 = 0xC0;
+
 /// "session, ADR (high nibble) and control (low), TNO, POINT, MIN, SEC,
 /// FRAME, ZERO, PMIN, PSEC, PFRAME".
 #[derive(Clone, Copy, Debug, PartialEq, Eq)]
@@ -31,6 +35,10 @@ impl Row {
     }
     pub fn p(&self) -> Msf {
         Msf::new(self.0[8], self.0[9], self.0[10])
+    }
+    /// K1's two, by POINT alone.
+    pub fn is_mode_5(&self) -> bool {
+        matches!(self.point(), POINT_B0 | POINT_C0)
     }
 }
 
@@ -56,6 +64,7 @@ pub struct Session {
     /// ADR and control of the A2 descriptor.
     pub lead_out_bits: u8,
     pub tracks: Vec<Track>,
+    /// All of its descriptors, B0h and C0h among them.
     pub rows: Vec<Row>,
     /// Where its A0 descriptor stands in the table, in bytes.
     pub place: usize,
@@ -79,24 +88,22 @@ pub fn read(bytes: &[u8]) -> Result<Disc, u8> {
         .chunks_exact(ROW)
         .map(|row| Row(row.try_into().expect("a row is 11 bytes")))
         .collect();
-    // "every descriptor has ADR 1, TNO 0 and ZERO 0"
-    if rows
-        .iter()
-        .any(|row| row.bits() >> 4 != 1 || row.tno() != 0 || row.zero() != 0)
-    {
+    if !rows.iter().all(rule_3) {
         return Err(3);
     }
     let runs = runs_of_equal_session(&rows);
     if !rule_4(&runs, last_session) {
         return Err(4);
     }
-    if !runs.iter().all(|run| rule_5(run)) {
+    // K1: "Rules 5 to 7 .. pass over them".
+    let heads: Vec<&[Row]> = runs.iter().map(|run| cut_at_mode_5(run).0).collect();
+    if !heads.iter().all(|head| rule_5(head)) {
         return Err(5);
     }
     // "A2 (lead-out) and every track hold an address from 00:02:00 .."
-    if !runs
+    if !heads
         .iter()
-        .all(|run| run[2..].iter().all(|row| row.p().in_rule_6()))
+        .all(|head| head[2..].iter().all(|row| row.p().in_rule_6()))
     {
         return Err(6);
     }
@@ -109,8 +116,8 @@ pub fn read(bytes: &[u8]) -> Result<Disc, u8> {
     Ok(disc)
 }
 
-/// "it is 4 to 4,360 bytes long, 4 plus a multiple of 11, and its data length
-/// is its length less 2".
+/// "it is 4 to 6,538 bytes long, 4 plus a multiple of 11, and its data length
+/// is its length less 2", with K1's bound.
 fn rule_1(bytes: &[u8]) -> bool {
     let length = bytes.len();
     (HEADER..=BOUND).contains(&length)
@@ -118,31 +125,49 @@ fn rule_1(bytes: &[u8]) -> bool {
         && usize::from(u16::from_be_bytes([bytes[0], bytes[1]])) == length - 2
 }
 
+/// "every descriptor has ADR 1, TNO 0 and ZERO 0"; K1: a B0h or C0h has "ADR 5
+/// and TNO 0 (rule 3, in place of its own); other bytes are free". It goes by
+/// POINT, wherever the row stands.
+fn rule_3(row: &Row) -> bool {
+    if row.is_mode_5() {
+        return row.bits() >> 4 == 5 && row.tno() == 0;
+    }
+    row.bits() >> 4 == 1 && row.tno() == 0 && row.zero() == 0
+}
+
 /// The rows cut wherever the session byte changes.
 fn runs_of_equal_session(rows: &[Row]) -> Vec<&[Row]> {
     rows.chunk_by(|a, b| a.session() == b.session()).collect()
 }
 
+/// A run's rows before its first B0h or C0h, and all from there on.
+fn cut_at_mode_5(run: &[Row]) -> (&[Row], &[Row]) {
+    run.split_at(run.iter().take_while(|row| !row.is_mode_5()).count())
+}
+
 /// "it lists sessions 1 to S in order, each as POINT A0h, A1h, A2h and then
 /// tracks f, f+1, .. l, with f in A0's PMIN, l in A1's, 1 ≤ f ≤ l ≤ 99, the
-/// next session's f being l + 1, and nothing more".
+/// next session's f being l + 1, and nothing more". K1: "After a session's
+/// tracks there may stand" B0h and C0h, "each with its session's number (rule
+/// 4)".
 fn rule_4(runs: &[&[Row]], last_session: u8) -> bool {
     if runs.len() != usize::from(last_session) {
         return false;
     }
     let mut due_first: Option<u8> = None;
     for (run, number) in runs.iter().zip(1u8..) {
-        if run[0].session() != number || run.len() < 4 {
+        let (head, tail) = cut_at_mode_5(run);
+        if run[0].session() != number || head.len() < 4 {
             return false;
         }
-        let (f, l) = (run[0].p().m, run[1].p().m);
+        let (f, l) = (head[0].p().m, head[1].p().m);
         if f < 1 || f > l || l > 99 || due_first.is_some_and(|due| due != f) {
             return false;
         }
         let due = [POINT_FIRST, POINT_LAST, POINT_LEAD_OUT]
             .into_iter()
             .chain(f..=l);
-        if !run.iter().map(Row::point).eq(due) {
+        if !head.iter().map(Row::point).eq(due) || !may_close(tail) {
             return false;
         }
         due_first = Some(l + 1);
@@ -150,10 +175,19 @@ fn rule_4(runs: &[&[Row]], last_session: u8) -> bool {
     true
 }
 
+/// K1: "at most one POINT B0h and then at most one C0h descriptor".
+fn may_close(tail: &[Row]) -> bool {
+    let points: Vec<u8> = tail.iter().map(Row::point).collect();
+    matches!(
+        points[..],
+        [] | [POINT_B0] | [POINT_C0] | [POINT_B0, POINT_C0]
+    )
+}
+
 /// "A0's PSEC is 00h, 10h or 20h and its PFRAME 0; A1's PSEC and PFRAME are
 /// 0".
-fn rule_5(run: &[Row]) -> bool {
-    let (a0, a1) = (run[0].p(), run[1].p());
+fn rule_5(head: &[Row]) -> bool {
+    let (a0, a1) = (head[0].p(), head[1].p());
     matches!(a0.s, 0x00 | 0x10 | 0x20) && a0.f == 0 && a1.s == 0 && a1.f == 0
 }
 
@@ -163,7 +197,8 @@ fn sessions_of(runs: &[&[Row]]) -> Vec<Session> {
     let mut sessions = Vec::new();
     for run in runs {
         let start = |row: &Row| row.p().address().expect("rule 6 was tested");
-        let tracks = run[3..]
+        let (head, _) = cut_at_mode_5(run);
+        let tracks = head[3..]
             .iter()
             .map(|row| Track {
                 number: row.point(),
@@ -172,9 +207,9 @@ fn sessions_of(runs: &[&[Row]]) -> Vec<Session> {
             })
             .collect();
         sessions.push(Session {
-            number: run[0].session(),
-            lead_out: start(&run[2]),
-            lead_out_bits: run[2].bits(),
+            number: head[0].session(),
+            lead_out: start(&head[2]),
+            lead_out_bits: head[2].bits(),
             tracks,
             rows: run.to_vec(),
             place,
@@ -250,7 +285,7 @@ impl Disc {
 }
 
 /// "A caller may ask for a session": exactly its descriptors, from its A0 to
-/// its last track. "The session part tests fitness (4, empty part) before 10".
+/// its last track and K1's B0h and C0h. "The session part tests fitness (4, empty part) before 10".
 pub fn session_part(table: &[u8], number: u8) -> Result<&[u8], Refusal> {
     let disc = read(table).map_err(|_| Refusal::UnfitTable)?;
     let session = disc

@@ -24,7 +24,8 @@ pub fn full_answer(disc: &Disc, request: TocRequest) -> Result<Vec<u8>, Sense> {
     }
 }
 
-/// "8 bytes for each track numbered N or more, then the lead-out as AAh".
+/// "8 bytes for each track numbered N or more, then the lead-out as AAh". K1:
+/// "formats 0 and 1 pass over" B0h and C0h.
 fn tracks(disc: &Disc, request: TocRequest) -> Result<Vec<u8>, Sense> {
     // "N over the last track and not AAh: 05/24/00; AAh gives the lead-out
     // only."
@@ -53,7 +54,8 @@ fn last_session(disc: &Disc, msf: bool) -> Vec<u8> {
 }
 
 /// "Format 2: header with 1 and S, then the table's descriptors of sessions N
-/// and up; MSF ignored; N over S is 05/24/00."
+/// and up; MSF ignored; N over S is 05/24/00." K1: "format 2 returns" B0h and
+/// C0h.
 fn sessions(disc: &Disc, number: u8) -> Result<Vec<u8>, Sense> {
     let last = disc.last_session().number;
     if number > last {

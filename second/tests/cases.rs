@@ -9,6 +9,7 @@ use second::cases::packets::{
 };
 use second::cases::pairs::pair;
 use second::cases::sheet::{disc_e, fullest};
+use second::table::{self, Row};
 use second::{examples, listing, replay, sense, stored};
 
 /// The kinds of line: letter and number, and the triples told.
@@ -50,6 +51,84 @@ fn stored_stream_covers_all() {
 fn random_streams_cover_all() {
     for seed in [0, 1, 2] {
         covers_all(&replay::run(&random_stream(seed, 20_000).bytes));
+    }
+}
+
+/// The bodies of all records of a kind; a stream's sound part only.
+fn bodies(mut stream: &[u8], kind: u8) -> Vec<&[u8]> {
+    let mut list = Vec::new();
+    while let [one, high, low, rest @ ..] = stream {
+        let length = usize::from(u16::from_be_bytes([*high, *low]));
+        let Some((body, after)) = rest.split_at_checked(length) else {
+            break;
+        };
+        if *one == kind {
+            list.push(body);
+        }
+        stream = after;
+    }
+    list
+}
+
+/// B0h, C0h, both and neither behind first, middle and last sessions of fit
+/// tables; unfit ones of every rule beside them; tables and memories at the
+/// bound. Fit tables with B0h or C0h are often, and so are those without.
+fn covers_mode_5(stream: &[u8]) {
+    let (mut closed, mut broken, mut sizes) = (BTreeSet::new(), [0; 8], BTreeSet::new());
+    let (mut with, mut without) = (0, 0);
+    for bytes in bodies(stream, replay::TABLE) {
+        sizes.insert(bytes.len());
+        match table::read(bytes) {
+            Ok(disc) => {
+                let mut rows = disc.sessions.iter().flat_map(|one| &one.rows);
+                if rows.any(Row::is_mode_5) {
+                    with += 1;
+                } else {
+                    without += 1;
+                }
+                let last = disc.sessions.len() - 1;
+                for (i, session) in disc.sessions.iter().enumerate() {
+                    let points = session.rows.iter().map(Row::point);
+                    let tail: Vec<u8> = points.filter(|&point| point >= 0xB0).collect();
+                    closed.insert((usize::from(i > 0) + usize::from(i == last && i > 0), tail));
+                }
+            }
+            Err(rule) => {
+                let points = bytes
+                    .get(4..)
+                    .unwrap_or(&[])
+                    .chunks(11)
+                    .map(|row| row.get(3));
+                let some = points.flatten().any(|point| [0xB0, 0xC0].contains(point));
+                broken[usize::from(rule)] += usize::from(some);
+            }
+        }
+    }
+    for place in 0..3 {
+        for tail in [vec![], vec![0xB0], vec![0xC0], vec![0xB0, 0xC0]] {
+            assert!(
+                closed.contains(&(place, tail.clone())),
+                "{place} {tail:02X?}"
+            );
+        }
+    }
+    assert!(broken[1..].iter().all(|&n| n > 3), "{broken:?}");
+    assert!(with > 100 && without > 100, "{with} {without}");
+    for size in [6_538, 6_539, 6_549] {
+        assert!(sizes.contains(&size), "{size}");
+    }
+    let memories = bodies(stream, replay::MEMORY);
+    for size in [4_360u16, 6_537, 6_538, 6_539, 8_191] {
+        let [high, low] = size.to_be_bytes();
+        assert!(memories.iter().any(|one| one[..2] == [high, low]), "{size}");
+    }
+}
+
+#[test]
+fn streams_lend_b0_and_c0() {
+    covers_mode_5(&stored::stored_stream().bytes);
+    for seed in [8, 16, 24] {
+        covers_mode_5(&random_stream(seed, 20_000).bytes);
     }
 }
 
@@ -104,6 +183,11 @@ fn examples_show_the_marked_results() {
     assert!(out.contains("\n5 00 00 00 00 12 000A01020010AA0000000600 0 0\n"));
     let out = listing::print(find("two-sessions.table"), find("sessions.packets"));
     assert!(out.contains("\n3 00 00 00 00 12 000A0102001404000000300C 0 0\n"));
+    let (table, packets) = (find("sff-8020i-t134.table"), find("sff-8020i-t134.packets"));
+    assert_eq!((table.len(), packets.len()), (323, 84));
+    let out = listing::print(table, packets);
+    assert!(out.contains("\n2 00 00 00 00 12 000A010400140A000000F8ED 0 0\n"));
+    assert!(out.ends_with("\n7 00 00 00 00 8 000143D400000800 0 0\n"));
 }
 
 /// The lines that the listing prints for these packets on Table E.

@@ -29,7 +29,7 @@ fn line_forms() {
     let mut stream = Stream::new();
     stream.packet(&test_ready());
     stream.part(1);
-    stream.memory(4_360, 0);
+    stream.memory(6_538, 0);
     stream.table(&disc_e().bytes());
     stream.state(State::READY);
     stream.power_on();
@@ -48,7 +48,7 @@ fn line_forms() {
     assert_eq!(stream.calls, 15);
     let lines = run(&stream.bytes);
     let table = disc_e().bytes();
-    let mut memory = vec![0; 4_360];
+    let mut memory = vec![0; 6_538];
     let blank = adler32(&memory);
     memory[..8].copy_from_slice(&[0, 0, 1, 0x2B, 0, 0, 8, 0]);
     let expected = [

@@ -60,7 +60,14 @@ fn two_unknown_sense() {
 fn three_small_memory() {
     let table = disc_e().bytes();
     for packet in one_of_each() {
-        for (length, due) in [(0, 3), (4_359, 3), (4_360, 0), (4_361, 0), (8_191, 0)] {
+        for (length, due) in [
+            (0, 3),
+            (4_360, 3),
+            (6_537, 3),
+            (6_538, 0),
+            (6_539, 0),
+            (8_191, 0),
+        ] {
             let mut memory = vec![7; length];
             let reply = perform(READY, &table, &packet, &mut memory);
             assert_eq!(reply.refusal.map_or(0, Refusal::number), due);
@@ -85,7 +92,7 @@ fn one_to_four_in_order() {
     let (fit, unfit) = (disc_e().bytes(), vec![0; 4]);
     for n in 0..16 {
         let table = if n & 8 != 0 { &unfit } else { &fit };
-        let mut memory = vec![0; if n & 4 != 0 { 4_359 } else { 4_360 }];
+        let mut memory = vec![0; if n & 4 != 0 { 6_537 } else { 6_538 }];
         let state = State {
             sense: Sense::new(0, 0, n as u8 / 2 % 2),
             ..READY
@@ -146,5 +153,5 @@ fn nine_is_out_of_reach() {
             }
         }
     }
-    assert_eq!(longest, 4_360);
+    assert_eq!(longest, 6_538);
 }

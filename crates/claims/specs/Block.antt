@@ -5,9 +5,10 @@ use mathlib.Core.List.{List}
 use Prim.Native.Nat.{ℕ, _+_, _≤_, _<_}
 use native.Mathlib.Omega.{arith}
 use Rattle.ground.specs.Tests.{every}
-use Rattle.disc.specs.Layout.{lastSession, descriptors, rows, pointAt, addressAt, isTrack}
-use Rattle.disc.specs.Session.{tracks, session}
-use Rattle.disc.specs.SessionLaws.{rowsBefore}
+use Rattle.table.specs.Layout.{lastSession, descriptors, rows, pointAt, isTrack}
+use Rattle.table.specs.Row.{addressAt}
+use Rattle.sessions.specs.Session.{tracks, session}
+use Rattle.sessions.specs.SessionLaws.{rowsBefore}
 use Rattle.disc.specs.Rules.{leadOut}
 use Rattle.disc.specs.RulesLaws.{Fit}
 use Rattle.tracks.specs.Track.{isData, outAt, noTrack, trackAt, trackOf, inData, allInData, runIsData}

@@ -10,9 +10,10 @@ use Rattle.drive.specs.declared.sense.Sense.{Sense}
 use Rattle.drive.specs.declared.state.Drive.{Drive}
 use Rattle.drive.specs.Sense.{triple, senseAt, sameSense, among, isKnown}
 use Rattle.drive.specs.Unit.{attend}
-use Rattle.disc.specs.Layout.{addressAt, isTrack}
-use Rattle.disc.specs.Session.{size, names, listed, isSession, starts, before, follows, inPlace, inOrder}
-use Rattle.disc.specs.Rules.{rule1, rule2, plain, headA0, headed, addressed, rowTest, rises, outBefore, beginsAfter, rising, rule7, firstBroken, lateRules, rowRules, fault, isFit}
+use Rattle.table.specs.Layout.{bound, isTrack, isExtra}
+use Rattle.table.specs.Row.{startOf, names, simple, free, plain, headA0, headA1, headed, addressed, rowTest}
+use Rattle.sessions.specs.Session.{one, size, listed, numbered, isSession, starts, before, follows, inPlace, inOrder}
+use Rattle.disc.specs.Rules.{rule1, rule2, eachRow, rises, outBefore, beginsAfter, rising, rule7, firstBroken, lateRules, rowRules, fault, isFit}
 use Rattle.tracks.specs.Track.{nextOut, outAt, covers, wanted, nextFound, found, trackOf, inData, allInData}
 use Rattle.gate.specs.Unit.{pendingOf}
 use Rattle.gate.specs.Gate.{gate}
@@ -42,7 +43,7 @@ loadedE = record {
   mechanics = record { «tray_open» = false; «disc_in» = true; lock = false };
 }
 
--- a packet to the loaded drive with Table E and 4,360 bytes of response memory; the address of M:S:F; the M:S:F of an address
+-- a packet to the loaded drive with Table E and 6,538 bytes of response memory; the address of M:S:F; the M:S:F of an address
 pub data Question : Type 0 where
   packet : (bytes : List ℕ) → Question
   addressFor : (m s f : ℕ) → Question
@@ -76,7 +77,7 @@ refuses n b = record { number = n; status = 0x00; sense = triple 0x00 0x00 0x00;
 -- what the definitions give
 unfoldable pub asked : Question → Outcome
 asked (packet p) =
-    let a = answer loadedE p tableE 4360 in
+    let a = answer loadedE p tableE bound in
     record { number = a .number; status = a .status; sense = stateOf a .unit .sense; shown = bytesOf a; start = a .start; count = a .count }
 asked (addressFor m s f) =
     let a = toBlock m s f in
@@ -151,5 +152,5 @@ marks =
     ∷ []
 
 pub marked : allMarked marks ≡ true
-unfolding allMarked sameOutcome sameBytes asked _and_ _or_ if_then_else_ every isMsf toMsf toBlock senseAt sameSense among isKnown attend addressAt isTrack size names listed isSession starts before follows inPlace inOrder rule1 rule2 plain headA0 headed addressed rowTest rises outBefore beginsAfter rising rule7 firstBroken lateRules rowRules fault isFit nextOut outAt covers wanted nextFound found trackOf inData allInData pendingOf gate decode shownAddress isShown shownTrack shownTracks tocHeaded format0 tocBytes tocBad readToc read perform within refusalOf answer
+unfolding allMarked sameOutcome sameBytes asked _and_ _or_ if_then_else_ every isMsf toMsf toBlock senseAt sameSense among isKnown attend isTrack isExtra startOf names simple free plain headA0 headA1 headed addressed rowTest one size listed numbered isSession starts before follows inPlace inOrder rule1 rule2 eachRow rises outBefore beginsAfter rising rule7 firstBroken lateRules rowRules fault isFit nextOut outAt covers wanted nextFound found trackOf inData allInData pendingOf gate decode shownAddress isShown shownTrack shownTracks tocHeaded format0 tocBytes tocBad readToc read perform within refusalOf answer
 marked = refl

@@ -10,7 +10,7 @@ use Rattle.ground.specs.Tests.{_and_, _or_, if_then_else_, when, unless, either
 use Rattle.drive.specs.declared.state.Unit.{Unit}
 use Rattle.drive.specs.declared.state.Mechanics.{Mechanics}
 use Rattle.drive.specs.declared.state.Drive.{Drive}
-use Rattle.disc.specs.Layout.{bound}
+use Rattle.table.specs.Layout.{bound}
 use Rattle.disc.specs.Rules.{isFit}
 use Rattle.gate.specs.Gate.{Result, Reply, refuse, gate}
 use Rattle.command.specs.declared.decode.Command.{Command}

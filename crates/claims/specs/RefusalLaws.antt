@@ -19,7 +19,7 @@ use Rattle.drive.specs.declared.sense.Sense.{Sense}
 use Rattle.drive.specs.Sense.{isKnown}
 use Rattle.drive.specs.State.{isLoaded, button, lay, lift}
 use Rattle.drive.specs.StateLaws.{button-unknown, button-closes, button-locked, button-opens, button-refused, lay-unknown, lay-closed, lay-full, lay-lays, lay-refused, lift-unknown, lift-closed, lift-empty, lift-lifts, lift-refused}
-use Rattle.disc.specs.Layout.{bound, lastSession}
+use Rattle.table.specs.Layout.{bound, lastSession}
 use Rattle.disc.specs.Rules.{isFit}
 use Rattle.disc.specs.Part.{partRefusal}
 use Rattle.address.specs.Address.{MsfAnswer, BlockAnswer, last, addressOf, isMsf, blockAt, blockRefused, toMsf, toBlock}

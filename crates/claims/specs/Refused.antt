@@ -10,7 +10,7 @@ use Rattle.address.specs.Address.{toMsf, toBlock, isMsf}
 use Rattle.drive.specs.declared.state.Drive.{Drive}
 use Rattle.drive.specs.Sense.{triple, senseAt, isKnown}
 use Rattle.drive.specs.State.{isLoaded, powerOn}
-use Rattle.disc.specs.Layout.{lastSession}
+use Rattle.table.specs.Layout.{bound, lastSession}
 use Rattle.disc.specs.Rules.{isFit}
 use Rattle.disc.specs.Part.{partRefusal}
 use Rattle.command.specs.Command.{decode, codeOf}
@@ -39,17 +39,17 @@ module _ (d : Drive) where
     abbrev isTwelve : Bool
     isTwelve = eqb (length p) 12
 
-    -- "response memory is under 4,360 bytes"
+    -- "response memory is under 4,360 bytes"; of K1 the bound: 6,538
     abbrev isUnder : Bool
-    isUnder = ltb (length m) 4360
+    isUnder = ltb (length m) bound
 
     -- "loaded .. and the table is not fit"
     abbrev isUnfit : Bool
     isUnfit = isLoaded (d .mechanics) and not (isFit t)
 
-    -- "a full answer would pass 4,360 bytes"
+    -- "a full answer would pass 4,360 bytes"; of K1 the bound: 6,538
     abbrev isOver : Bool
-    isOver = ltb 4360 (length (steps (decode (codeOf p)) (d .unit) (d .mechanics) p t .full))
+    isOver = ltb bound (length (steps (decode (codeOf p)) (d .unit) (d .mechanics) p t .full))
 
     pub refused-1 : gives (packet p t m) 1 ≡ not isTwelve
     refused-1 = reply-ordered d p t (length m) .one

@@ -33,8 +33,8 @@ use Rattle.gate.specs.Unit.{hold, clear, pendingOf, told, attentionSense, give}
 use Rattle.tracks.specs.declared.track.Track.{Track}
 use Rattle.disc.specs.declared.disc.Disc.{Disc}
 use Rattle.disc.specs.declared.disc.Reading.{Reading}
-use Rattle.disc.specs.Layout.{descriptors, isTrack}
-use Rattle.disc.specs.Session.{starts}
+use Rattle.table.specs.Layout.{descriptors, isTrack}
+use Rattle.sessions.specs.Session.{starts}
 use Rattle.disc.specs.Rules.{fault}
 use Rattle.disc.specs.Part.{PartOf, partRefusal, partStart, partSize}
 use Rattle.tracks.specs.Track.{isData, trackOf, trackNumbered, runIsData}

@@ -2,8 +2,9 @@
 use Prim.Native.Nat.{ℕ, _-_}
 use mathlib.Core.List.{List}
 use Rattle.ground.specs.Tests.{if_then_else_}
-use Rattle.disc.specs.Layout.{lastSession, descriptors, flagsAt, pointAt, addressAt}
-use Rattle.disc.specs.Session.{first, last, starts, session}
+use Rattle.table.specs.Layout.{lastSession, descriptors, flagsAt, pointAt}
+use Rattle.table.specs.Row.{addressAt}
+use Rattle.sessions.specs.Session.{first, last, starts, session}
 use Rattle.disc.specs.Rules.{leadOut, fault, isFit}
 use Rattle.disc.specs.declared.disc.Disc.{Disc}
 use Rattle.disc.specs.declared.disc.Reading.{Reading}

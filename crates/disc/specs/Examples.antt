@@ -7,9 +7,10 @@ use lib.ListN.{length, take, set, replicate}
 use lib.Dec.{eqb}
 use Rattle.ground.specs.Tests.{_and_, _or_, every, if_then_else_}
 use Rattle.address.specs.Address.{isMsf, minuteOf, secondOf, frameOf}
-use Rattle.disc.specs.Layout.{addressAt, isTrack, A0, A1, A2}
-use Rattle.disc.specs.Session.{size, names, listed, isSession, starts, before, follows, inPlace, inOrder}
-use Rattle.disc.specs.Rules.{rule1, rule2, plain, headA0, headed, addressed, rowTest, rises, outBefore, beginsAfter, rising, rule7, firstBroken, lateRules, rowRules, fault}
+use Rattle.table.specs.Layout.{isTrack, isExtra, A0, A1, A2, B0, C0}
+use Rattle.table.specs.Row.{startOf, names, simple, free, plain, headA0, headA1, headed, addressed, rowTest}
+use Rattle.sessions.specs.Session.{one, size, listed, numbered, isSession, starts, before, follows, inPlace, inOrder}
+use Rattle.disc.specs.Rules.{rule1, rule2, eachRow, rises, outBefore, beginsAfter, rising, rule7, firstBroken, lateRules, rowRules, fault}
 
 -- ---- tables
 
@@ -50,6 +51,18 @@ heads k f l out = entry k A0 f 0 0 ++ (entry k A1 l 0 0 ++ entryAt k A2 out)
 -- tracks 1 and 2 in two sessions: the first from 0 to 150, the second from a to 450
 abbrev pub two : ℕ → List ℕ
 two a = framed 2 (heads 1 1 1 150 ++ (entryAt 1 1 0 ++ (heads 2 2 2 450 ++ entryAt 2 2 a)))
+
+-- a B0h or C0h descriptor of session k: ADR 5, and a byte for each that is free (control, MIN, SEC, FRAME, ZERO, PMIN, PSEC, PFRAME)
+abbrev pub extra : ℕ → ℕ → ℕ → List ℕ
+extra k p b = k ∷ (0x50 + b % 16) ∷ 0 ∷ p ∷ b ∷ b ∷ b ∷ b ∷ b ∷ b ∷ b ∷ []
+
+-- tracks 1 and 2 in two sessions, with what stands after the tracks of the first and of the second
+abbrev pub sittings : List ℕ → List ℕ → List ℕ
+sittings a b = framed 2 (heads 1 1 1 150 ++ (entryAt 1 1 0 ++ (a ++ (heads 2 2 2 450 ++ (entryAt 2 2 151 ++ b)))))
+
+-- the same with one byte of descriptor j changed
+abbrev pub sittingsBut : ℕ → ℕ → ℕ → List ℕ → List ℕ → List ℕ
+sittingsBut j x v a b = set (sittings a b) (4 + 11 * j + x) v
 
 -- the n tracks of one session
 unfoldable pub chain : ℕ → List ℕ
@@ -144,9 +157,42 @@ cases =
     ∷ (set (set tableE 3 100) 1 0 gives 1)
     -- as many tracks as there can be
     ∷ (framed 1 (heads 1 1 99 99 ++ chain 99) gives 0)
-    -- 4,360 bytes are not too many for rule 1, and a descriptor more is
-    ∷ (framed 1 (replicate 4356 0) gives 3)
-    ∷ (framed 1 (replicate 4367 0) gives 1)
+    -- K1: B0h alone, C0h alone and both, in a first and in a last session; their other bytes are free
+    ∷ (sittings (extra 1 B0 0) [] gives 0)
+    ∷ (sittings [] (extra 2 B0 0) gives 0)
+    ∷ (sittings (extra 1 C0 0) [] gives 0)
+    ∷ (sittings [] (extra 2 C0 0) gives 0)
+    ∷ (sittings (extra 1 B0 0 ++ extra 1 C0 0) [] gives 0)
+    ∷ (sittings [] (extra 2 B0 0 ++ extra 2 C0 0) gives 0)
+    ∷ (sittings (extra 1 B0 255 ++ extra 1 C0 255) (extra 2 B0 99 ++ extra 2 C0 1) gives 0)
+    -- 4: C0h before B0h, two of one, a wrong session's number, one before the tracks or among the heads, B1h and C1h
+    ∷ (sittings (extra 1 C0 0 ++ extra 1 B0 0) [] gives 4)
+    ∷ (sittings [] (extra 2 C0 0 ++ extra 2 B0 0) gives 4)
+    ∷ (sittings (extra 1 B0 0 ++ extra 1 B0 0) [] gives 4)
+    ∷ (sittings [] (extra 2 C0 0 ++ extra 2 C0 0) gives 4)
+    ∷ (sittings (extra 2 B0 0) [] gives 4)
+    ∷ (sittings [] (extra 1 C0 0) gives 4)
+    ∷ (sittings (extra 1 B0 0 ++ extra 2 C0 0) [] gives 4)
+    ∷ (framed 1 (heads 1 1 1 150 ++ (extra 1 B0 0 ++ entryAt 1 1 0)) gives 4)
+    ∷ (framed 1 (extra 1 B0 0 ++ (heads 1 1 1 150 ++ entryAt 1 1 0)) gives 4)
+    ∷ (framed 1 (extra 1 C0 0) gives 4)
+    ∷ (sittings (entry 1 0xB1 0 2 0) [] gives 4)
+    ∷ (sittings [] (entry 2 0xB4 0 2 0) gives 4)
+    ∷ (sittings [] (entry 2 0xC1 0 2 0) gives 4)
+    -- 3: B1h and C1h with ADR 5; in a B0h and a C0h ADR 1 or 4 or TNO 1, wherever they stand; ADR 5 in a track, in A0 and in A2
+    ∷ (sittings (extra 1 0xB1 0) [] gives 3)
+    ∷ (sittings [] (extra 2 0xC1 0) gives 3)
+    ∷ (sittingsBut 4 1 0x10 (extra 1 B0 0) [] gives 3)
+    ∷ (sittingsBut 8 1 0x40 [] (extra 2 C0 0) gives 3)
+    ∷ (sittingsBut 4 2 1 (extra 1 B0 0) [] gives 3)
+    ∷ (sittingsBut 9 2 1 [] (extra 2 B0 0 ++ extra 2 C0 0) gives 3)
+    ∷ (framed 1 (heads 1 1 1 150 ++ (entry 1 B0 0 2 0 ++ entryAt 1 1 0)) gives 3)
+    ∷ (sittingsBut 3 1 0x50 (extra 1 B0 0) [] gives 3)
+    ∷ (sittingsBut 0 1 0x50 [] [] gives 3)
+    ∷ (sittingsBut 2 1 0x54 [] [] gives 3)
+    -- 6,538 bytes are not too many for rule 1, and a descriptor more is
+    ∷ (framed 1 (replicate 6534 0) gives 3)
+    ∷ (framed 1 (replicate 6545 0) gives 1)
     ∷ []
 
 unfoldable pub tested : List Case → Bool
@@ -154,5 +200,5 @@ tested [] = true
 tested (c ∷ cs) = eqb (fault (c .table)) (c .rule) and tested cs
 
 pub examples-tested : tested cases ≡ true
-unfolding tested _and_ _or_ every if_then_else_ isMsf addressAt isTrack size names listed isSession starts before follows inPlace inOrder rule1 rule2 plain headA0 headed addressed rowTest rises outBefore beginsAfter rising rule7 firstBroken lateRules rowRules fault chain
+unfolding tested _and_ _or_ every if_then_else_ isMsf isTrack isExtra startOf names simple free plain headA0 headA1 headed addressed rowTest one size listed numbered isSession starts before follows inPlace inOrder rule1 rule2 eachRow rises outBefore beginsAfter rising rule7 firstBroken lateRules rowRules fault chain
 examples-tested = refl

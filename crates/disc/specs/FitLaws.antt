@@ -8,40 +8,33 @@ use native.Mathlib.Numerals.{add-one}
 use native.Mathlib.Nat.{lt-of-not-le}
 use native.Mathlib.Decide.{decLe, ℕ-discrete}
 use borrow.Author.Tests.{le-leb, ltb-true, eq-eqb, eqb-true, ne-eqb}
-use lib.ListN.{getD}
-use lib.Seq.{getD-drop}
 use lib.Dec.{ltb, eqb}
 use Rattle.ground.specs.Tests.{_or_, if_then_else_, and-head, and-tail, and-both, when, every-at, or-left, or-right, or-else}
 use Rattle.address.specs.Laws.{InRange, isMsf-range, toBlock-range}
-use Rattle.disc.specs.Layout.{row, lastSession, descriptors, rows, flagsAt, pointAt, pminAt, psecAt, pframeAt, addressAt, A0, A1, A2, isTrack}
-use Rattle.disc.specs.Session.{first, last, tracks, starts, session, follows}
-use Rattle.disc.specs.SessionLaws.{starts-none, Listed, listed-parts, inPlace-follows, before-next, rowsBefore, rowsBefore-next, starts-rows}
-use Rattle.disc.specs.Rules.{rowTest, addressed, leadOut, trackStart, rises, outBefore, beginsAfter, rising, rule7}
+use Rattle.table.specs.Layout.{row, lastSession, descriptors, rows, flagsAt, pointAt, pminAt, psecAt, pframeAt, A0, A1, A2, B0, C0, isTrack}
+use Rattle.table.specs.Row.{rowFrom, rowAt, startOf, addressAt, rowTest}
+use Rattle.table.specs.RowLaws.{rowFrom-drop, isTrack-true, addressed-range, rowTest-6}
+use Rattle.table.specs.declared.row.Row.{Row}
+use Rattle.sessions.specs.Session.{first, last, tracks, b0s, c0s, count, starts, session, follows}
+use Rattle.sessions.specs.SessionLaws.{extras-most, extras-each, starts-none, Listed, listed-parts, inPlace-follows, before-next, rowsBefore, rowsBefore-next, starts-rows}
+use Rattle.disc.specs.Rules.{eachRow, leadOut, trackStart, rises, outBefore, beginsAfter, rising, rule7}
 use Rattle.disc.specs.RulesLaws.{Fit, outBefore-next, fit-numbered, fit-places, fit-end-rows, fit-session, fit-last}
 use Rattle.disc.specs.Disc.{lastPart}
 
 -- ---- where the descriptors of a session stand among all
 
--- a field of descriptor i of the session after k others is that field of descriptor rowsBefore d k + i
-pub field-at : (d : List ℕ) (k i x : ℕ) → getD (session d k) (row * i + x) 0 ≡ getD d (row * (rowsBefore d k + i) + x) 0
-field-at d k i x = getD-drop (starts d k) d (row * i + x) 0 ∙ ap (λ (n : ℕ). getD d n 0) (let e = starts-rows d k in omega arith)
-
-pub flagsAt-session : (d : List ℕ) (k i : ℕ) → flagsAt (session d k) i ≡ flagsAt d (rowsBefore d k + i)
-flagsAt-session d k i = field-at d k i 1
+-- descriptor i of the session after k others is descriptor rowsBefore d k + i
+pub rowAt-session : (d : List ℕ) (k i : ℕ) → rowAt (session d k) i ≡ rowAt d (rowsBefore d k + i)
+rowAt-session d k i = rowFrom-drop d (starts d k) (row * i) ∙ ap (rowFrom d) (let e = starts-rows d k in omega arith)
 
 pub pointAt-session : (d : List ℕ) (k i : ℕ) → pointAt (session d k) i ≡ pointAt d (rowsBefore d k + i)
-pointAt-session d k i = field-at d k i 3
+pointAt-session d k i = ap (λ (r : Row). r .point) (rowAt-session d k i)
 
 pub addressAt-session : (d : List ℕ) (k i : ℕ) → addressAt (session d k) i ≡ addressAt d (rowsBefore d k + i)
-unfolding addressAt
-addressAt-session d k i = rw (field-at d k i 8, field-at d k i 9, field-at d k i 10)
-
-pub addressed-session : (d : List ℕ) (k i : ℕ) → addressed (session d k) i ≡ addressed d (rowsBefore d k + i)
-unfolding addressed
-addressed-session d k i = rw (field-at d k i 3, field-at d k i 8, field-at d k i 9, field-at d k i 10)
+addressAt-session d k i = ap startOf (rowAt-session d k i)
 
 -- a session's descriptors end where the next one's begin
-pub rowsBefore-up : (d : List ℕ) (k n : ℕ) → k < n → rowsBefore d k + (3 + tracks (session d k)) ≤ rowsBefore d n
+pub rowsBefore-up : (d : List ℕ) (k n : ℕ) → k < n → rowsBefore d k + count (session d k) ≤ rowsBefore d n
 unfolding rowsBefore
 rowsBefore-up d k zero h = absurd (omega arith)
 rowsBefore-up d k (suc n) h = elim (ℕ-discrete k n) [
@@ -54,7 +47,7 @@ pub record Place (d : List ℕ) (n j : ℕ) : Type 0 where
   pub k : ℕ
   pub i : ℕ
   pub below : k < n
-  pub inside : i < 3 + tracks (session d k)
+  pub inside : i < count (session d k)
   pub place : j ≡ rowsBefore d k + i
 
 pub locate : (d : List ℕ) (n j : ℕ) → j < rowsBefore d n → Place d n j
@@ -83,17 +76,22 @@ locate-once {d} {n} {j} p q =
 
 -- ---- which POINT each has
 
--- descriptor i of a session: A0, A1, A2, or the track after m others
+-- descriptor i of a session: A0, A1, A2, the track after m others, or past the tracks B0h or C0h
 pub data Kind (s : List ℕ) (i : ℕ) : Type 0 where
   isA0 : i ≡ 0 → pointAt s i ≡ A0 → Kind s i
   isA1 : i ≡ 1 → pointAt s i ≡ A1 → Kind s i
   isA2 : i ≡ 2 → pointAt s i ≡ A2 → Kind s i
   isTrackAfter : (m : ℕ) → i ≡ 3 + m → m < tracks s → pointAt s i ≡ first s + m → Kind s i
+  isB0 : 3 + tracks s ≤ i → pointAt s i ≡ B0 → Kind s i
+  isC0 : 3 + tracks s ≤ i → pointAt s i ≡ C0 → Kind s i
 
-pub listed-kind : {s : List ℕ} {k : ℕ} → Listed s k (first s) (tracks s) → (i : ℕ) → i < 3 + tracks s → Kind s i
+pub listed-kind : {s : List ℕ} {k : ℕ} → Listed s k (first s) (tracks s) → (i : ℕ) → i < count s → Kind s i
 listed-kind {s} {k} l i h = elim (decLe 3 i) [
-  | yes g ↦ (let e : i ≡ 3 + (i - 3) = omega arith in let b : i - 3 < tracks s = omega arith in
-      isTrackAfter (i - 3) e b (ap (pointAt s) e ∙ l .track (i - 3) b .point))
+  | yes g ↦ elim (decLe (3 + tracks s) i) [
+    | yes f ↦ extras-each s (λ j. 3 + tracks s ≤ j → Kind s j) (λ e l. isB0 l e) (λ e l. isC0 l e) i f h f
+    | no f ↦ (let b : i - 3 < tracks s = let q = lt-of-not-le f in omega arith in let e : i ≡ 3 + (i - 3) = omega arith in
+        isTrackAfter (i - 3) e b (ap (pointAt s) e ∙ l .track (i - 3) b .point))
+  ]
   | no g ↦ head (lt-of-not-le g)
 ]
   where
@@ -105,22 +103,6 @@ listed-kind {s} {k} l i h = elim (decLe 3 i) [
         | no f ↦ (let z : i ≡ 2 = omega arith in isA2 z (ap (pointAt s) z ∙ l .a2 .point))
       ]
     ]
-
--- ---- which addresses rule 6 gives
-
-pub isTrack-true : (p : ℕ) → 1 ≤ p → p ≤ 99 → isTrack p ≡ true
-unfolding isTrack
-isTrack-true p h k = and-both _ _ (le-leb _ _ h) (le-leb _ _ k)
-
-pub addressed-range :
-    (d : List ℕ) (j : ℕ) → addressed d j ≡ true → (eqb (pointAt d j) A2 or isTrack (pointAt d j)) ≡ true
-    → InRange (pminAt d j) (psecAt d j) (pframeAt d j)
-unfolding addressed
-addressed-range d j h e = isMsf-range _ _ _ (sym (when _ _ _ e) ∙ h)
-
-pub rowTest-6 : (d : List ℕ) (j : ℕ) → rowTest 6 d j ≡ addressed d j
-unfolding rowTest if_then_else_
-rowTest-6 d j = refl
 
 -- ---- what rule 7 gives of one session
 
@@ -181,7 +163,7 @@ pub record Span (t : List ℕ) : Type 0 where
 
 module _ {t : List ℕ} (f : Fit t) where
   -- descriptor i of each session is one of the table's
-  pub fit-row : {k i : ℕ} → k < lastSession t → i < 3 + tracks (session (descriptors t) k) → rowsBefore (descriptors t) k + i < rows (descriptors t)
+  pub fit-row : {k i : ℕ} → k < lastSession t → i < count (session (descriptors t) k) → rowsBefore (descriptors t) k + i < rows (descriptors t)
   fit-row {k} {i} h l = let u = rowsBefore-up (descriptors t) k (lastSession t) h in let e = fit-end-rows f in omega arith
 
   -- and each of the table's is descriptor i of one session
@@ -193,7 +175,7 @@ module _ {t : List ℕ} (f : Fit t) where
       → Listed (session (descriptors t) k) (k + 1) (first (session (descriptors t) k)) (tracks (session (descriptors t) k))
   fit-listed h = listed-parts (fit-session f h .lists)
 
-  pub fit-kind : {k i : ℕ} → k < lastSession t → i < 3 + tracks (session (descriptors t) k) → Kind (session (descriptors t) k) i
+  pub fit-kind : {k i : ℕ} → k < lastSession t → i < count (session (descriptors t) k) → Kind (session (descriptors t) k) i
   fit-kind {k} {i} h l = listed-kind (fit-listed h) i l
 
   -- ---- the tracks, from the first to the last with no gap
@@ -271,56 +253,76 @@ module _ {t : List ℕ} (f : Fit t) where
         high = b .high;
       }
 
-  -- how many descriptors: three for each session and one for each track
+  -- how many descriptors: three to five for each session and one for each track
   pub fit-count-below :
       (k : ℕ) → k < lastSession t
-      → rowsBefore (descriptors t) (k + 1) + first (descriptors t) ≡ 3 * (k + 1) + (last (session (descriptors t) k) + 1)
+      → (3 * (k + 1) + (last (session (descriptors t) k) + 1) ≤ rowsBefore (descriptors t) (k + 1) + first (descriptors t))
+      × (rowsBefore (descriptors t) (k + 1) + first (descriptors t) ≤ 5 * (k + 1) + (last (session (descriptors t) k) + 1))
   fit-count-below zero h =
       let s = fit-session f {k = 0} (omega arith) in
       let o = s .order in
       let n = rowsBefore-next (descriptors t) 0 in
+      let m = extras-most (session (descriptors t) 0) in
       let z = starts-rows (descriptors t) 0 in
       let y = starts-none (descriptors t) in
       let e : first (session (descriptors t) 0) ≡ first (descriptors t) = ap first (session-none (descriptors t)) in
-      omega arith
+      (omega arith, omega arith)
   fit-count-below (suc k) h =
-      let r : rowsBefore (descriptors t) (suc k) + first (descriptors t) ≡ 3 * suc k + (last (session (descriptors t) k) + 1) = rw (add-one k) at
-      (fit-count-below k (omega arith)) in
+      let r :
+      (3 * suc k + (last (session (descriptors t) k) + 1) ≤ rowsBefore (descriptors t) (suc k) + first (descriptors t))
+      × (rowsBefore (descriptors t) (suc k) + first (descriptors t) ≤ 5 * suc k + (last (session (descriptors t) k) + 1)) =
+      rw (add-one k) at (fit-count-below k (omega arith)) in
       let s = fit-session f {k = suc k} (omega arith) in
       let o = s .order in
       let n = rowsBefore-next (descriptors t) (suc k) in
+      let m = extras-most (session (descriptors t) (suc k)) in
       let e : first (session (descriptors t) (suc k)) ≡ last (session (descriptors t) k) + 1 = rw (add-one k) at (fit-next k (omega arith)) in
-      omega arith
+      (omega arith, omega arith)
 
-  pub fit-count : rows (descriptors t) + first (descriptors t) ≡ 3 * lastSession t + (last (lastPart t) + 1)
+  pub fit-count :
+      (3 * lastSession t + (last (lastPart t) + 1) ≤ rows (descriptors t) + first (descriptors t))
+      × (rows (descriptors t) + first (descriptors t) ≤ 5 * lastSession t + (last (lastPart t) + 1))
   fit-count =
       let n = fit-numbered f in
       let e : lastSession t - 1 + 1 ≡ lastSession t = omega arith in
-      let r : rowsBefore (descriptors t) (lastSession t) + first (descriptors t) ≡ 3 * lastSession t + (last (lastPart t) + 1) = rw e at
-      (fit-count-below (lastSession t - 1) (omega arith)) in
+      let r = fit-count-below (lastSession t - 1) (omega arith) in
       let q = fit-end-rows f in
-      omega arith
+      rw (e, q) at r
+
+  -- "(594 descriptors)": rules 2 and 4 alone allow no more, so rule 1's bound keeps no table out that they let in
+  pub fit-most : rows (descriptors t) ≤ 594
+  fit-most = let n = fit-numbered f in let s = fit-span in let c = fit-count in omega arith
 
   -- ---- the addresses
+
+  -- descriptor i of a session passes what each of the table's does
+  pub fit-rule :
+      (n : ℕ) → eachRow n (descriptors t) ≡ true → {k i : ℕ} → k < lastSession t → i < count (session (descriptors t) k)
+      → rowTest n (rowAt (session (descriptors t) k) i) ≡ true
+  unfolding eachRow
+  fit-rule n e {k} {i} h l =
+      ap (rowTest n) (rowAt-session (descriptors t) k i)
+      ∙ every-at (rows (descriptors t)) (λ j. rowTest n (rowAt (descriptors t) j)) e _ (fit-row h l)
 
   -- "A2 (lead-out) and every track hold an address from 00:02:00 to 99:59:74"
   pub fit-range : {k i : ℕ} → k < lastSession t → 2 ≤ i → i < 3 + tracks (session (descriptors t) k)
       → InRange (pminAt (session (descriptors t) k) i) (psecAt (session (descriptors t) k) i) (pframeAt (session (descriptors t) k) i)
   fit-range {k} {i} h g l =
       let s = fit-session f h in
-      addressed-range (session (descriptors t) k) i
-      (addressed-session (descriptors t) k i ∙ sym (rowTest-6 _ _) ∙ every-at _ _ (f .rule6) _ (fit-row h l))
-      (elim (fit-kind h l) [
+      addressed-range (rowAt (session (descriptors t) k) i) (sym (rowTest-6 _) ∙ fit-rule 6 (f .rule6) h (omega arith))
+      (elim (fit-kind {k = k} {i = i} h (omega arith)) [
         | isA0 e p ↦ absurd (omega arith)
         | isA1 e p ↦ absurd (omega arith)
         | isA2 e p ↦ or-left _ _ (eq-eqb _ _ p)
         | isTrackAfter m e b p ↦ or-right _ _ (ap isTrack p ∙ isTrack-true (first (session (descriptors t) k) + m)
             (let u = s .low in omega arith) (let u = s .high in let v = s .order in omega arith))
+        | isB0 e p ↦ absurd (omega arith)
+        | isC0 e p ↦ absurd (omega arith)
       ])
 
   pub fit-address :
       {k i : ℕ} → k < lastSession t → 2 ≤ i → i < 3 + tracks (session (descriptors t) k) → addressAt (session (descriptors t) k) i ≤ 449849
-  unfolding addressAt
+  unfolding startOf
   fit-address h g l = toBlock-range (fit-range h g l)
 
   -- within a session the tracks' starts rise, up to its lead-out
@@ -362,4 +364,4 @@ module _ {t : List ℕ} (f : Fit t) where
       let s = fit-last f in
       let o = s .order in
       let u = fit-rises h .lead 0 (omega arith) in
-      (omega arith, fit-address h (omega arith) (omega arith))
+      (omega arith, fit-address {k = lastSession t - 1} {i = 2} h (omega arith) (omega arith))

@@ -1,6 +1,3 @@
-pub mod Layout
-pub mod Session
-pub mod SessionLaws
 pub mod Rules
 pub mod RulesLaws
 pub mod FitLaws

@@ -6,8 +6,8 @@ use lib.ListN.{take, drop}
 use lib.Dec.{leb, eqb}
 use denote.Ref.{RefT, ptr, now}
 use Rattle.ground.specs.Tests.{_and_, if_then_else_}
-use Rattle.disc.specs.Layout.{header, descriptors, lastSession}
-use Rattle.disc.specs.Session.{size, starts, session}
+use Rattle.table.specs.Layout.{header, descriptors, lastSession}
+use Rattle.sessions.specs.Session.{size, starts, session}
 use Rattle.disc.specs.Rules.{isFit}
 
 abbrev pub unfit : ℕ

@@ -9,8 +9,8 @@ use lib.ListN.{length, take, drop}
 use lib.Dec.{leb}
 use Rattle.ground.specs.Memory.{rest-all}
 use Rattle.ground.specs.Tests.{_and_, and-head, and-tail, and-both, when, unless}
-use Rattle.disc.specs.Layout.{header, descriptors, lastSession}
-use Rattle.disc.specs.Session.{size, starts, session}
+use Rattle.table.specs.Layout.{header, descriptors, lastSession}
+use Rattle.sessions.specs.Session.{size, starts, session}
 use Rattle.disc.specs.Rules.{isFit}
 use Rattle.disc.specs.RulesLaws.{Fit, isFit-true, fit-isFit, fit-least}
 use Rattle.disc.specs.Part.{unfit, noSession, partRefusal, partStart, partSize}

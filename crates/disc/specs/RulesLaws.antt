@@ -5,15 +5,13 @@ use mathlib.Core.List.{List, [], _∷_}
 use Prim.Native.Nat.{ℕ, suc, _+_, _-_, _*_, _/_, _%_, _≤_, _<_}
 use native.Mathlib.Omega.{arith}
 use native.Mathlib.Numerals.{add-one}
-use borrow.Author.Tests.{leb-true, eq-eqb, ne-eqb, eqb-true}
+use borrow.Author.Tests.{leb-true, eq-eqb, eqb-true}
 use lib.ListN.{length, drop, length-drop}
-use lib.Dec.{eqb}
-use Rattle.ground.specs.Number.{Byte}
 use Rattle.ground.specs.Tests.{_and_, every, and-head, and-tail, and-both, every-none, every-more, every-breaks}
-use Rattle.disc.specs.Layout.{bound, dataLength, firstSession, lastSession, header, row, descriptors, rows}
-use Rattle.disc.specs.Session.{tracks, size, starts, session, inPlace, inOrder}
-use Rattle.disc.specs.SessionLaws.{IsSession, size-least, Walked, walked-none, walked-next, walked-all, starts-within, placed, inOrder-places, inOrder-end, rowsBefore, starts-rows}
-use Rattle.disc.specs.Rules.{rule1, rule2, rowTest, leadOut, trackStart, rises, outBefore, beginsAfter, rising, rule7, firstBroken, lateRules, rowRules, fault, isFit}
+use Rattle.table.specs.Layout.{bound, dataLength, firstSession, lastSession, header, row, descriptors, rows}
+use Rattle.sessions.specs.Session.{tracks, size, starts, session, inPlace, inOrder}
+use Rattle.sessions.specs.SessionLaws.{IsSession, size-least, Walked, walked-none, walked-next, walked-all, starts-within, placed, inOrder-places, inOrder-end, rowsBefore, starts-rows}
+use Rattle.disc.specs.Rules.{rule1, rule2, eachRow, leadOut, trackStart, rises, outBefore, beginsAfter, rising, rule7, firstBroken, lateRules, rowRules, fault, isFit}
 
 -- ---- the first broken rule
 
@@ -33,14 +31,6 @@ pub firstBroken-none : (n : ℕ) → 0 ≡ firstBroken n []
 unfolding firstBroken
 firstBroken-none n = refl
 
--- ---- a byte that was widened, tested against another
-
-pub byte-is : {p q r s : ℕ} → Byte p q → Byte r s → q ≡ s → eqb p r ≡ true
-byte-is v w e = eq-eqb _ _ (sym (v .same) ∙ e ∙ w .same)
-
-pub byte-is-not : {p q r s : ℕ} → Byte p q → Byte r s → (q ≡ s → ⊥) → eqb p r ≡ false
-byte-is-not v w n = ne-eqb _ _ (λ e. n (v .same ∙ e ∙ sym (w .same)))
-
 -- ---- two tests
 
 -- two tests of which each holds where the other does are one
@@ -50,16 +40,6 @@ same-test false true f g = g refl
 same-test false false f g = refl
 
 -- ---- rule 7, session by session
-
--- the tracks of a session, off its size
-pub size-tracks : (s : List ℕ) → size s / row - 3 ≡ tracks s
-unfolding size
-size-tracks s = omega arith
-
--- and those tracks are there
-pub size-rises : {k b : ℕ} {s : List ℕ} → IsSession k s → b ≡ size s → (1 ≤ b / row - 3) × (row * (3 + (b / row - 3)) ≤ length s)
-unfolding size
-size-rises i e = let f = i .fits in let o = i .order in (omega arith, omega arith)
 
 -- rule 7 holds of k of n sessions: the next begins at `at`, and the one before has its lead-out at `out`
 pub record Risen (n : ℕ) (d : List ℕ) (k at out : ℕ) : Type 0 where
@@ -84,20 +64,20 @@ risen-here r = rw (r .walked .place, r .lead)
 
 pub risen-next :
     {n : ℕ} {d : List ℕ} {k at out b o : ℕ} → Risen n d k at out → k < n → IsSession (k + 1) (drop at d) → b ≡ size (drop at d)
-    → o ≡ leadOut (drop at d)
-    → rises (drop at d) (tracks (drop at d)) ≡ true → beginsAfter k out (trackStart (drop at d) 0) ≡ true → Risen n d (k + 1) (at + b) o
-risen-next {d = d} {k} r i s e l h g = record {
+    → o ≡ leadOut (drop at d) → (rises (drop at d) (tracks (drop at d)) and beginsAfter k out (trackStart (drop at d) 0)) ≡ true
+    → Risen n d (k + 1) (at + b) o
+risen-next {d = d} {k} r i s e l h = record {
   walked = walked-next (r .walked) i s e;
-  passed = every-more k (rising d) (r .passed) (sym (risen-here r) ∙ and-both _ _ h g);
+  passed = every-more k (rising d) (r .passed) (sym (risen-here r) ∙ h);
   lead = l ∙ ap (λ (x : ℕ). leadOut (drop x d)) (r .walked .place) ∙ sym (outBefore-next d k);
 }
 
 -- the first test that fails breaks the rule
 pub risen-breaks :
     {n : ℕ} {d : List ℕ} {k at out : ℕ} → Risen n d k at out → k < n
-    → false ≡ rises (drop at d) (tracks (drop at d)) and beginsAfter k out (trackStart (drop at d) 0) → false ≡ rule7 n d
+    → (rises (drop at d) (tracks (drop at d)) and beginsAfter k out (trackStart (drop at d) 0)) ≡ false → false ≡ rule7 n d
 unfolding rule7
-risen-breaks {n} {d} {k} r i h = every-breaks n (rising d) k i (sym (h ∙ risen-here r))
+risen-breaks {n} {d} {k} r i h = every-breaks n (rising d) k i (sym (risen-here r) ∙ h)
 
 pub risen-end : {n : ℕ} {d : List ℕ} {k at out : ℕ} → Risen n d k at out → n ≤ k → true ≡ rule7 n d
 unfolding rule7
@@ -140,10 +120,10 @@ rule2-parts h =
 pub record Fit (t : List ℕ) : Type 0 where
   pub rule1 : rule1 t ≡ true
   pub rule2 : rule2 t ≡ true
-  pub rule3 : every (rows (descriptors t)) (rowTest 3 (descriptors t)) ≡ true
+  pub rule3 : eachRow 3 (descriptors t) ≡ true
   pub rule4 : inOrder (lastSession t) (descriptors t) ≡ true
-  pub rule5 : every (rows (descriptors t)) (rowTest 5 (descriptors t)) ≡ true
-  pub rule6 : every (rows (descriptors t)) (rowTest 6 (descriptors t)) ≡ true
+  pub rule5 : eachRow 5 (descriptors t) ≡ true
+  pub rule6 : eachRow 6 (descriptors t) ≡ true
   pub rule7 : rule7 (lastSession t) (descriptors t) ≡ true
 
 -- a test that the first broken rule is not: it holds, and the later ones are to be asked
@@ -181,7 +161,7 @@ fit-isFit f = eq-eqb _ _ (fit-fault f)
 
 -- ---- what a fit table has
 
--- 4 to 4,360 bytes, S from 1 to 99
+-- 4 to 6,538 bytes, S from 1 to 99
 pub fit-sized : {t : List ℕ} → Fit t → Sized t
 fit-sized f = rule1-parts (f .rule1)
 

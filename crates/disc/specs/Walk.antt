@@ -1,29 +1,19 @@
 -- What one walk over the descriptors asks of each, in the order in which it passes them: WalkFit shows that this is fitness.
-use Prim.Native.Nat.{ℕ, zero, suc, _+_}
+use Prim.Native.Nat.{ℕ, zero, suc, _+_, _*_}
 use mathlib.Core.Bool.{Bool}
 use mathlib.Core.List.{List}
 use lib.ListN.{length}
 use lib.Dec.{leb, eqb}
 use Rattle.ground.specs.Tests.{_and_, every, if_then_else_}
-use Rattle.disc.specs.Layout.{pminAt, psecAt, pframeAt, framesAt, A0, A1, A2}
-use Rattle.disc.specs.Session.{first, last, tracks, size, names, starts, session, before, follows}
+use Rattle.table.specs.Layout.{row, A2, B0, C0}
+use Rattle.table.specs.Row.{rowFrom, rowAt, framesAt}
+use Rattle.table.specs.Asked.{kept, a0Kept, a1Kept, extraKept, extraPassed, holds}
+use Rattle.sessions.specs.Session.{first, last, tracks, b0s, size, starts, session}
 use Rattle.disc.specs.declared.walk.Verdict.{Verdict}
-use Rattle.disc.specs.Rules.{plain, headA0}
 
--- descriptor j is of session k, has POINT p, and keeps rule 3
-unfoldable pub kept : List ℕ → ℕ → ℕ → ℕ → Bool
-kept d k j p = names d k j p and plain d j
-
--- descriptor j holds an address of rule 6 that is `low` or later, which is 00:02:00 or later itself
-unfoldable pub holds : List ℕ → ℕ → ℕ → Bool
-holds d j low = leb (pminAt d j) 99 and leb (psecAt d j) 59 and leb (pframeAt d j) 74 and leb low (framesAt d j)
-
--- rule 5 of A0 and A1
-unfoldable pub headsHold : List ℕ → Bool
-headsHold d = headA0 (psecAt d 0) (pframeAt d 0) and eqb (psecAt d 1) 0 and eqb (pframeAt d 1) 0
-
+-- all that is asked of A0, A1 and A2 of session k
 unfoldable pub headsKept : List ℕ → ℕ → Bool
-headsKept d k = kept d k 0 A0 and kept d k 1 A1 and kept d k 2 A2 and headsHold d
+headsKept d k = a0Kept (rowAt d 0) k and a1Kept (rowAt d 1) k and kept (rowAt d 2) k A2
 
 -- the least frame at which the track after i others may start, where `floor` is the first track's
 unfoldable pub floorAt : List ℕ → ℕ → ℕ → ℕ
@@ -32,26 +22,47 @@ floorAt d floor (suc i) = framesAt d (3 + i) + 1
 
 -- rules 3, 4, 6 and 7 of the track after i others
 unfoldable pub trackKept : List ℕ → ℕ → ℕ → ℕ → ℕ → Bool
-trackKept d k f floor i = kept d k (3 + i) (f + i) and holds d (3 + i) (floorAt d floor i)
+trackKept d k f floor i = kept (rowAt d (3 + i)) k (f + i) and holds (rowAt d (3 + i)) (floorAt d floor i)
 
 -- of all n tracks, and of the lead-out after them
 unfoldable pub tracksKept : List ℕ → ℕ → ℕ → ℕ → ℕ → Bool
-tracksKept d k f n floor = every n (trackKept d k f floor) and holds d 2 (floorAt d floor n)
+tracksKept d k f n floor = every n (trackKept d k f floor) and holds (rowAt d 2) (floorAt d floor n)
+
+-- and of the B0h and the C0h that may stand past the tracks
+unfoldable pub extrasKept : List ℕ → ℕ → Bool
+extrasKept d k = extraPassed (rowAt d (3 + tracks d)) k B0 and extraPassed (rowAt d (3 + tracks d + b0s d)) k C0
 
 -- d begins with session k, and its descriptors keep rules 3 to 7
 unfoldable pub sessionKept : ℕ → List ℕ → ℕ → Bool
 sessionKept k d floor =
-    leb 33 (length d) and leb 1 (first d) and leb (first d) (last d) and leb (last d) 99 and leb (size d) (length d)
-    and headsKept d k and tracksKept d k (first d) (tracks d) floor
+    leb (size d) (length d) and leb 1 (first d) and leb (first d) (last d) and leb (last d) 99
+    and headsKept d k and tracksKept d k (first d) (tracks d) floor and extrasKept d k
+
+-- where a descriptor with POINT p ends that may stand at byte `at`: past it if it is kept, there if there is none, 0 if it is not kept
+unfoldable pub extraEnd : List ℕ → ℕ → ℕ → ℕ → ℕ
+extraEnd d k at p = if eqb (rowFrom d at .point) p then (if extraKept (rowFrom d at) k then at + row else 0) else at
+
+-- where a B0h and then a C0h end
+unfoldable pub extrasEnd : List ℕ → ℕ → ℕ → ℕ
+extrasEnd d k at = if eqb (extraEnd d k at B0) 0 then 0 else extraEnd d k (extraEnd d k at B0) C0
+
+-- where the session ends that d begins with: 0 where it is not kept, or does not begin with track `next`
+unfoldable pub sessionEnd : ℕ → List ℕ → ℕ → ℕ → ℕ
+sessionEnd k d next floor = if sessionKept k d floor and eqb (first d) next then size d else 0
 
 -- the least frame at which the session after k others may start: past the lead-out before it, and 00:02:00 where there is none
 unfoldable pub floorOf : List ℕ → ℕ → ℕ
 floorOf d zero = 150
 floorOf d (suc k) = framesAt (session d k) 2 + 1
 
+-- the track with which it begins: the one after the last, and any where there is none
+unfoldable pub nextOf : List ℕ → ℕ → ℕ
+nextOf d zero = first d
+nextOf d (suc k) = last (session d k) + 1
+
 -- the session after k others is kept in its place
 unfoldable pub stepKept : List ℕ → ℕ → Bool
-stepKept d k = sessionKept (k + 1) (session d k) (floorOf d k) and follows k (first (session d k)) (before d k)
+stepKept d k = sessionKept (k + 1) (session d k) (floorOf d k) and eqb (first (session d k)) (nextOf d k)
 
 -- n sessions are, and nothing more stands there
 unfoldable pub walkKept : ℕ → List ℕ → Bool

@@ -1,5 +1,5 @@
 -- What the walk asks of one session's descriptors, by name, and which rules that keeps.
-use mathlib.Core.Path.{_≡_, refl, sym, ap, _∙_}
+use mathlib.Core.Path.{_≡_, sym, ap, _∙_}
 use mathlib.Core.Bool.{Bool, true, false}
 use mathlib.Core.List.{List}
 use Prim.Native.Nat.{ℕ, zero, suc, _+_, _-_, _≤_, _<_}
@@ -7,18 +7,20 @@ use native.Mathlib.Omega.{arith}
 use native.Mathlib.Numerals.{add-one}
 use native.Mathlib.Nat.{lt-of-not-le}
 use native.Mathlib.Decide.{decLe, ℕ-discrete}
-use borrow.Author.Tests.{le-leb, leb-true, lt-ltb, eq-eqb, ne-eqb}
+use borrow.Author.Tests.{le-leb, leb-true, lt-ltb}
 use lib.ListN.{length}
 use lib.Dec.{ltb, eqb}
-use Rattle.ground.specs.Tests.{_and_, _or_, if_then_else_, and-head, and-tail, and-both, when, unless, every-at, every-all}
-use Rattle.address.specs.Address.{frames, isMsf}
-use Rattle.address.specs.Laws.{InRange}
-use Rattle.disc.specs.Layout.{pointAt, pminAt, psecAt, pframeAt, addressAt, A0, A1, A2, isTrack, framesAt}
-use Rattle.disc.specs.Session.{first, tracks, names, listed, session, before}
-use Rattle.disc.specs.SessionLaws.{IsSession, listed-parts, size-least, rowsBefore}
-use Rattle.disc.specs.Rules.{plain, headA0, headed, addressed, rowTest, trackStart, rises}
-use Rattle.disc.specs.FitLaws.{field-at, Kind, isA0, isA1, isA2, isTrackAfter, listed-kind}
-use Rattle.disc.specs.Walk.{kept, holds, headsHold, headsKept, floorAt, trackKept, tracksKept, sessionKept, floorOf}
+use Rattle.ground.specs.Tests.{and-head, and-tail, and-both, every-at, every-all}
+use Rattle.table.specs.Layout.{pointAt, sessionAt, A0, A1, A2, B0, C0, isExtra}
+use Rattle.table.specs.Row.{rowAt, framesAt, addressAt, names, plain, headA0, headA1, headed, addressed}
+use Rattle.table.specs.RowLaws.{startOf-frames, isExtra-B0, isExtra-C0, headed-A0, headed-A1, headed-other, addressed-of, addressed-other, A0-other, A1-other, B0-other, C0-other}
+use Rattle.table.specs.Asked.{kept, a0Kept, a1Kept, extraKept, extraPassed, holds}
+use Rattle.table.specs.AskedLaws.{kept-names, kept-plain, kept-both, extraPassed-kept, extraPassed-other, extraKept-number, extraKept-plain, extraKept-both, holds-low, holds-isMsf}
+use Rattle.sessions.specs.Session.{first, last, tracks, b0s, c0s, count, listed, numbered, session}
+use Rattle.sessions.specs.SessionLaws.{IsSession, one-is, extras-each, names-parts, listed-parts}
+use Rattle.disc.specs.Rules.{trackStart, rises}
+use Rattle.disc.specs.FitLaws.{Kind, isA0, isA1, isA2, isTrackAfter, isB0, isC0, listed-kind}
+use Rattle.disc.specs.Walk.{headsKept, floorAt, trackKept, tracksKept, extrasKept, sessionKept, floorOf}
 
 -- ---- the floors
 
@@ -30,188 +32,144 @@ pub floorOf-next : (d : List ℕ) (k : ℕ) → floorOf d (k + 1) ≡ framesAt (
 unfolding floorOf
 floorOf-next d k = rw (add-one k)
 
--- ---- an address and its frames
-
-pub addressAt-frames : (d : List ℕ) (j : ℕ) → addressAt d j ≡ framesAt d j - 150
-unfolding addressAt framesAt
-addressAt-frames d j = refl
-
-pub holds-low : (d : List ℕ) (j low : ℕ) → holds d j low ≡ true → low ≤ framesAt d j
-unfolding holds
-holds-low d j low h = leb-true _ _ (and-tail _ _ (and-tail _ _ (and-tail _ _ h)))
-
--- at 00:02:00 or later it is an address of rule 6
-pub holds-isMsf : (d : List ℕ) (j low : ℕ) → 150 ≤ low → holds d j low ≡ true → isMsf (pminAt d j) (psecAt d j) (pframeAt d j) ≡ true
-unfolding holds framesAt isMsf
-holds-isMsf d j low b h =
-    let u = and-tail _ _ h in
-    let v = and-tail _ _ u in
-    let l = leb-true low (frames (pminAt d j) (psecAt d j) (pframeAt d j)) (and-tail _ _ v) in
-    and-both _ _ (and-head _ _ h) (and-both _ _ (and-head _ _ u) (and-both _ _ (and-head _ _ v) (le-leb 150 (frames (pminAt d j) (psecAt d j) (pframeAt d j)) (omega arith))))
-
-pub range-holds : (d : List ℕ) (j low : ℕ) → InRange (pminAt d j) (psecAt d j) (pframeAt d j) → low ≤ framesAt d j → holds d j low ≡ true
-unfolding holds
-range-holds d j low r l =
-    and-both _ _ (le-leb _ _ (r .minute)) (and-both _ _ (le-leb _ _ (r .second)) (and-both _ _ (le-leb _ _ (r .frame)) (le-leb _ _ l)))
-
-pub range-least : (d : List ℕ) (j : ℕ) → InRange (pminAt d j) (psecAt d j) (pframeAt d j) → 150 ≤ framesAt d j
-unfolding framesAt
-range-least d j r = r .lead
-
 -- ---- one session
 
 -- s begins with session k, and its descriptors keep rules 3 to 7, by name
 pub record Sound (k : ℕ) (s : List ℕ) (floor : ℕ) : Type 0 where
   pub is : IsSession k s
-  pub simple : (i : ℕ) → i < 3 + tracks s → plain s i ≡ true
-  pub heads : headsHold s ≡ true
-  pub rise : (m : ℕ) → m < tracks s → holds s (3 + m) (floorAt s floor m) ≡ true
-  pub lead : holds s 2 (floorAt s floor (tracks s)) ≡ true
+  pub simple : (i : ℕ) → i < count s → plain (rowAt s i) ≡ true
+  pub head0 : headA0 (rowAt s 0) ≡ true
+  pub head1 : headA1 (rowAt s 1) ≡ true
+  pub rise : (m : ℕ) → m < tracks s → holds (rowAt s (3 + m)) (floorAt s floor m) ≡ true
+  pub lead : holds (rowAt s 2) (floorAt s floor (tracks s)) ≡ true
 
-pub kept-names : (d : List ℕ) (k j p : ℕ) → kept d k j p ≡ true → names d k j p ≡ true
-unfolding kept
-kept-names d k j p h = and-head _ _ h
-
-pub kept-plain : (d : List ℕ) (k j p : ℕ) → kept d k j p ≡ true → plain d j ≡ true
-unfolding kept
-kept-plain d k j p h = and-tail _ _ h
-
-pub kept-both : (d : List ℕ) (k j p : ℕ) → names d k j p ≡ true → plain d j ≡ true → kept d k j p ≡ true
-unfolding kept
-kept-both d k j p h g = and-both _ _ h g
-
--- what holds of A0, A1, A2 and each of n tracks holds of each descriptor
+-- what holds of A0, A1, A2, each track, and each descriptor past them holds of each
 pub rows-all :
-    (p : ℕ → Bool) (n : ℕ) → p 0 ≡ true → p 1 ≡ true → p 2 ≡ true → ((m : ℕ) → m < n → p (3 + m) ≡ true) → (i : ℕ) → i < 3 + n → p i ≡ true
-rows-all p n a b c f i l = elim (decLe 3 i) [
-  | yes g ↦ let e : i ≡ 3 + (i - 3) = omega arith in rw e (f (i - 3) (omega arith))
-  | no g ↦ head (lt-of-not-le g)
+    (s : List ℕ) (p : ℕ → Bool) → p 0 ≡ true → p 1 ≡ true → p 2 ≡ true → ((m : ℕ) → m < tracks s → p (3 + m) ≡ true)
+    → ((i : ℕ) → 3 + tracks s ≤ i → i < count s → p i ≡ true) → (i : ℕ) → i < count s → p i ≡ true
+rows-all s p a b c f g i l = elim (decLe 3 i) [
+  | yes h ↦ elim (decLe (3 + tracks s) i) [
+    | yes e ↦ g i e l
+    | no e ↦ let q = lt-of-not-le e in let z : i ≡ 3 + (i - 3) = omega arith in rw z (f (i - 3) (omega arith))
+  ]
+  | no h ↦ head (lt-of-not-le h)
 ]
   where
     head : i < 3 → p i ≡ true
-    head g = elim (ℕ-discrete i 0) [
+    head h = elim (ℕ-discrete i 0) [
       | yes e ↦ rw e a
       | no e ↦ elim (ℕ-discrete i 1) [
-        | yes h ↦ rw h b
-        | no h ↦ let z : i ≡ 2 = omega arith in rw z c
+        | yes q ↦ rw q b
+        | no q ↦ let z : i ≡ 2 = omega arith in rw z c
       ]
     ]
 
-module _ {k : ℕ} {s : List ℕ} {floor : ℕ} where
-  pub sessionKept-sound : sessionKept k s floor ≡ true → Sound k s floor
-  unfolding sessionKept headsKept tracksKept trackKept listed
-  sessionKept-sound h =
-      let a = and-tail _ _ h in
-      let b = and-tail _ _ a in
-      let c = and-tail _ _ b in
-      let e = and-tail _ _ c in
-      let g = and-tail _ _ e in
-      let u = and-head _ _ g in
-      let v = and-tail _ _ u in
-      let w = and-tail _ _ v in
-      let y = and-tail _ _ g in
-      let each : (m : ℕ) → m < tracks s → trackKept s k (first s) floor m ≡ true = every-at _ _ (and-head _ _ y) in
-      record {
-        is = record {
-          fits = leb-true _ _ (and-head _ _ e);
-          low = leb-true _ _ (and-head _ _ a);
-          order = leb-true _ _ (and-head _ _ b);
-          high = leb-true _ _ (and-head _ _ c);
-          lists = and-both _ _ (kept-names _ _ _ _ (and-head _ _ u)) (and-both _ _ (kept-names _ _ _ _ (and-head _ _ v))
-              (and-both _ _ (kept-names _ _ _ _ (and-head _ _ w)) (every-all _ _ (λ m l. kept-names _ _ _ _ (and-head _ _ (each m l))))));
-        };
-        simple =
-            rows-all (plain s) (tracks s) (kept-plain _ _ _ _ (and-head _ _ u)) (kept-plain _ _ _ _ (and-head _ _ v))
-            (kept-plain _ _ _ _ (and-head _ _ w)) (λ m l. kept-plain _ _ _ _ (and-head _ _ (each m l)));
-        heads = and-tail _ _ w;
-        rise = λ m l. and-tail _ _ (each m l);
-        lead = and-tail _ _ y;
-      }
+module _ (k : ℕ) (s : List ℕ) where
+  -- the descriptors past the tracks: what each of them is asked
+  extras-kept : extrasKept s k ≡ true → (i : ℕ) → 3 + tracks s ≤ i → i < count s → (extraKept (rowAt s i) k ≡ true) × (isExtra (pointAt s i) ≡ true)
+  unfolding extrasKept
+  extras-kept h =
+      extras-each s (λ i. (extraKept (rowAt s i) k ≡ true) × (isExtra (pointAt s i) ≡ true))
+      (λ e. (sym (extraPassed-kept (rowAt s (3 + tracks s)) k B0 e) ∙ and-head _ _ h, isExtra-B0 e))
+      (λ e. (sym (extraPassed-kept (rowAt s (3 + tracks s + b0s s)) k C0 e) ∙ and-tail _ _ h, isExtra-C0 e))
 
-  pub sound-sessionKept : Sound k s floor → sessionKept k s floor ≡ true
-  unfolding sessionKept headsKept tracksKept trackKept listed
-  sound-sessionKept o =
-      let i = o .is in
-      let l = i .lists in
-      let u = and-tail _ _ l in
-      let v = and-tail _ _ u in
-      let p = o .simple in
-      let z = size-least i in
-      let y = i .fits in
-      and-both _ _ (le-leb 33 (length s) (omega arith)) (and-both _ _ (le-leb _ _ (i .low)) (and-both _ _ (le-leb _ _ (i .order))
-      (and-both _ _ (le-leb _ _ (i .high)) (and-both _ _ (le-leb _ _ (i .fits)) (and-both _ _
-      (and-both _ _ (kept-both _ _ _ _ (and-head _ _ l) (p 0 (omega arith)))
-      (and-both _ _ (kept-both _ _ _ _ (and-head _ _ u) (p 1 (omega arith)))
-      (and-both _ _ (kept-both _ _ _ _ (and-head _ _ v) (p 2 (omega arith))) (o .heads))))
-      (and-both _ _ (every-all _ _ (λ m g. and-both _ _
-      (kept-both _ _ _ _ (every-at (tracks s) (λ j. names s k (3 + j) (first s + j)) (and-tail _ _ v) m g) (p (3 + m) (omega arith)))
-      (o .rise m g))) (o .lead)))))))
+  -- one that stands there is passed if each is kept, and none is passed anyhow
+  passed : (j p : ℕ) → (pointAt s j ≡ p → extraKept (rowAt s j) k ≡ true) → extraPassed (rowAt s j) k p ≡ true
+  passed j p f = elim (ℕ-discrete (pointAt s j) p) [
+    | yes e ↦ extraPassed-kept (rowAt s j) k p e ∙ f e
+    | no e ↦ extraPassed-other (rowAt s j) k p e
+  ]
 
--- ---- a row's tests, in its session and in the table
+  kept-extras : ((i : ℕ) → 3 + tracks s ≤ i → i < count s → isExtra (pointAt s i) ≡ true → extraKept (rowAt s i) k ≡ true) → extrasKept s k ≡ true
+  unfolding extrasKept
+  kept-extras f =
+      and-both _ _ (passed (3 + tracks s) B0 (λ e. let o = one-is e in f (3 + tracks s) (omega arith) (omega arith) (isExtra-B0 e)))
+      (passed (3 + tracks s + b0s s) C0 (λ e. let o = one-is e in f (3 + tracks s + b0s s) (omega arith) (omega arith) (isExtra-C0 e)))
 
-pub plain-session : (d : List ℕ) (k i : ℕ) → plain (session d k) i ≡ plain d (rowsBefore d k + i)
-unfolding plain
-plain-session d k i = rw (field-at d k i 1, field-at d k i 2, field-at d k i 7)
+  module _ (floor : ℕ) where
+    pub sessionKept-heads : sessionKept k s floor ≡ true → headsKept s k ≡ true
+    unfolding sessionKept
+    sessionKept-heads h = and-head _ _ (and-tail _ _ (and-tail _ _ (and-tail _ _ (and-tail _ _ h))))
 
-pub headed-session : (d : List ℕ) (k i : ℕ) → headed (session d k) i ≡ headed d (rowsBefore d k + i)
-unfolding headed
-headed-session d k i = rw (field-at d k i 3, field-at d k i 9, field-at d k i 10)
+    pub sessionKept-tracks : sessionKept k s floor ≡ true → tracksKept s k (first s) (tracks s) floor ≡ true
+    unfolding sessionKept
+    sessionKept-tracks h = and-head _ _ (and-tail _ _ (and-tail _ _ (and-tail _ _ (and-tail _ _ (and-tail _ _ h)))))
 
-pub rowTest-3 : (d : List ℕ) (j : ℕ) → rowTest 3 d j ≡ plain d j
-unfolding rowTest if_then_else_
-rowTest-3 d j = refl
+    pub sessionKept-sound : sessionKept k s floor ≡ true → Sound k s floor
+    unfolding sessionKept headsKept tracksKept trackKept listed numbered a0Kept a1Kept
+    sessionKept-sound h =
+        let a = and-tail _ _ h in
+        let b = and-tail _ _ a in
+        let c = and-tail _ _ b in
+        let e = and-tail _ _ c in
+        let u = and-head _ _ e in
+        let v = and-tail _ _ u in
+        let g = and-tail _ _ e in
+        let x = extras-kept (and-tail _ _ g) in
+        let low = leb-true _ _ (and-head _ _ a) in
+        let order = leb-true _ _ (and-head _ _ b) in
+        let high = leb-true _ _ (and-head _ _ c) in
+        let each : (m : ℕ) → m < tracks s → trackKept s k (first s) floor m ≡ true = every-at _ _ (and-head _ _ (and-head _ _ g)) in
+        record {
+          is = record {
+            fits = leb-true _ _ (and-head _ _ h);
+            low = low;
+            order = order;
+            high = high;
+            lists = and-both _ _ (kept-names _ _ _ (and-head _ _ (and-head _ _ u))) (and-both _ _ (kept-names _ _ _ (and-head _ _ (and-head _ _ v)))
+                (and-both _ _ (kept-names _ _ _ (and-tail _ _ v)) (every-all _ _ (λ m l. kept-names _ _ _ (and-head _ _ (each m l))))));
+            numbers = every-all _ _ (λ i l. extraKept-number _ _ (x (3 + tracks s + i) (omega arith) (omega arith) .0));
+          };
+          simple =
+              rows-all s (λ i. plain (rowAt s i)) (kept-plain (rowAt s 0) k A0 (omega arith) (and-head _ _ (and-head _ _ u)))
+              (kept-plain (rowAt s 1) k A1 (omega arith) (and-head _ _ (and-head _ _ v))) (kept-plain (rowAt s 2) k A2 (omega arith) (and-tail _ _ v))
+              (λ m l. kept-plain (rowAt s (3 + m)) k (first s + m) (omega arith) (and-head _ _ (each m l)))
+              (λ i l q. extraKept-plain _ k (x i l q .1) (x i l q .0));
+          head0 = and-tail _ _ (and-head _ _ u);
+          head1 = and-tail _ _ (and-head _ _ v);
+          rise = λ m l. and-tail _ _ (each m l);
+          lead = and-tail _ _ (and-head _ _ g);
+        }
 
-pub rowTest-5 : (d : List ℕ) (j : ℕ) → rowTest 5 d j ≡ headed d j
-unfolding rowTest if_then_else_
-rowTest-5 d j = refl
-
--- ---- rules 5 and 6 by POINT
-
-pub headed-A0 : (s : List ℕ) (i : ℕ) → pointAt s i ≡ A0 → headed s i ≡ headA0 (psecAt s i) (pframeAt s i)
-unfolding headed
-headed-A0 s i h = when _ _ _ (eq-eqb _ _ h)
-
-pub headed-A1 : (s : List ℕ) (i : ℕ) → pointAt s i ≡ A1 → headed s i ≡ eqb (psecAt s i) 0 and eqb (pframeAt s i) 0
-unfolding headed
-headed-A1 s i h = unless _ _ _ (ne-eqb (pointAt s i) A0 (λ e. omega arith)) ∙ when _ _ _ (eq-eqb _ _ h)
-
-pub headed-other : (s : List ℕ) (i : ℕ) → (pointAt s i ≡ A0 → ⊥) → (pointAt s i ≡ A1 → ⊥) → headed s i ≡ true
-unfolding headed
-headed-other s i h g = unless _ _ _ (ne-eqb _ _ h) ∙ unless _ _ _ (ne-eqb _ _ g)
-
-pub addressed-of : (s : List ℕ) (i : ℕ) → isMsf (pminAt s i) (psecAt s i) (pframeAt s i) ≡ true → addressed s i ≡ true
-unfolding addressed
-addressed-of s i h = told (eqb (pointAt s i) A2 or isTrack (pointAt s i)) refl
-  where
-    told : (b : Bool) → (eqb (pointAt s i) A2 or isTrack (pointAt s i)) ≡ b → addressed s i ≡ true
-    told true e = when _ _ _ e ∙ h
-    told false e = unless _ _ _ e
-
-pub addressed-head : (s : List ℕ) (i : ℕ) (p : ℕ) → pointAt s i ≡ p → (eqb p A2 or isTrack p) ≡ false → addressed s i ≡ true
-unfolding addressed
-addressed-head s i p e h = unless _ _ _ (rw e h)
-
-A0-other : (eqb A0 A2 or isTrack A0) ≡ false
-unfolding _or_ isTrack _and_
-A0-other = refl
-
-A1-other : (eqb A1 A2 or isTrack A1) ≡ false
-unfolding _or_ isTrack _and_
-A1-other = refl
+    pub sound-sessionKept : Sound k s floor → sessionKept k s floor ≡ true
+    unfolding sessionKept headsKept tracksKept trackKept listed numbered a0Kept a1Kept
+    sound-sessionKept o =
+        let i = o .is in
+        let l = i .lists in
+        let u = and-tail _ _ l in
+        let v = and-tail _ _ u in
+        let p = o .simple in
+        let high = i .high in
+        let order = i .order in
+        and-both _ _ (le-leb _ _ (i .fits)) (and-both _ _ (le-leb _ _ (i .low)) (and-both _ _ (le-leb _ _ order) (and-both _ _ (le-leb _ _ high)
+        (and-both _ _
+        (and-both _ _ (and-both _ _ (kept-both (rowAt s 0) k A0 (omega arith) (and-head _ _ l) (p 0 (omega arith))) (o .head0))
+        (and-both _ _ (and-both _ _ (kept-both (rowAt s 1) k A1 (omega arith) (and-head _ _ u) (p 1 (omega arith))) (o .head1))
+        (kept-both (rowAt s 2) k A2 (omega arith) (and-head _ _ v) (p 2 (omega arith)))))
+        (and-both _ _ (and-both _ _ (every-all _ _ (λ m g. and-both _ _
+        (kept-both (rowAt s (3 + m)) k (first s + m) (omega arith) (every-at (tracks s) (λ j. names (rowAt s (3 + j)) k (first s + j)) (and-tail _ _ v) m g) (p (3 + m) (omega arith)))
+        (o .rise m g))) (o .lead))
+        (kept-extras (λ j g q e. extraKept-both (rowAt s j) k e (number j g q) (p j q))))))))
+      where
+        number : (j : ℕ) → 3 + tracks s ≤ j → j < count s → eqb (sessionAt s j) k ≡ true
+        number j g q =
+            let z : j ≡ 3 + tracks s + (j - (3 + tracks s)) = omega arith in
+            rw z (every-at (b0s s + c0s s) (λ n. eqb (sessionAt s (3 + tracks s + n)) k) (o .is .numbers) (j - (3 + tracks s)) (omega arith))
 
 -- ---- what a sound session keeps
 
 module _ {k : ℕ} {s : List ℕ} {floor : ℕ} (o : Sound k s floor) where
-  sound-kind : {i : ℕ} → i < 3 + tracks s → Kind s i
+  sound-kind : {i : ℕ} → i < count s → Kind s i
   sound-kind {i} l = listed-kind (listed-parts (o .is .lists)) i l
 
-  pub sound-headed : (i : ℕ) → i < 3 + tracks s → headed s i ≡ true
-  unfolding headsHold
+  pub sound-headed : (i : ℕ) → i < count s → headed (rowAt s i) ≡ true
   sound-headed i l = elim (sound-kind l) [
-    | isA0 e p ↦ headed-A0 s i p ∙ rw e (and-head _ _ (o .heads))
-    | isA1 e p ↦ headed-A1 s i p ∙ rw e (and-tail _ _ (o .heads))
-    | isA2 e p ↦ headed-other s i (λ q. omega arith) (λ q. omega arith)
-    | isTrackAfter m e b p ↦ (let u = o .is .high in let v = o .is .order in headed-other s i (λ q. omega arith) (λ q. omega arith))
+    | isA0 e p ↦ headed-A0 (rowAt s i) p ∙ rw e (o .head0)
+    | isA1 e p ↦ headed-A1 (rowAt s i) p ∙ rw e (o .head1)
+    | isA2 e p ↦ headed-other (rowAt s i) (λ q. omega arith) (λ q. omega arith)
+    | isTrackAfter m e b p ↦ (let u = o .is .high in let v = o .is .order in headed-other (rowAt s i) (λ q. omega arith) (λ q. omega arith))
+    | isB0 e p ↦ headed-other (rowAt s i) (λ q. omega arith) (λ q. omega arith)
+    | isC0 e p ↦ headed-other (rowAt s i) (λ q. omega arith) (λ q. omega arith)
   ]
 
   -- no floor lies before 00:02:00
@@ -220,29 +178,31 @@ module _ {k : ℕ} {s : List ℕ} {floor : ℕ} (o : Sound k s floor) where
     unfolding floorAt
     sound-floor zero l = b
     sound-floor (suc m) l =
-        let r = holds-low s (3 + m) (floorAt s floor m) (o .rise m (omega arith)) in let u = sound-floor m (omega arith) in omega arith
+        let r = holds-low (rowAt s (3 + m)) (floorAt s floor m) (o .rise m (omega arith)) in let u = sound-floor m (omega arith) in omega arith
 
     -- and so no lead-out
     pub sound-lead : 150 ≤ framesAt s 2
-    sound-lead = let r = holds-low s 2 (floorAt s floor (tracks s)) (o .lead) in let u = sound-floor (tracks s) (omega arith) in omega arith
+    sound-lead = let r = holds-low (rowAt s 2) (floorAt s floor (tracks s)) (o .lead) in let u = sound-floor (tracks s) (omega arith) in omega arith
 
-    pub sound-addressed : (i : ℕ) → i < 3 + tracks s → addressed s i ≡ true
+    pub sound-addressed : (i : ℕ) → i < count s → addressed (rowAt s i) ≡ true
     sound-addressed i l = elim (sound-kind l) [
-      | isA0 e p ↦ addressed-head s i A0 p A0-other
-      | isA1 e p ↦ addressed-head s i A1 p A1-other
-      | isA2 e p ↦ addressed-of s i (rw e (holds-isMsf s 2 (floorAt s floor (tracks s)) (sound-floor (tracks s) (omega arith)) (o .lead)))
-      | isTrackAfter m e g p ↦ addressed-of s i (rw e (holds-isMsf s (3 + m) (floorAt s floor m) (sound-floor m (omega arith)) (o .rise m g)))
+      | isA0 e p ↦ addressed-other (rowAt s i) A0 p A0-other
+      | isA1 e p ↦ addressed-other (rowAt s i) A1 p A1-other
+      | isA2 e p ↦ addressed-of (rowAt s i) (rw e (holds-isMsf (rowAt s 2) (floorAt s floor (tracks s)) (sound-floor (tracks s) (omega arith)) (o .lead)))
+      | isTrackAfter m e g p ↦ addressed-of (rowAt s i) (rw e (holds-isMsf (rowAt s (3 + m)) (floorAt s floor m) (sound-floor m (omega arith)) (o .rise m g)))
+      | isB0 e p ↦ addressed-other (rowAt s i) B0 p B0-other
+      | isC0 e p ↦ addressed-other (rowAt s i) C0 p C0-other
     ]
 
     -- a track starts before what stands past its frame
-    sound-before : (i j : ℕ) → i < tracks s → holds s j (floorAt s floor (i + 1)) ≡ true → trackStart s i < addressAt s j
+    sound-before : (i j : ℕ) → i < tracks s → holds (rowAt s j) (floorAt s floor (i + 1)) ≡ true → trackStart s i < addressAt s j
     sound-before i j l h =
-        let u = holds-low s j (floorAt s floor (i + 1)) h in
-        let v = holds-low s (3 + i) (floorAt s floor i) (o .rise i l) in
+        let u = holds-low (rowAt s j) (floorAt s floor (i + 1)) h in
+        let v = holds-low (rowAt s (3 + i)) (floorAt s floor i) (o .rise i l) in
         let w = sound-floor i (omega arith) in
         let e = floorAt-next s floor i in
-        let p = addressAt-frames s j in
-        let q = addressAt-frames s (3 + i) in
+        let p = startOf-frames (rowAt s j) in
+        let q = startOf-frames (rowAt s (3 + i)) in
         omega arith
 
     pub sound-rises : rises s (tracks s) ≡ true
@@ -253,4 +213,4 @@ module _ {k : ℕ} {s : List ℕ} {floor : ℕ} (o : Sound k s floor) where
         and-both _ _
         (every-all (tracks s - 1) (λ i. ltb (trackStart s i) (trackStart s (i + 1)))
         (λ i l. lt-ltb _ _ (sound-before i (3 + (i + 1)) (omega arith) (o .rise (i + 1) (omega arith)))))
-        (lt-ltb _ _ (sound-before (tracks s - 1) 2 (omega arith) (ap (λ (x : ℕ). holds s 2 (floorAt s floor x)) (sym e) ∙ o .lead)))
+        (lt-ltb _ _ (sound-before (tracks s - 1) 2 (omega arith) (ap (λ (x : ℕ). holds (rowAt s 2) (floorAt s floor x)) (sym e) ∙ o .lead)))

@@ -2,17 +2,22 @@
 use mathlib.Core.Path.{_≡_, refl, sym, ap, _∙_}
 use mathlib.Core.Bool.{Bool, true, false}
 use mathlib.Core.List.{List}
-use Prim.Native.Nat.{ℕ, _+_, _-_, _≤_, _<_}
+use Prim.Native.Nat.{ℕ, _+_, _-_, _*_, _%_, _≤_, _<_}
 use native.Mathlib.Omega.{arith}
-use borrow.Author.Tests.{le-leb}
+use native.Mathlib.Numerals.{add-one}
+use native.Mathlib.Nat.{add-zero}
+use native.Mathlib.Decide.{ℕ-discrete}
+use borrow.Author.Tests.{le-leb, eq-eqb, eqb-true, ne-eqb}
 use lib.ListN.{length, drop}
 use lib.Dec.{eqb}
-use Rattle.ground.specs.Tests.{if_then_else_, when, every, and-on, and-off, and-late, and-both, every-none, every-more, every-breaks}
-use Rattle.disc.specs.Session.{first, last, tracks, size, starts, session, before, follows}
-use Rattle.disc.specs.SessionLaws.{Walked, walked-none, walked-next, walked-all, before-next}
-use Rattle.disc.specs.RulesLaws.{same-test}
-use Rattle.disc.specs.Layout.{framesAt}
-use Rattle.disc.specs.Walk.{kept, holds, headsKept, floorAt, trackKept, tracksKept, sessionKept, floorOf, stepKept, walkKept, verdict}
+use Rattle.ground.specs.Tests.{_and_, if_then_else_, when, unless, every, and-on, and-off, and-late, and-both, and-head, and-tail, and-with, every-none, every-more, every-breaks}
+use Rattle.table.specs.Layout.{row, pointAt, B0, C0}
+use Rattle.table.specs.Row.{rowFrom, rowAt, framesAt}
+use Rattle.table.specs.Asked.{kept, extraKept, extraPassed, holds}
+use Rattle.table.specs.AskedLaws.{extraPassed-kept, extraPassed-other}
+use Rattle.sessions.specs.Session.{first, last, tracks, one, b0s, c0s, size, starts, session}
+use Rattle.sessions.specs.SessionLaws.{one-is, one-not, size-heads, size-whole, Walked, walked-none, walked-next, walked-all}
+use Rattle.disc.specs.Walk.{headsKept, floorAt, trackKept, tracksKept, extrasKept, sessionKept, extraEnd, extrasEnd, sessionEnd, floorOf, nextOf, stepKept, walkKept, verdict}
 use Rattle.disc.specs.declared.walk.Verdict.{Verdict}
 use Rattle.disc.specs.WalkLaws.{Sound, floorAt-next, floorOf-next, sessionKept-sound}
 
@@ -31,7 +36,7 @@ climbed-none d k f n floor = record { turns = omega arith; passed = every-none _
 module _ {d : List ℕ} {k f n floor i low : ℕ} (c : Climbed d k f n floor i low) where
   module _ (l : i < n) where
     pub climbed-next :
-        {s : ℕ} → kept d k (3 + i) (f + i) ≡ true → holds d (3 + i) low ≡ true → s ≡ framesAt d (3 + i) → Climbed d k f n floor (i + 1) (s + 1)
+        {s : ℕ} → kept (rowAt d (3 + i)) k (f + i) ≡ true → holds (rowAt d (3 + i)) low ≡ true → s ≡ framesAt d (3 + i) → Climbed d k f n floor (i + 1) (s + 1)
     unfolding trackKept
     climbed-next {s} h g e = record {
       turns = omega arith;
@@ -44,84 +49,144 @@ module _ {d : List ℕ} {k f n floor i low : ℕ} (c : Climbed d k f n floor i l
     unfolding tracksKept
     climbed-fails h = and-off _ _ (sym (every-breaks n (trackKept d k f floor) i l (sym h)))
 
-    pub climbed-off : kept d k (3 + i) (f + i) ≡ false → false ≡ tracksKept d k f n floor
+    pub climbed-off : kept (rowAt d (3 + i)) k (f + i) ≡ false → false ≡ tracksKept d k f n floor
     unfolding trackKept
     climbed-off h = climbed-fails (and-off _ _ h)
 
-    pub climbed-out : holds d (3 + i) low ≡ false → false ≡ tracksKept d k f n floor
+    pub climbed-out : holds (rowAt d (3 + i)) low ≡ false → false ≡ tracksKept d k f n floor
     unfolding trackKept
     climbed-out h = climbed-fails (and-late _ _ (sym (rw (c .least) at h)))
 
   -- all are passed: what is left to test is the lead-out
-  pub climbed-end : n ≤ i → holds d 2 low ≡ tracksKept d k f n floor
+  pub climbed-end : n ≤ i → holds (rowAt d 2) low ≡ tracksKept d k f n floor
   unfolding tracksKept
   climbed-end l =
       let t = c .turns in
       let q : i ≡ n = omega arith in
       and-on _ _ (rw q at (c .passed)) (rw (c .least, q))
 
+-- ---- the B0h and the C0h
+
+-- where one that may stand at descriptor j ends, by descriptors
+extraEnd-rows :
+    (d : List ℕ) (k j p : ℕ)
+    → extraEnd d k (row * j) p ≡ (if extraPassed (rowAt d j) k p then row * (j + one (pointAt d j) p) else 0)
+unfolding extraEnd
+extraEnd-rows d k j p = elim (ℕ-discrete (pointAt d j) p) [
+  | yes e ↦ when _ _ _ (eq-eqb _ _ e) ∙ rw (extraPassed-kept (rowAt d j) k p e, one-is e, there)
+  | no e ↦ unless _ _ _ (ne-eqb _ _ e) ∙ rw (extraPassed-other (rowAt d j) k p e, one-not e, add-zero j) (sym (when _ _ _ refl))
+]
+  where
+    there : row * j + row ≡ row * (j + 1)
+    there = omega arith
+
+-- both end where the session does, if they are kept
+extrasEnd-rows :
+    (d : List ℕ) (k : ℕ) → extrasEnd d k (row * (3 + tracks d)) ≡ (if extrasKept d k then size d else 0)
+unfolding extrasEnd extrasKept size
+extrasEnd-rows d k = decided (extraPassed (rowAt d (3 + tracks d)) k B0) refl
+  where
+    first-end : extraEnd d k (row * (3 + tracks d)) B0 ≡ (if extraPassed (rowAt d (3 + tracks d)) k B0 then row * (3 + tracks d + b0s d) else 0)
+    first-end = extraEnd-rows d k (3 + tracks d) B0
+
+    decided :
+        (b : Bool) → extraPassed (rowAt d (3 + tracks d)) k B0 ≡ b → extrasEnd d k (row * (3 + tracks d)) ≡ (if extrasKept d k then size d else 0)
+    decided true e =
+        let q : extraEnd d k (row * (3 + tracks d)) B0 ≡ row * (3 + tracks d + b0s d) = first-end ∙ when _ _ _ e in
+        unless _ _ _ (ne-eqb _ _ (λ z. let y = sym q ∙ z in omega arith))
+        ∙ ap (λ (x : ℕ). extraEnd d k x C0) q
+        ∙ extraEnd-rows d k (3 + tracks d + b0s d) C0
+        ∙ ap (λ (x : Bool). if x then size d else 0) (and-on _ _ e refl)
+    decided false e =
+        when _ _ _ (eq-eqb _ _ (first-end ∙ unless _ _ _ e)) ∙ sym (unless _ _ _ (sym (and-off _ _ e)))
+
 -- ---- one session
 
--- d does not begin with a session that is sound
-pub sessionKept-not : (k : ℕ) (d : List ℕ) (floor : ℕ) → (Sound k d floor → ⊥) → false ≡ sessionKept k d floor
-sessionKept-not k d floor n =
-    same-test _ _ (λ e. absurd (let z : _≡_ {A = ℕ} 0 1 = cc in omega arith)) (λ e. absurd (n (sessionKept-sound e)))
+-- d does not begin with a session that is kept and begins with track `next`
+pub sessionEnd-not :
+    (k : ℕ) (d : List ℕ) (next floor : ℕ) → (sessionKept k d floor ≡ true → first d ≡ next → ⊥) → 0 ≡ sessionEnd k d next floor
+unfolding sessionEnd
+sessionEnd-not k d next floor n = decided (sessionKept k d floor and eqb (first d) next) refl
+  where
+    decided : (b : Bool) → (sessionKept k d floor and eqb (first d) next) ≡ b → 0 ≡ sessionEnd k d next floor
+    decided true e = absurd (n (and-head _ _ e) (eqb-true _ _ (and-tail _ _ e)))
+    decided false e = sym (unless _ _ _ e)
 
--- its heads are not kept
-pub sessionKept-off : (k : ℕ) (d : List ℕ) (floor : ℕ) → headsKept d k ≡ false → false ≡ sessionKept k d floor
-unfolding sessionKept
-sessionKept-off k d floor h = and-late _ _ (and-late _ _ (and-late _ _ (and-late _ _ (and-late _ _ (and-off _ _ h)))))
+-- all but the last test hold: what is left are the B0h and the C0h
+pub sessionEnd-on :
+    (k : ℕ) (d : List ℕ) (next floor : ℕ) → length d % row ≡ 0 → 1 ≤ first d → first d ≡ next → first d ≤ last d → last d ≤ 99
+    → row * (3 + tracks d) ≤ length d → headsKept d k ≡ true → tracksKept d k (first d) (tracks d) floor ≡ true
+    → extrasEnd d k (row * (3 + tracks d)) ≡ sessionEnd k d next floor
+unfolding sessionEnd sessionKept
+sessionEnd-on k d next floor w a n c e l h t =
+    extrasEnd-rows d k
+    ∙ ap (λ (x : Bool). if x then size d else 0)
+    (and-on _ _ (le-leb _ _ (size-whole d w l)) (and-on _ _ (le-leb _ _ a) (and-on _ _ (le-leb _ _ c) (and-on _ _ (le-leb _ _ e)
+    (and-on _ _ h (and-on _ _ t refl)))))
+    ∙ and-with (sessionKept k d floor) (eqb (first d) next) (eq-eqb _ _ n))
 
--- they are: its tracks decide
-pub sessionKept-on :
-    (k : ℕ) (d : List ℕ) (floor : ℕ) → 33 ≤ length d → 1 ≤ first d → first d ≤ last d → last d ≤ 99 → size d ≤ length d → headsKept d k ≡ true
-    → tracksKept d k (first d) (tracks d) floor ≡ sessionKept k d floor
-unfolding sessionKept
-sessionKept-on k d floor a b c e f h =
-    and-on _ _ (le-leb _ _ a) (and-on _ _ (le-leb _ _ b) (and-on _ _ (le-leb _ _ c) (and-on _ _ (le-leb _ _ e) (and-on _ _ (le-leb _ _ f)
-    (and-on _ _ h refl)))))
+-- what the end of a session tells that is not 0
+pub sessionEnd-told :
+    (k : ℕ) (d : List ℕ) (next floor : ℕ) {e : ℕ} → e ≡ sessionEnd k d next floor → (e ≡ 0 → ⊥)
+    → (sessionKept k d floor ≡ true) × (first d ≡ next) × (e ≡ size d)
+unfolding sessionEnd
+sessionEnd-told k d next floor {e} h n = decided (sessionKept k d floor and eqb (first d) next) refl
+  where
+    decided : (b : Bool) → (sessionKept k d floor and eqb (first d) next) ≡ b → (sessionKept k d floor ≡ true) × (first d ≡ next) × (e ≡ size d)
+    decided true q = (and-head _ _ q, eqb-true _ _ (and-tail _ _ q), h ∙ when _ _ _ q)
+    decided false q = absurd (n (h ∙ unless _ _ _ q))
+
+-- and one that is
+sessionEnd-none :
+    (k : ℕ) (d : List ℕ) (next floor : ℕ) → sessionEnd k d next floor ≡ 0 → (sessionKept k d floor and eqb (first d) next) ≡ false
+unfolding sessionEnd
+sessionEnd-none k d next floor h = decided (sessionKept k d floor and eqb (first d) next) refl
+  where
+    decided : (b : Bool) → (sessionKept k d floor and eqb (first d) next) ≡ b → (sessionKept k d floor and eqb (first d) next) ≡ false
+    decided true q = let z = sym (when _ _ _ q) ∙ h in let s = size-heads d in absurd (omega arith)
+    decided false q = q
 
 -- ---- the sessions
 
--- k of n sessions are passed: the last began at `back`, the next begins at `at`, after track prev, and may start at frame `floor` or later
-pub record Trod (n : ℕ) (d : List ℕ) (k at back prev floor : ℕ) : Type 0 where
+pub nextOf-next : (d : List ℕ) (k : ℕ) → nextOf d (k + 1) ≡ last (session d k) + 1
+unfolding nextOf
+nextOf-next d k = rw (add-one k)
+
+-- k of n sessions are passed: the last began at `back`, the next begins at `at`, with track `next`, and may start at frame `floor` or later
+pub record Trod (n : ℕ) (d : List ℕ) (k at back next floor : ℕ) : Type 0 where
   pub walked : Walked n d k at
   pub passed : every k (stepKept d) ≡ true
   pub behind : back ≡ starts d (k - 1)
-  pub track : prev ≡ before d k
+  pub track : next ≡ nextOf d k
   pub least : floor ≡ floorOf d k
 
-pub trod-none : (n : ℕ) (d : List ℕ) → Trod n d 0 0 0 0 150
-unfolding before floorOf starts
-trod-none n d = record { walked = walked-none n d; passed = every-none _; behind = refl; track = refl; least = refl }
+pub trod-none : (n : ℕ) (d : List ℕ) {next : ℕ} → next ≡ first d → Trod n d 0 0 0 next 150
+unfolding nextOf floorOf starts
+trod-none n d e = record { walked = walked-none n d; passed = every-none _; behind = refl; track = e; least = refl }
 
-module _ {n : ℕ} {d : List ℕ} {k at back prev floor : ℕ} (r : Trod n d k at back prev floor) where
+module _ {n : ℕ} {d : List ℕ} {k at back next floor : ℕ} (r : Trod n d k at back next floor) where
   module _ (i : k < n) where
     pub trod-next :
-        {b l o : ℕ} → sessionKept (k + 1) (drop at d) floor ≡ true → follows k (first (drop at d)) prev ≡ true
-        → b ≡ size (drop at d) → l ≡ last (drop at d) → o ≡ framesAt (drop at d) 2 → Trod n d (k + 1) (at + b) at l (o + 1)
+        {e l o : ℕ} → e ≡ sessionEnd (k + 1) (drop at d) next floor → (e ≡ 0 → ⊥) → l ≡ last (drop at d) → o ≡ framesAt (drop at d) 2
+        → Trod n d (k + 1) (at + e) at (l + 1) (o + 1)
     unfolding stepKept
-    trod-next {b} {l} {o} h g e q u =
+    trod-next {e} {l} {o} h z q u =
         let p = r .walked .place in
-        let z : k + 1 - 1 ≡ k = omega arith in
+        let t = sessionEnd-told (k + 1) (drop at d) next floor h z in
+        let y : k + 1 - 1 ≡ k = omega arith in
         record {
-          behind = p ∙ sym (ap (starts d) z);
-          walked = walked-next (r .walked) i (sessionKept-sound h .is) e;
-          passed = every-more k (stepKept d) (r .passed) (and-both _ _ (rw (p, r .least) at h) (rw (p, r .track) at g));
-          track = q ∙ ap (λ (x : ℕ). last (drop x d)) p ∙ sym (before-next d k);
+          behind = p ∙ sym (ap (starts d) y);
+          walked = walked-next (r .walked) i (sessionKept-sound _ _ _ (t .0) .is) (t .2);
+          passed = every-more k (stepKept d) (r .passed) (and-both _ _ (rw (p, r .least) at (t .0)) (eq-eqb _ _ (rw (p, r .track) at (t .1))));
+          track = ap (λ (x : ℕ). x + 1) (q ∙ ap (λ (x : ℕ). last (drop x d)) p) ∙ sym (nextOf-next d k);
           least = ap (λ (x : ℕ). x + 1) (u ∙ ap (λ (x : ℕ). framesAt (drop x d) 2) p) ∙ sym (floorOf-next d k);
         }
 
-    -- the first session that fails, or does not follow, decides
-    pub trod-breaks : sessionKept (k + 1) (drop at d) floor ≡ false → false ≡ walkKept n d
+    -- the first session that has no end decides
+    pub trod-breaks : sessionEnd (k + 1) (drop at d) next floor ≡ 0 → false ≡ walkKept n d
     unfolding walkKept stepKept
     trod-breaks h =
-        and-off _ _ (sym (every-breaks n (stepKept d) k i (sym (and-off _ _ (rw (r .walked .place, r .least) at h)))))
-
-    pub trod-off : follows k (first (drop at d)) prev ≡ false → false ≡ walkKept n d
-    unfolding walkKept stepKept
-    trod-off h =
-        and-off _ _ (sym (every-breaks n (stepKept d) k i (sym (and-late _ _ (sym (rw (r .walked .place, r .track) at h))))))
+        and-off _ _ (sym (every-breaks n (stepKept d) k i (rw (r .walked .place, r .least, r .track) at (sessionEnd-none (k + 1) (drop at d) next floor h))))
 
   pub trod-end : n ≤ k → eqb at (length d) ≡ walkKept n d
   unfolding walkKept

@@ -1,12 +1,11 @@
 // What commands need of a fit table, read off it once.
-use crate::layout::FLAGS;
-use crate::layout::HEADER;
-use crate::layout::PMIN;
-use crate::layout::POINT;
-use crate::layout::ROW;
-use crate::layout::address_at;
+use crate::row::row_at;
 use crate::rules::fault;
 use crate::walk::judge;
+use table::layout::HEADER;
+use table::layout::PMIN;
+use table::layout::ROW;
+use table::row::start_of;
 ghost use mathlib.Core.Path.{_≡_};
 ghost use mathlib.Core.Bool.{true};
 ghost use Rattle.disc.specs.Rules.{isFit};
@@ -48,14 +47,16 @@ fn disc_of(t: &[u8], at: usize) -> Disc
     let sessions = t[3];
     let d = &t[HEADER..];
     let s = &d[at..];
+    let lead = row_at(s, 2);
+    let track = row_at(s, 3);
     Disc {
         first: d[PMIN],
         last: s[ROW + PMIN],
         sessions,
-        lead_out: address_at(s, 2),
-        lead_flags: s[2 * ROW + FLAGS],
-        last_first: s[3 * ROW + POINT],
-        last_first_flags: s[3 * ROW + FLAGS],
-        last_first_start: address_at(s, 3),
+        lead_out: start_of(lead),
+        lead_flags: lead.flags,
+        last_first: track.point,
+        last_first_flags: track.flags,
+        last_first_start: start_of(track),
     }
 }

@@ -1,7 +1,6 @@
-// The lent disc table: fitness, sessions and their parts, and what commands need of it.
+// A lent disc table: fitness, its sessions' parts, and what commands need of it.
 pub mod disc;
-pub mod layout;
 pub mod part;
+mod row;
 pub mod rules;
-pub mod session;
-pub mod walk;
+mod walk;

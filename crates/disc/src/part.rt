@@ -1,9 +1,9 @@
 // A session's part of the lent table itself, and the refusal's number asked apart.
-use crate::layout::HEADER;
-use crate::session::session_bytes;
-use crate::session::starts_at;
 use crate::walk::is_fit;
 use ground::number::wide;
+use sessions::session::session_bytes;
+use sessions::session::starts_after;
+use table::layout::HEADER;
 ghost use mathlib.Core.Path.{_≡_};
 ghost use Rattle.disc.specs.Part.{PartOf, partRefusal, partStart, partSize};
 
@@ -35,7 +35,7 @@ pub fn session_part(t: &[u8], k: u8) -> &[u8]
 {
     if session_refusal(t, k) == 0 {
         let d = &t[HEADER..];
-        let from = starts_at(d, wide(k) - 1);
+        let from = starts_after(d, k - 1);
         let bytes = session_bytes(&d[from..]);
         let at = HEADER + from;
         return &t[at..at + bytes];

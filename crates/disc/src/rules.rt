@@ -1,32 +1,23 @@
 // Rules 1 to 7, each over the whole table, and the first that is broken.
-use crate::layout::A0;
-use crate::layout::A1;
-use crate::layout::A2;
-use crate::layout::BOUND;
-use crate::layout::FLAGS;
-use crate::layout::HEADER;
-use crate::layout::PFRAME;
-use crate::layout::PMIN;
-use crate::layout::POINT;
-use crate::layout::PSEC;
-use crate::layout::ROW;
-use crate::layout::TNO;
-use crate::layout::ZERO;
-use crate::layout::address_at;
-use crate::layout::is_track;
-use crate::session::in_order;
-use crate::session::session_bytes;
-use address::is_msf;
+use crate::row::row_at;
 use ground::number::wide;
 use ground::number::word16;
+use sessions::session::in_order;
+use sessions::session::session_bytes;
+use table::layout::BOUND;
+use table::layout::HEADER;
+use table::layout::PMIN;
+use table::layout::ROW;
+use table::row::row_test;
+use table::row::start_of;
 ghost use mathlib.Core.Path.{_≡_};
 ghost use mathlib.Core.Bool.{true};
-ghost use Prim.Native.Nat.{_+_, _-_, _*_, _≤_, _<_};
+ghost use Prim.Native.Nat.{_+_, _*_, _≤_};
 ghost use lib.ListN.{length};
-ghost use Rattle.ground.specs.Tests.{every};
-ghost use Rattle.disc.specs.Layout.{row, rows};
-ghost use Rattle.disc.specs.Session.{inOrder};
-ghost use Rattle.disc.specs.Rules.{rule1, rule2, plain, headA0, headed, addressed, rowTest, rises, beginsAfter, rule7, firstBroken, lateRules, rowRules, fault};
+ghost use Rattle.ground.specs.Tests.{_and_};
+ghost use Rattle.table.specs.Layout.{row};
+ghost use Rattle.sessions.specs.Session.{first, last, tracks, inOrder};
+ghost use Rattle.disc.specs.Rules.{rule1, rule2, eachRow, trackStart, rises, beginsAfter, rule7, firstBroken, lateRules, rowRules, fault};
 
 // Rule 1: the length, and the data length that says it.
 pub(crate) fn rule1(t: &[u8]) -> bool
@@ -60,96 +51,14 @@ pub(crate) fn rule2(t: &[u8]) -> bool
     false
 }
 
-// Rule 3 of descriptor j: ADR 1, TNO 0 and ZERO 0.
-pub(crate) fn plain(d: &[u8], j: usize) -> bool
-    requires { ⌜ row * j + row ≤ length (now d) ⌝ }
-    ensures { λ r. ⌜ r ≡ plain (now (d .entry)) j ⌝ }
-{
-    let at = ROW * j;
-    if wide(d[at + FLAGS]) / 16 == 1 {
-        if wide(d[at + TNO]) == 0 {
-            return wide(d[at + ZERO]) == 0;
-        }
-        return false;
-    }
-    false
-}
-
-// Rule 5 of descriptor j: what A0 and A1 hold beside their track.
-fn headed(d: &[u8], j: usize) -> bool
-    requires { ⌜ row * j + row ≤ length (now d) ⌝ }
-    ensures { λ r. ⌜ r ≡ headed (now (d .entry)) j ⌝ }
-{
-    let at = ROW * j;
-    let p = wide(d[at + POINT]);
-    let s = wide(d[at + PSEC]);
-    let f = wide(d[at + PFRAME]);
-    if p == wide(A0) {
-        return head_a0(s, f);
-    }
-    if p == wide(A1) {
-        if s == 0 {
-            return f == 0;
-        }
-        return false;
-    }
-    true
-}
-
-// A0's PSEC is 00h, 10h or 20h and its PFRAME 0.
-pub(crate) fn head_a0(s: usize, f: usize) -> bool
-    ensures { λ r. ⌜ r ≡ headA0 s f ⌝ }
-{
-    if f == 0 {
-        if s == 0x00 {
-            return true;
-        }
-        if s == 0x10 {
-            return true;
-        }
-        return s == 0x20;
-    }
-    false
-}
-
-// Rule 6 of descriptor j: a lead-out or a track holds an address.
-fn addressed(d: &[u8], j: usize) -> bool
-    requires { ⌜ row * j + row ≤ length (now d) ⌝ }
-    ensures { λ r. ⌜ r ≡ addressed (now (d .entry)) j ⌝ }
-{
-    let at = ROW * j;
-    let p = wide(d[at + POINT]);
-    if p == wide(A2) {
-        return is_msf(d[at + PMIN], d[at + PSEC], d[at + PFRAME]);
-    }
-    if is_track(p) {
-        return is_msf(d[at + PMIN], d[at + PSEC], d[at + PFRAME]);
-    }
-    true
-}
-
-// The test that rule n, one of 3, 5 and 6, makes of descriptor j.
-fn row_test(n: usize, d: &[u8], j: usize) -> bool
-    requires { ⌜ row * j + row ≤ length (now d) ⌝ }
-    ensures { λ r. ⌜ r ≡ rowTest n (now (d .entry)) j ⌝ }
-{
-    if n == 3 {
-        return plain(d, j);
-    }
-    if n == 5 {
-        return headed(d, j);
-    }
-    addressed(d, j)
-}
-
 // Every descriptor passes the test of rule n.
-pub(crate) fn every_row(n: usize, d: &[u8]) -> bool
-    ensures { λ r. ⌜ r ≡ every (rows (now (d .entry))) (rowTest n (now (d .entry))) ⌝ }
+fn every_row(n: usize, d: &[u8]) -> bool
+    ensures { λ r. ⌜ r ≡ eachRow n (now (d .entry)) ⌝ }
 {
     let end = d.len() / ROW;
     let mut j = 0;
     while j < end {
-        if row_test(n, d, j) {
+        if row_test(n, row_at(d, j)) {
             j += 1;
         } else {
             return false;
@@ -165,36 +74,46 @@ fn rises(s: &[u8], n: usize) -> bool
 {
     let last = n - 1;
     let mut i = 0;
+    let mut start = start_of(row_at(s, 3));
     while i < last {
-        let next = i + 1;
-        if address_at(s, 3 + i) < address_at(s, 3 + next) {
-            i = next;
+        let j = i + 1;
+        let next = start_of(row_at(s, 3 + j));
+        if start < next {
+            start = next;
+            i = j;
         } else {
             return false;
         }
     }
-    address_at(s, 3 + last) < address_at(s, 2)
+    start < start_of(row_at(s, 2))
 }
 
-// Rule 7: in each session the starts rise up to the lead-out, and begin after the lead-out before.
-pub(crate) fn rule7(n: usize, d: &[u8]) -> bool
+// The starts of the session that s begins with rise up to its lead-out, and begin after the lead-out before.
+fn session_rises(s: &[u8], k: usize, out: usize) -> bool
+    requires { ⌜ (first (now s) ≤ last (now s)) × (row * (3 + tracks (now s)) ≤ length (now s)) ⌝ }
+    ensures { λ r. ⌜ r ≡ rises (now (s .entry)) (tracks (now (s .entry))) and beginsAfter k out (trackStart (now (s .entry)) 0) ⌝ }
+{
+    let n = wide(s[ROW + PMIN]) + 1 - wide(s[PMIN]);
+    if rises(s, n) {
+        return begins_after(k, out, start_of(row_at(s, 3)));
+    }
+    false
+}
+
+// Rule 7, session by session.
+fn rule7(n: u8, d: &[u8]) -> bool
     requires { ⌜ inOrder n (now d) ≡ true ⌝ }
     ensures { λ r. ⌜ r ≡ rule7 n (now (d .entry)) ⌝ }
 {
-    let mut k = 0;
+    let mut k: u8 = 0;
     let mut at = 0;
     let mut out = 0;
     while k < n {
         let s = &d[at..];
-        let bytes = session_bytes(s);
-        if rises(s, bytes / ROW - 3) {
-            if begins_after(k, out, address_at(s, 3)) {
-                out = address_at(s, 2);
-                at += bytes;
-                k += 1;
-            } else {
-                return false;
-            }
+        if session_rises(s, wide(k), out) {
+            out = start_of(row_at(s, 2));
+            at += session_bytes(s);
+            k += 1;
         } else {
             return false;
         }
@@ -218,7 +137,7 @@ pub fn fault(t: &[u8]) -> u8
 {
     if rule1(t) {
         if rule2(t) {
-            let s = wide(t[3]);
+            let s = t[3];
             return fault_of_rows(&t[HEADER..], s);
         }
         return 2;
@@ -227,8 +146,7 @@ pub fn fault(t: &[u8]) -> u8
 }
 
 // The first broken rule of 3 to 7.
-fn fault_of_rows(d: &[u8], s: usize) -> u8
-    requires { ⌜ s < 256 ⌝ }
+fn fault_of_rows(d: &[u8], s: u8) -> u8
     ensures { λ r. ⌜ r ≡ firstBroken 3 (rowRules s (now (d .entry))) ⌝ }
 {
     if every_row(3, d) {
@@ -241,7 +159,7 @@ fn fault_of_rows(d: &[u8], s: usize) -> u8
 }
 
 // The first broken rule of 5 to 7, of a table whose sessions stand in order.
-fn fault_in_order(d: &[u8], s: usize) -> u8
+fn fault_in_order(d: &[u8], s: u8) -> u8
     requires { ⌜ inOrder s (now d) ≡ true ⌝ }
     ensures { λ r. ⌜ r ≡ firstBroken 5 (lateRules s (now (d .entry))) ⌝ }
 {

@@ -1,30 +1,31 @@
-// One walk over the descriptors that decides fitness: each is tested for all that rules 3 to 7 ask of it as it is passed.
-use crate::layout::A0;
-use crate::layout::A1;
-use crate::layout::A2;
-use crate::layout::HEADER;
-use crate::layout::PFRAME;
-use crate::layout::PMIN;
-use crate::layout::POINT;
-use crate::layout::PSEC;
-use crate::layout::ROW;
-use crate::layout::frames_at;
-use crate::rules::head_a0;
-use crate::rules::plain;
+// One walk over the descriptors that decides fitness: each is read once and tested for all that rules 3 to 7 ask of it as it is passed.
+use crate::row::row_at;
+use crate::row::row_from;
 use crate::rules::rule1;
 use crate::rules::rule2;
-use crate::session::follows;
-use crate::session::session_bytes;
 use ground::number::wide;
+use table::asked::a0_kept;
+use table::asked::a1_kept;
+use table::asked::extra_kept;
+use table::asked::holds;
+use table::asked::kept;
+use table::layout::A2;
+use table::layout::B0;
+use table::layout::C0;
+use table::layout::HEADER;
+use table::layout::PMIN;
+use table::layout::ROW;
+use table::layout::byte_at;
+use table::row::frames_of;
 ghost use mathlib.Core.Path.{_≡_};
 ghost use mathlib.Core.Bool.{false};
-ghost use Prim.Native.Nat.{_+_, _-_, _*_, _≤_, _<_};
+ghost use Prim.Native.Nat.{_+_, _-_, _*_, _%_, _≤_};
 ghost use lib.ListN.{length};
-ghost use Rattle.disc.specs.Layout.{row};
-ghost use Rattle.disc.specs.Session.{starts};
+ghost use Rattle.table.specs.Layout.{row};
+ghost use Rattle.sessions.specs.Session.{starts};
 ghost use Rattle.disc.specs.Rules.{isFit};
 ghost use Rattle.disc.specs.Disc.{lastAt};
-ghost use Rattle.disc.specs.Walk.{kept, holds, headsHold, headsKept, tracksKept, sessionKept, walkKept, verdict};
+ghost use Rattle.disc.specs.Walk.{headsKept, tracksKept, extraEnd, extrasEnd, sessionEnd, walkKept, verdict};
 
 // 00:02:00, before which no track starts.
 const FLOOR: usize = 150;
@@ -44,64 +45,14 @@ fn unfit() -> Verdict
     }
 }
 
-// Descriptor j is of session k, has POINT p, and keeps rule 3.
-fn kept(d: &[u8], k: u8, j: usize, p: u8) -> bool
-    requires { ⌜ row * j + row ≤ length (now d) ⌝ }
-    ensures { λ r. ⌜ r ≡ kept (now (d .entry)) k j p ⌝ }
-{
-    let at = ROW * j;
-    if d[at] == k {
-        if d[at + POINT] == p {
-            return plain(d, j);
-        }
-        return false;
-    }
-    false
-}
-
-// Descriptor j holds an address of rule 6 that is `low` or later.
-fn holds(d: &[u8], j: usize, low: usize) -> bool
-    requires { ⌜ row * j + row ≤ length (now d) ⌝ }
-    ensures { λ r. ⌜ r ≡ holds (now (d .entry)) j low ⌝ }
-{
-    let at = ROW * j;
-    if 99 < d[at + PMIN] {
-        return false;
-    }
-    if 59 < d[at + PSEC] {
-        return false;
-    }
-    if 74 < d[at + PFRAME] {
-        return false;
-    }
-    low <= frames_at(d, j)
-}
-
-// Rule 5 of A0 and A1.
-fn heads_hold(d: &[u8]) -> bool
-    requires { ⌜ 3 * row ≤ length (now d) ⌝ }
-    ensures { λ r. ⌜ r ≡ headsHold (now (d .entry)) ⌝ }
-{
-    if head_a0(wide(d[PSEC]), wide(d[PFRAME])) {
-        if d[ROW + PSEC] == 0 {
-            return d[ROW + PFRAME] == 0;
-        }
-        return false;
-    }
-    false
-}
-
 // All that is asked of A0, A1 and A2 of session k.
 fn heads_kept(d: &[u8], k: u8) -> bool
     requires { ⌜ 3 * row ≤ length (now d) ⌝ }
     ensures { λ r. ⌜ r ≡ headsKept (now (d .entry)) k ⌝ }
 {
-    if kept(d, k, 0, A0) {
-        if kept(d, k, 1, A1) {
-            if kept(d, k, 2, A2) {
-                return heads_hold(d);
-            }
-            return false;
+    if a0_kept(row_at(d, 0), k) {
+        if a1_kept(row_at(d, 1), k) {
+            return kept(row_at(d, 2), k, A2);
         }
         return false;
     }
@@ -117,9 +68,10 @@ fn tracks_kept(d: &[u8], k: u8, f: u8, n: usize, floor: usize) -> bool
     let mut p = f;
     let mut low = floor;
     while i < n {
-        if kept(d, k, 3 + i, p) {
-            if holds(d, 3 + i, low) {
-                low = frames_at(d, 3 + i) + 1;
+        let r = row_at(d, 3 + i);
+        if kept(r, k, p) {
+            if holds(r, low) {
+                low = frames_of(r) + 1;
                 p += 1;
                 i += 1;
             } else {
@@ -129,61 +81,97 @@ fn tracks_kept(d: &[u8], k: u8, f: u8, n: usize, floor: usize) -> bool
             return false;
         }
     }
-    holds(d, 2, low)
+    holds(row_at(d, 2), low)
 }
 
-// d begins with session k, and its descriptors keep rules 3 to 7.
-fn session_kept(d: &[u8], k: u8, floor: usize) -> bool
-    ensures { λ r. ⌜ r ≡ sessionKept k (now (d .entry)) floor ⌝ }
+// Where a descriptor of session k with POINT p ends that may stand at byte `at`; 0 where it is not kept.
+fn extra_end(d: &[u8], k: u8, at: usize, p: u8) -> usize
+    requires { ⌜ (length (now d) % row ≡ 0) × (at % row ≡ 0) × (at ≤ length (now d)) × (1 ≤ p) ⌝ }
+    ensures same { λ r. ⌜ r ≡ extraEnd (now (d .entry)) k at p ⌝ }
+    ensures within { λ r. ⌜ (r % row ≡ 0) × (r ≤ length (now (d .entry))) ⌝ }
+{
+    if at < d.len() {
+        let r = row_from(d, at);
+        if r.point == p {
+            if extra_kept(r, k) {
+                return at + ROW;
+            }
+            return 0;
+        }
+        return at;
+    }
+    at
+}
+
+// Where a B0h and then a C0h of session k end that may stand at byte `at`; 0 where one is not kept.
+fn extras_end(d: &[u8], k: u8, at: usize) -> usize
+    requires { ⌜ (length (now d) % row ≡ 0) × (at % row ≡ 0) × (at ≤ length (now d)) ⌝ }
+    ensures { λ r. ⌜ r ≡ extrasEnd (now (d .entry)) k at ⌝ }
+{
+    let b = extra_end(d, k, at, B0);
+    if b == 0 {
+        return 0;
+    }
+    extra_end(d, k, b, C0)
+}
+
+// Where the session k ends that d begins with: 0 where it is not kept, or does not begin with track `next`.
+fn session_end(d: &[u8], k: u8, next: usize, floor: usize) -> usize
+    requires { ⌜ length (now d) % row ≡ 0 ⌝ }
+    ensures { λ r. ⌜ r ≡ sessionEnd k (now (d .entry)) next floor ⌝ }
 {
     if d.len() < 3 * ROW {
-        return false;
+        return 0;
     }
     let f = d[PMIN];
     let l = d[ROW + PMIN];
     if f < 1 {
-        return false;
+        return 0;
+    }
+    if wide(f) != next {
+        return 0;
     }
     if l < f {
-        return false;
+        return 0;
     }
     if 99 < l {
-        return false;
+        return 0;
     }
     let n = wide(l) + 1 - wide(f);
-    if d.len() < ROW * (3 + n) {
-        return false;
+    let end = ROW * (3 + n);
+    if d.len() < end {
+        return 0;
     }
     if heads_kept(d, k) {
-        return tracks_kept(d, k, f, n, floor);
+        if tracks_kept(d, k, f, n, floor) {
+            return extras_end(d, k, end);
+        }
+        return 0;
     }
-    false
+    0
 }
 
 // The descriptors are those of the sessions 1 to n, kept in their places, and nothing more.
 fn walk(d: &[u8], n: u8) -> Verdict
+    requires { ⌜ length (now d) % row ≡ 0 ⌝ }
     ensures { λ r. ⌜ r ≡ verdict (walkKept n (now (d .entry))) (starts (now (d .entry)) (n - 1)) ⌝ }
 {
     let mut k: u8 = 0;
     let mut at = 0;
     let mut back = 0;
-    let mut prev: u8 = 0;
+    let mut next = byte_at(d, PMIN);
     let mut floor = FLOOR;
     while k < n {
         let s = &d[at..];
-        if session_kept(s, k + 1, floor) {
-            if follows(wide(k), s[PMIN], prev) {
-                prev = s[ROW + PMIN];
-                floor = frames_at(s, 2) + 1;
-                back = at;
-                at += session_bytes(s);
-                k += 1;
-            } else {
-                return unfit();
-            }
-        } else {
+        let end = session_end(s, k + 1, next, floor);
+        if end == 0 {
             return unfit();
         }
+        next = wide(s[ROW + PMIN]) + 1;
+        floor = frames_of(row_at(s, 2)) + 1;
+        back = at;
+        at += end;
+        k += 1;
     }
     if at == d.len() {
         return Verdict {

@@ -62,6 +62,12 @@ pub and-both : (a b : Bool) → a ≡ true → b ≡ true → a and b ≡ true
 unfolding _and_
 and-both a b h k = rw h k
 
+-- a test that holds adds nothing
+pub and-with : (a b : Bool) → b ≡ true → a ≡ a and b
+unfolding _and_
+and-with true b h = sym h
+and-with false b h = refl
+
 pub and-assoc : (a b c : Bool) → (a and b) and c ≡ a and (b and c)
 unfolding _and_
 and-assoc true b c = refl

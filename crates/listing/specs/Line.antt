@@ -8,6 +8,7 @@ use Rattle.ground.specs.Tests.{if_then_else_, either}
 use Rattle.print.specs.Joined.{_next_, spaced}
 use Rattle.print.specs.Hex.{hexByte, shown, shown-length}
 use Rattle.print.specs.Decimal.{decimal, decimal-length}
+use Rattle.table.specs.Layout.{bound}
 use Rattle.drive.specs.declared.sense.Sense.{Sense}
 use Rattle.outcome.specs.declared.Outcome.{Outcome}
 
@@ -78,11 +79,11 @@ refused-length : (n number : ℕ) → length (refused n number) ≤ 50
 unfolding refused refusal
 refused-length n number = let a = decimal-length n in let b = decimal-length number in simp length-append (omega arith)
 
-pub line-fits : (n : ℕ) (o : Outcome) (bytes : List ℕ) → length bytes ≤ 4360 → length (lineOf n o bytes) ≤ 9000
+pub line-fits : (n : ℕ) (o : Outcome) (bytes : List ℕ) → length bytes ≤ bound → length (lineOf n o bytes) ≤ 14000
 unfolding lineOf
 line-fits n o bytes h =
     either
-    (λ (x : List ℕ). length x ≤ 9000)
+    (λ (x : List ℕ). length x ≤ 14000)
     (eqb (o .number) 0)
     (λ _. let k = answered-length n o bytes in omega arith)
     (λ _. let k = refused-length n (o .number) in omega arith)

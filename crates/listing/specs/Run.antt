@@ -6,7 +6,7 @@ use lib.ListN.{take, drop}
 use Rattle.drive.specs.declared.state.Drive.{Drive}
 use Rattle.drive.specs.Sense.{noSense}
 use Rattle.drive.specs.State.{powerOn}
-use Rattle.disc.specs.Layout.{bound}
+use Rattle.table.specs.Layout.{bound}
 use Rattle.outcome.specs.Outcome.{stateOf}
 use Rattle.target.specs.Packet.{answer}
 

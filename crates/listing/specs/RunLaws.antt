@@ -5,7 +5,7 @@ use mathlib.Core.List.{List}
 use lib.ListN.{length, take, drop}
 use native.Mathlib.Numerals.{add-one}
 use Rattle.drive.specs.declared.state.Drive.{Drive}
-use Rattle.disc.specs.Layout.{bound}
+use Rattle.table.specs.Layout.{bound}
 use Rattle.outcome.specs.declared.Outcome.{Outcome}
 use Rattle.outcome.specs.Outcome.{stateOf, Answered}
 use Rattle.target.specs.Packet.{answer}

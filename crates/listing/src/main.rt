@@ -2,7 +2,6 @@
 mod file;
 mod line;
 
-use disc::layout::BOUND;
 use drive::sense::NO_SENSE;
 use drive::sense::sense_at;
 use drive::state::Drive;
@@ -13,12 +12,13 @@ use libc::STDERR_FILENO;
 use libc::STDOUT_FILENO;
 use line::put_line;
 use print::front::front;
+use table::layout::BOUND;
 use target::packet::packet;
 ghost use mathlib.Core.Path.{_≡_};
 ghost use mathlib.Core.Bool.{true};
 ghost use Prim.Native.Nat.{_*_, _≤_};
 ghost use lib.ListN.{length};
-ghost use Rattle.disc.specs.Layout.{bound};
+ghost use Rattle.table.specs.Layout.{bound};
 ghost use Rattle.listing.specs.Run.{loaded, stateAfter};
 
 // The bytes of a packet.
@@ -113,7 +113,7 @@ fn main() {
         return;
     }
     let mut mem = [0u8; BOUND];
-    let mut line = [0u8; 9000];
+    let mut line = [0u8; 14000];
     list(
         front(&table, t.count),
         front(&packets, p.count),

@@ -3,7 +3,7 @@ use mathlib.Core.Path.{_≡_}
 use mathlib.Core.List.{List}
 use Prim.Native.Nat.{ℕ, _≤_}
 use lib.ListN.{length}
-use Rattle.disc.specs.Layout.{bound, header, descriptors}
+use Rattle.table.specs.Layout.{bound, header, descriptors}
 use Rattle.disc.specs.Rules.{leadOut}
 use Rattle.disc.specs.RulesLaws.{Fit, isFit-true, fit-sized}
 use Rattle.disc.specs.FitLaws.{fit-lead-out}

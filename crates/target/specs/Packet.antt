@@ -10,7 +10,7 @@ use Rattle.drive.specs.declared.state.Mechanics.{Mechanics}
 use Rattle.drive.specs.declared.state.Drive.{Drive}
 use Rattle.drive.specs.Sense.{isKnown}
 use Rattle.drive.specs.State.{isLoaded, unknownSense}
-use Rattle.disc.specs.Layout.{bound}
+use Rattle.table.specs.Layout.{bound}
 use Rattle.disc.specs.Rules.{isFit}
 use Rattle.disc.specs.Part.{unfit}
 use Rattle.gate.specs.Gate.{Reply, refuse, gate, pass, requestSense}

@@ -10,7 +10,7 @@ use Rattle.ground.specs.Number.{bytes32}
 use Rattle.ground.specs.Memory.{fill}
 use Rattle.drive.specs.declared.state.Mechanics.{Mechanics}
 use Rattle.drive.specs.State.{isLoaded}
-use Rattle.disc.specs.Layout.{descriptors}
+use Rattle.table.specs.Layout.{descriptors}
 use Rattle.disc.specs.Rules.{leadOut}
 use Rattle.tracks.specs.Track.{allInData}
 use Rattle.disc.specs.Disc.{lastPart}

@@ -9,7 +9,7 @@ use lib.Seq.{take-nil}
 use borrow.Author.Tests.{lt-ltb, le-ltb}
 use Rattle.ground.specs.Tests.{when, unless, either, and-both, and-off, and-late, or-left, or-right, or-else}
 use Rattle.disc.specs.declared.disc.Disc.{Disc}
-use Rattle.disc.specs.Layout.{bound, header, descriptors}
+use Rattle.table.specs.Layout.{bound, header, descriptors}
 use Rattle.disc.specs.Disc.{discOf}
 use Rattle.tracks.specs.Track.{allInData}
 use Rattle.ground.specs.Memory.{Laid, fill, fill-none}

@@ -5,7 +5,7 @@ use mathlib.Core.List.{List}
 use Rattle.ground.specs.Tests.{if_then_else_}
 use Rattle.ground.specs.Number.{word16}
 use Rattle.drive.specs.declared.state.Mechanics.{Mechanics}
-use Rattle.disc.specs.Layout.{descriptors}
+use Rattle.table.specs.Layout.{descriptors}
 use Rattle.disc.specs.Disc.{discOf}
 use Rattle.gate.specs.declared.fault.Fault.the-variants.{BadField}
 use Rattle.gate.specs.Gate.{Result, fails, goes}

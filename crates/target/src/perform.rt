@@ -20,7 +20,7 @@ use tracks::run::run_is_data;
 ghost use mathlib.Core.Path.{_≡_};
 ghost use Prim.Native.Nat.{_+_, _≤_, _<_};
 ghost use lib.ListN.{length};
-ghost use Rattle.disc.specs.Layout.{bound};
+ghost use Rattle.table.specs.Layout.{bound};
 ghost use Rattle.command.specs.Command.{wordAt, addressIn, count10, count12};
 ghost use Rattle.command.specs.Done.{doneOf};
 ghost use Rattle.target.specs.FitFacts.{ReadOff};

@@ -7,8 +7,8 @@ use lib.Dec.{ltb, eqb}
 use Rattle.ground.specs.Tests.{_and_, if_then_else_}
 use Rattle.ground.specs.Number.{bytes16}
 use Rattle.disc.specs.declared.disc.Disc.{Disc}
-use Rattle.disc.specs.Layout.{row, rows}
-use Rattle.disc.specs.Session.{session}
+use Rattle.table.specs.Layout.{row, rows}
+use Rattle.sessions.specs.Session.{session}
 use Rattle.toc.specs.Shown.{described, shownTracks}
 
 -- "the lead-out as AAh"

@@ -12,9 +12,9 @@ use lib.Seq.{take-length}
 use borrow.Author.Tests.{eq-eqb, ne-eqb}
 use Rattle.ground.specs.Tests.{when, unless, either}
 use Rattle.disc.specs.declared.disc.Disc.{Disc}
-use Rattle.disc.specs.Layout.{bound, header, row, rows, descriptors, lastSession}
-use Rattle.disc.specs.Session.{starts, session}
-use Rattle.disc.specs.SessionLaws.{starts-rows}
+use Rattle.table.specs.Layout.{bound, header, row, rows, descriptors, lastSession}
+use Rattle.sessions.specs.Session.{starts, session}
+use Rattle.sessions.specs.SessionLaws.{starts-rows}
 use Rattle.disc.specs.RulesLaws.{Fit, fit-rows}
 use Rattle.toc.specs.declared.shown.Show.the-variants.{Tracks, Whole}
 use Rattle.toc.specs.Shown.{described, shownTracks}

@@ -6,7 +6,8 @@ use lib.Dec.{leb}
 use Rattle.ground.specs.Tests.{_and_, if_then_else_}
 use Rattle.ground.specs.Number.{bytes32}
 use Rattle.address.specs.Address.{toMsf}
-use Rattle.disc.specs.Layout.{flagsAt, pointAt, addressAt, isTrack}
+use Rattle.table.specs.Layout.{flagsAt, pointAt, isTrack}
+use Rattle.table.specs.Row.{addressAt}
 
 -- "address (4 bytes, or 0 M S F)"
 unfoldable pub shownAddress : Bool → ℕ → List ℕ

@@ -8,7 +8,8 @@ use native.Mathlib.Numerals.{add-one}
 use lib.ListN.{length, take, drop, getD, length-append}
 use lib.Seq.{take-add}
 use Rattle.ground.specs.Tests.{if_then_else_, when, unless, either}
-use Rattle.disc.specs.Layout.{row, flagsAt, pointAt, addressAt}
+use Rattle.table.specs.Layout.{row, flagsAt, pointAt}
+use Rattle.table.specs.Row.{addressAt}
 use Rattle.toc.specs.declared.shown.Show.{Show}
 use Rattle.toc.specs.declared.shown.Show.the-variants.{Tracks, Whole}
 use Rattle.toc.specs.Shown.{shownAddress, described, describedRow, isShown, shownTrack, shownTracks}

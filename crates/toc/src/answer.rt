@@ -4,15 +4,15 @@ use crate::shown::put_all;
 use crate::shown::put_described;
 use crate::shown::shown_count;
 use disc::disc::Disc;
-use disc::layout::ROW;
-use disc::session::starts_after;
 use ground::memory::copy_front;
 use ground::number::bytes16;
+use sessions::session::starts_after;
+use table::layout::ROW;
 ghost use mathlib.Core.Path.{_≡_};
 ghost use Prim.Native.Nat.{_-_, min};
 ghost use lib.ListN.{take};
 ghost use Rattle.ground.specs.Memory.{Laid};
-ghost use Rattle.disc.specs.Session.{session};
+ghost use Rattle.sessions.specs.Session.{session};
 ghost use Rattle.toc.specs.Answer.{format0, format1, format2, tocBytes, tocBad};
 ghost use Rattle.toc.specs.AnswerLaws.{headOf};
 

@@ -9,7 +9,8 @@ use native.Mathlib.Nat.{lt-of-not-le}
 use lib.Dec.{eqb}
 use borrow.Author.Tests.{le-leb, lt-leb, lt-ltb, le-ltb, eq-eqb, ne-eqb}
 use Rattle.ground.specs.Tests.{_and_, _or_, every, and-on, and-off, and-late, and-head, and-tail, and-both, when, unless, every-at, every-all}
-use Rattle.disc.specs.Layout.{rows, flagsAt, pointAt, addressAt, A2, isTrack}
+use Rattle.table.specs.Layout.{rows, flagsAt, pointAt, A2, isTrack}
+use Rattle.table.specs.Row.{addressAt}
 use Rattle.tracks.specs.Track.{isData, outAt, trackWith, trackAt, found, trackOf, inData, allInData, passes, allPass, runIsData}
 use Rattle.disc.specs.RulesLaws.{same-test}
 use Rattle.tracks.specs.TrackLaws.{nextOut-here, nextOut-on, Greatest, Found, here, none, only-greatest, found-greatest, Belongs, below, past, outside, trackOf-belongs, trackOf-of}

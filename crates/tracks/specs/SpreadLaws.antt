@@ -7,12 +7,13 @@ use native.Mathlib.Omega.{arith}
 use native.Mathlib.Nat.{lt-of-not-le}
 use native.Mathlib.Decide.{decLe, ℕ-discrete}
 use Rattle.ground.specs.Tests.{_and_}
-use Rattle.disc.specs.Layout.{lastSession, descriptors, rows, pointAt, addressAt, A0, A1, A2, isTrack}
-use Rattle.disc.specs.Session.{tracks, session}
-use Rattle.disc.specs.SessionLaws.{rowsBefore}
+use Rattle.table.specs.Layout.{lastSession, descriptors, rows, pointAt, A0, A1, A2, B0, C0, isTrack}
+use Rattle.table.specs.Row.{addressAt}
+use Rattle.sessions.specs.Session.{tracks, session}
+use Rattle.sessions.specs.SessionLaws.{rowsBefore}
 use Rattle.disc.specs.Rules.{leadOut, trackStart}
 use Rattle.disc.specs.RulesLaws.{Fit, fit-session}
-use Rattle.disc.specs.FitLaws.{pointAt-session, addressAt-session, Place, Kind, isA0, isA1, isA2, isTrackAfter, fit-locate, fit-listed, fit-kind, fit-rises, fit-apart}
+use Rattle.disc.specs.FitLaws.{pointAt-session, addressAt-session, Place, Kind, isA0, isA1, isA2, isTrackAfter, isB0, isC0, fit-locate, fit-listed, fit-kind, fit-rises, fit-apart}
 use Rattle.tracks.specs.Track.{outAt, allInData, runIsData}
 use Rattle.tracks.specs.TrackLaws.{nextOut-here, nextOut-on, outAt-next}
 use Rattle.tracks.specs.RunLaws.{Spread, run-agrees}
@@ -44,6 +45,14 @@ A1-noTrack = refl
 A2-noTrack : isTrack A2 ≡ false
 unfolding isTrack _and_
 A2-noTrack = refl
+
+B0-noTrack : isTrack B0 ≡ false
+unfolding isTrack _and_
+B0-noTrack = refl
+
+C0-noTrack : isTrack C0 ≡ false
+unfolding isTrack _and_
+C0-noTrack = refl
 
 module _ {t : List ℕ} (f : Fit t) where
   -- from a session's A2 on its address is the lead-out of each descriptor
@@ -81,6 +90,8 @@ module _ {t : List ℕ} (f : Fit t) where
       told (isA0 e q) = never A0 A0-noTrack q
       told (isA1 e q) = never A1 A1-noTrack q
       told (isA2 e q) = never A2 A2-noTrack q
+      told (isB0 e q) = never B0 B0-noTrack q
+      told (isC0 e q) = never C0 C0-noTrack q
       told (isTrackAfter m e b q) =
           let w : j ≡ rowsBefore (descriptors t) (p .k) + (3 + m) = p .place ∙ ap (λ (x : ℕ). rowsBefore (descriptors t) (p .k) + x) e in
           record {
@@ -115,6 +126,8 @@ module _ {t : List ℕ} (f : Fit t) where
       }
       told (isTrackAfter m e b q) =
           let s = fit-session f (p .below) in let w = point in let u = s .high in let v = s .order in absurd (omega arith)
+      told (isB0 e q) = let w = point in absurd (omega arith)
+      told (isC0 e q) = let w = point in absurd (omega arith)
 
   -- a track starts before its session's lead-out
   row-lead : {j : ℕ} → (r : TrackRow t j) → addressAt (descriptors t) j < leadOut (session (descriptors t) (r .k))

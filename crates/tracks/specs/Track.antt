@@ -4,7 +4,8 @@ use mathlib.Core.Bool.{Bool, true, not}
 use mathlib.Core.List.{List}
 use lib.Dec.{leb, ltb, eqb}
 use Rattle.ground.specs.Tests.{_and_, _or_, every, if_then_else_}
-use Rattle.disc.specs.Layout.{rows, flagsAt, pointAt, addressAt, A2, isTrack}
+use Rattle.table.specs.Layout.{rows, flagsAt, pointAt, A2, isTrack}
+use Rattle.table.specs.Row.{addressAt}
 use Rattle.tracks.specs.declared.track.Track.{Track}
 use Rattle.tracks.specs.declared.track.Ask.{Ask}
 use Rattle.tracks.specs.declared.track.Ask.the-variants.{Block, Number}

@@ -10,7 +10,8 @@ use native.Mathlib.Nat.{lt-of-not-le}
 use lib.Dec.{eqb}
 use borrow.Author.Tests.{le-leb, lt-ltb, le-ltb, eq-eqb, ne-eqb, leb-true, leb-false}
 use Rattle.ground.specs.Tests.{and-on, and-off, and-head, and-tail, when, unless, either}
-use Rattle.disc.specs.Layout.{rows, pointAt, addressAt, A2, isTrack}
+use Rattle.table.specs.Layout.{rows, pointAt, A2, isTrack}
+use Rattle.table.specs.Row.{addressAt}
 use Rattle.tracks.specs.Track.{nextOut, outAt, noTrack, trackAt, covers, wanted, nextFound, found, trackOf}
 use Rattle.tracks.specs.declared.track.Track.{Track}
 use Rattle.tracks.specs.declared.track.Ask.{Ask}

@@ -4,13 +4,13 @@ use crate::track::descriptors;
 use crate::track::is_data;
 use crate::track::track_at;
 use crate::track::track_of;
-use disc::layout::A2;
-use disc::layout::ROW;
-use disc::layout::is_track;
 use ground::number::wide;
+use table::layout::A2;
+use table::layout::ROW;
+use table::layout::is_track;
 ghost use mathlib.Core.Path.{_≡_};
 ghost use Prim.Native.Nat.{_+_};
-ghost use Rattle.disc.specs.Layout.{descriptors};
+ghost use Rattle.table.specs.Layout.{descriptors};
 ghost use Rattle.tracks.specs.Track.{passes, allPass, runIsData};
 
 // Descriptor c lets the run of n blocks from a on pass.

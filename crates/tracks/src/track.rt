@@ -1,19 +1,19 @@
 // Tracks: each descriptor is read once, and what is asked for is told from that.
 use address::address_of;
-use disc::layout::A2;
-use disc::layout::FLAGS;
-use disc::layout::HEADER;
-use disc::layout::PFRAME;
-use disc::layout::PMIN;
-use disc::layout::POINT;
-use disc::layout::PSEC;
-use disc::layout::ROW;
-use disc::layout::is_track;
 use ground::number::wide;
+use table::layout::A2;
+use table::layout::FLAGS;
+use table::layout::HEADER;
+use table::layout::PFRAME;
+use table::layout::PMIN;
+use table::layout::POINT;
+use table::layout::PSEC;
+use table::layout::ROW;
+use table::layout::is_track;
 ghost use mathlib.Core.Path.{_≡_};
 ghost use Prim.Native.Nat.{_+_, _*_, _≤_};
 ghost use lib.ListN.{length};
-ghost use Rattle.disc.specs.Layout.{row, rows, descriptors};
+ghost use Rattle.table.specs.Layout.{row, rows, descriptors};
 ghost use Rattle.tracks.specs.Track.{isData, covers, wanted, trackWith, nextOut, nextFound, found, trackOf, trackNumbered, noTrack};
 
 // A track: its number, ADR/control, start, and its session's lead-out. Number 0 is no track.

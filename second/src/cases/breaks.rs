@@ -1,6 +1,7 @@
 //! Tables picked by hand that break one rule, each with the first rule broken.
 
-use crate::cases::sheet::{disc_e, fullest, two_sessions, Sheet};
+use crate::cases::mode_five;
+use crate::cases::sheet::{disc_e, fullest, most_sessions, two_sessions, Sheet};
 use crate::limits::BOUND;
 
 pub struct Break {
@@ -9,7 +10,7 @@ pub struct Break {
     pub table: Vec<u8>,
 }
 
-fn add(list: &mut Vec<Break>, rule: u8, name: &'static str, table: Vec<u8>) {
+pub fn add(list: &mut Vec<Break>, rule: u8, name: &'static str, table: Vec<u8>) {
     list.push(Break { rule, name, table });
 }
 
@@ -31,6 +32,9 @@ pub fn breaks() -> Vec<Break> {
     rule_5(&mut list);
     rule_6(&mut list);
     rule_7(&mut list);
+    mode_five::rule_3(&mut list);
+    mode_five::rule_4(&mut list);
+    mode_five::rules_5_to_7(&mut list);
     list
 }
 
@@ -67,18 +71,26 @@ pub fn rule_1(list: &mut Vec<Break>) {
     let full = fullest();
     let mut over = full.bytes();
     over.push(0);
-    add(list, 1, "4,361 bytes", over.clone());
+    add(list, 1, "6,539 bytes", over.clone());
     over[0..2].copy_from_slice(&(BOUND as u16 - 1).to_be_bytes());
-    add(list, 1, "4,361 bytes, data length agrees", over);
-    add(list, 1, "4,359 bytes", full.bytes()[..BOUND - 1].to_vec());
+    add(list, 1, "6,539 bytes, data length agrees", over);
+    let mut under = full.bytes()[..BOUND - 1].to_vec();
+    add(list, 1, "6,537 bytes", under.clone());
+    under[0..2].copy_from_slice(&(BOUND as u16 - 3).to_be_bytes());
+    add(list, 1, "6,537 bytes, data length agrees", under);
     let mut row_over = full.clone();
-    row_over.rows.push(full.rows[395]);
+    row_over.rows.push(full.rows[593]);
     add(
         list,
         1,
-        "397 descriptors, data length agrees",
+        "595 descriptors, data length agrees",
         row_over.bytes(),
     );
+    let mut old = most_sessions().bytes();
+    add(list, 1, "4,359 bytes", old[..4_359].to_vec());
+    old.push(0);
+    old[0..2].copy_from_slice(&4_359u16.to_be_bytes());
+    add(list, 1, "4,361 bytes, data length agrees", old);
     add(list, 1, "8,191 bytes", vec![1; 8_191]);
 }
 
@@ -174,9 +186,9 @@ pub fn rule_4(list: &mut Vec<Break>) {
             }
         });
     }
-    edit(list, 4, "B0h after the tracks", |sheet| {
+    edit(list, 4, "B1h after the tracks", |sheet| {
         let mut more = sheet.rows[10];
-        more[3] = 0xB0;
+        more[3] = 0xB1;
         sheet.rows.push(more);
     });
     edit(list, 4, "a track more at the end", |sheet| {
@@ -207,7 +219,7 @@ pub fn rule_4(list: &mut Vec<Break>) {
     to_100.rows[4][3] = 100;
     add(list, 4, "tracks 99 and 100", to_100.bytes());
     let mut full = fullest();
-    full.rows[394][3] = 0xA1;
+    full.rows[590][3] = 0xA1;
     add(list, 4, "last A2 of the fullest", full.bytes());
 }
 

@@ -1,7 +1,9 @@
 //! Fit tables picked by hand, at the edge of each rule.
 
+use crate::cases::mode_five;
 use crate::cases::sheet::{
-    disc_e, fullest, most_tracks, one_long_track, three_sessions, two_sessions, Plan, Sheet,
+    disc_e, fullest, most_sessions, most_tracks, one_long_track, three_sessions, two_sessions,
+    Plan, Sheet,
 };
 use crate::limits::TOP_ADDRESS;
 
@@ -12,6 +14,7 @@ pub fn fits() -> Vec<(&'static str, Sheet)> {
         ("three sessions", three_sessions()),
         ("one long track", one_long_track()),
         ("fullest", fullest()),
+        ("most sessions", most_sessions()),
         ("most tracks", most_tracks()),
     ];
     let mut edit = |name, change: &dyn Fn(&mut Sheet)| {
@@ -60,5 +63,6 @@ pub fn fits() -> Vec<(&'static str, Sheet)> {
             )],
         ),
     ));
+    list.extend(mode_five::fits());
     list
 }

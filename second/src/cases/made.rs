@@ -2,11 +2,12 @@
 //! what one of them makes can be looked at apart from the others.
 
 use crate::cases::breaks::{self, Break};
+use crate::cases::draft;
 use crate::cases::packets::Packet;
 use crate::cases::pairs::{self, Pair};
 use crate::cases::sheet::{disc_e, two_sessions, Sheet};
 use crate::cases::stream::Stream;
-use crate::cases::{picked, picked_fields, picked_state, picked_tables, random};
+use crate::cases::{mode_five, picked, picked_fields, picked_state, picked_tables, random};
 use crate::examples;
 use crate::files::File;
 use crate::rng::Rng;
@@ -46,7 +47,7 @@ macro_rules! named {
     };
 }
 
-const MAKERS: [(&str, Maker); 32] = [
+const MAKERS: [(&str, Maker); 37] = [
     named!(Start, picked_state::from_nothing),
     named!(Calls, picked_state::attentions),
     named!(Calls, picked_state::senses),
@@ -65,6 +66,7 @@ const MAKERS: [(&str, Maker); 32] = [
     named!(Calls, picked_tables::broken),
     named!(Calls, picked_tables::fit),
     named!(Calls, picked_tables::parts),
+    named!(Calls, picked_tables::t134),
     named!(random::fill, Calls(drawn)),
     named!(random::trace_scene, Calls(traces)),
     named!(Tables, breaks::rule_1),
@@ -74,6 +76,9 @@ const MAKERS: [(&str, Maker); 32] = [
     named!(Tables, breaks::rule_5),
     named!(Tables, breaks::rule_6),
     named!(Tables, breaks::rule_7),
+    named!(Tables, mode_five::rule_3),
+    named!(Tables, mode_five::rule_4),
+    named!(Tables, mode_five::rules_5_to_7),
     named!(pairs::pair, Pairs(twenty)),
     named!(pairs::stored_pair, Pairs(|| vec![pairs::stored_pair(SEED)])),
     named!(examples::four, Packets(disc_e, examples::four)),
@@ -82,6 +87,7 @@ const MAKERS: [(&str, Maker); 32] = [
         examples::sessions,
         Packets(two_sessions, examples::sessions)
     ),
+    named!(examples::t134, Packets(draft::t134, examples::t134)),
 ];
 
 fn drawn(stream: &mut Stream) {

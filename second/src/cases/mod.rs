@@ -2,8 +2,10 @@
 
 pub mod bad;
 pub mod breaks;
+pub mod draft;
 pub mod fits;
 pub mod made;
+pub mod mode_five;
 pub mod packets;
 pub mod pairs;
 pub mod picked;

@@ -216,9 +216,9 @@ impl Marks {
 }
 
 /// Lengths around every answer's size.
-pub const LENGTHS: [u16; 30] = [
+pub const LENGTHS: [u16; 33] = [
     0, 1, 2, 3, 4, 5, 7, 8, 11, 12, 13, 17, 18, 19, 20, 28, 35, 36, 37, 47, 48, 255, 256, 803, 804,
-    805, 4_359, 4_360, 4_361, 65_535,
+    805, 4_359, 4_360, 4_361, 6_537, 6_538, 6_539, 65_535,
 ];
 
 /// Any packet of 12 bytes, most often a known command near a boundary.

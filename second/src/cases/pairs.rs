@@ -1,10 +1,10 @@
 //! Pairs of a table file and a packet file for the listing program.
 
 use crate::cases::packets::{
-    any_packet, one_of_each, prevent, request_sense, start_stop, test_ready, with_junk, Marks,
+    any_packet, one_of_each, prevent, request_sense, start_stop, test_ready, toc, with_junk, Marks,
     EJECT, LOAD,
 };
-use crate::cases::sheet::{any_fit, fullest, three_sessions};
+use crate::cases::sheet::{any_fit, fullest, most_sessions, three_sittings};
 use crate::cases::spoil::spoil;
 use crate::limits::LISTING_PACKETS;
 use crate::rng::Rng;
@@ -25,9 +25,10 @@ pub fn pair(seed: u64, number: u64) -> Pair {
         5 => over_the_bound(rng),
         6 | 7 => {
             let sheet = any_fit(rng);
-            let rule = rng.range(1, 8);
+            let rule = rng.range(1, 9);
             spoil(rng, &sheet, rule)
         }
+        8 => at_the_bound(rng, fit),
         _ => fit,
     };
     let marks = Marks::of(table::read(&table).ok().as_ref());
@@ -70,7 +71,16 @@ fn empty_or_short(rng: &mut Rng) -> Vec<u8> {
     [0, 2, 1, 1][..length].to_vec()
 }
 
-/// Its first 4,360 bytes are a fit table: cutting at the bound would show.
+/// A fit table of 6,538 bytes, of the old bound's 4,360, or any.
+fn at_the_bound(rng: &mut Rng, fit: Vec<u8>) -> Vec<u8> {
+    match rng.below(4) {
+        0 | 1 => fullest().bytes(),
+        2 => most_sessions().bytes(),
+        _ => fit,
+    }
+}
+
+/// Its first 6,538 bytes are a fit table: cutting at the bound would show.
 fn over_the_bound(rng: &mut Rng) -> Vec<u8> {
     let mut table = fullest().bytes();
     let more = rng.pick(&[1, 1, 11, 100, 6_000]);
@@ -97,10 +107,11 @@ pub fn run_of_packets(rng: &mut Rng, marks: &Marks, n: usize) -> Vec<u8> {
     packets
 }
 
-/// The stored pair: three sessions, data and audio, a short packet last.
+/// The stored pair: three sessions with B0h, C0h and both behind them, data and
+/// audio, a short packet last.
 pub fn stored_pair(seed: u64) -> Pair {
     let mut rng = Rng::new(seed);
-    let table = three_sessions().bytes();
+    let table = three_sittings().bytes();
     let marks = Marks::of(table::read(&table).ok().as_ref());
     let mut packets = Vec::new();
     // Each command once before the telling has come, then again after it.
@@ -122,6 +133,12 @@ pub fn stored_pair(seed: u64) -> Pair {
         start_stop(LOAD),
         request_sense(18),
         test_ready(),
+        // Formats 0 and 1 pass over B0h and C0h, format 2 returns them.
+        toc(false, 0, 0, 804),
+        toc(false, 1, 0, 804),
+        toc(false, 2, 0, 804),
+        toc(true, 2, 2, 804),
+        toc(false, 2, 3, 60),
     ] {
         packets.extend(packet);
     }

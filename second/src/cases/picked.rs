@@ -23,6 +23,7 @@ pub fn all(stream: &mut Stream) {
     picked_tables::broken(stream);
     picked_tables::fit(stream);
     picked_tables::parts(stream);
+    picked_tables::t134(stream);
 }
 
 /// Kinds 8 and 9 at all boundaries.

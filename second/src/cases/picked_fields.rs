@@ -6,7 +6,8 @@ use crate::cases::packets::{
 };
 use crate::cases::picked_state::MEMORY;
 use crate::cases::sheet::{
-    disc_e, fullest, most_tracks, one_long_track, three_sessions, two_sessions, Sheet,
+    disc_e, fullest, most_sessions, most_tracks, one_long_track, three_sittings, two_sessions,
+    two_sittings, Sheet,
 };
 use crate::cases::stream::Stream;
 use crate::drive::State;
@@ -76,7 +77,7 @@ fn packets_for_bits() -> Vec<Packet> {
 
 /// Allocation lengths around every answer's end.
 pub fn lengths(stream: &mut Stream) {
-    for sheet in [disc_e(), three_sessions()] {
+    for sheet in [disc_e(), three_sittings()] {
         put_in(stream, &sheet);
         for length in LENGTHS {
             stream.memory(MEMORY, length as u8);
@@ -91,17 +92,29 @@ pub fn lengths(stream: &mut Stream) {
             stream.packet(&capacity());
         }
     }
-    // 99 tracks make 804 bytes, 99 sessions 4,360.
+    // 99 tracks make 804 bytes, 99 sessions 4,360, and 6,538 with K1's rows.
     put_in(stream, &most_tracks());
     for length in [3, 4, 803, 804, 805, 65_535] {
         stream.memory(MEMORY, 0xD7);
         stream.packet(&toc(false, 0, 0, length));
         stream.packet(&toc(true, 0, 1, length));
     }
-    put_in(stream, &fullest());
-    for length in [0, 4, 4_359, 4_360, 4_361, 65_535] {
+    put_in(stream, &most_sessions());
+    for length in [4_359, 4_360, 4_361] {
         stream.memory(MEMORY + length % 2, 0xD7);
         stream.packet(&toc(false, 2, 0, length));
+    }
+    put_in(stream, &fullest());
+    // Around a header, a row, a session, the old bound and the whole.
+    for length in [
+        0, 1, 2, 3, 4, 5, 14, 15, 16, 69, 70, 71, 255, 256, 804, 4_359, 4_360, 4_361, 6_472, 6_536,
+        6_537, 6_538, 6_539, 8_191, 65_535,
+    ] {
+        stream.memory(MEMORY + length % 2, 0xD7);
+        stream.packet(&toc(length % 3 == 0, 2, (length % 2) as u8, length));
+    }
+    for number in [2, 50, 97, 98] {
+        stream.packet(&toc(false, 2, number, 6_537));
     }
     for format in 0..3 {
         stream.packet(&toc(true, format, 99, 65_535));
@@ -112,9 +125,11 @@ pub fn lengths(stream: &mut Stream) {
 
 /// N for formats 0 to 2, with and without MSF.
 pub fn toc_numbers(stream: &mut Stream) {
-    for sheet in [disc_e(), two_sessions(), three_sessions()] {
+    for sheet in [disc_e(), two_sessions(), two_sittings(), three_sittings()] {
         let mut numbers = put_in(stream, &sheet).numbers;
         numbers.extend([3, 4, 5, 6, 7, 8, 0x7F, 0x80, 0xA1, 0xA2, 0xAC, 0xFE]);
+        // B0h and C0h are no track's number.
+        numbers.extend([0xAF, 0xB0, 0xB1, 0xBF, 0xC0, 0xC1]);
         numbers.sort_unstable();
         numbers.dedup();
         for &number in &numbers {
@@ -138,7 +153,7 @@ pub fn toc_numbers(stream: &mut Stream) {
 
 /// Formats 0 to 15 under every high nibble.
 pub fn toc_formats(stream: &mut Stream) {
-    put_in(stream, &two_sessions());
+    put_in(stream, &two_sittings());
     for byte_2 in 0..=255 {
         stream.packet(&toc(byte_2 % 3 == 0, byte_2, byte_2 % 2, 24));
     }
@@ -152,7 +167,7 @@ pub fn toc_formats(stream: &mut Stream) {
 
 /// READ and SEEK at every mark of small discs.
 pub fn reads(stream: &mut Stream) {
-    for sheet in [disc_e(), two_sessions(), three_sessions()] {
+    for sheet in [disc_e(), two_sessions(), three_sittings()] {
         let marks = put_in(stream, &sheet);
         stream.memory(MEMORY, 0x33);
         let mut addresses: Vec<u32> = marks

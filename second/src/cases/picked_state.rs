@@ -5,7 +5,7 @@ use crate::cases::packets::{
     capacity, inquiry, one_of_each, prevent, read10, request_sense, start_stop, test_ready, toc,
     EJECT, LOAD,
 };
-use crate::cases::sheet::{disc_e, two_sessions};
+use crate::cases::sheet::{disc_e, two_sittings};
 use crate::cases::stream::Stream;
 use crate::drive::State;
 use crate::limits::BOUND;
@@ -220,10 +220,10 @@ pub fn packet_lengths(stream: &mut Stream) {
     stream.packet(&long);
 }
 
-/// "response memory is under 4,360 bytes".
+/// "response memory is under 6,538 bytes", the old 4,360 among them.
 pub fn memories(stream: &mut Stream) {
     stream.table(&disc_e().bytes());
-    for length in [0, 1, 36, 4_359, 4_360, 4_361, 8_190, 8_191] {
+    for length in [0, 1, 36, 4_360, 6_537, 6_538, 6_539, 8_190, 8_191] {
         for fill in [0x00, 0xA5] {
             stream.memory(length, fill);
             for packet in one_of_each() {
@@ -238,7 +238,7 @@ pub fn memories(stream: &mut Stream) {
 
 /// Tray calls and packets in turn, with the disc and its table changing.
 pub fn tray_traces(stream: &mut Stream) {
-    let (e, two) = (disc_e().bytes(), two_sessions().bytes());
+    let (e, two) = (disc_e().bytes(), two_sittings().bytes());
     stream.state(State::ZERO);
     stream.power_on();
     for round in 0..6 {

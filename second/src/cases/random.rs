@@ -5,7 +5,7 @@ use crate::cases::packets::{
     any_packet, capacity, one_of_each, start_stop, test_ready, toc, with_junk, Marks, EJECT, LOAD,
 };
 use crate::cases::picked_state::{strangers, MEMORY};
-use crate::cases::sheet::{any_fit, fit, Sheet};
+use crate::cases::sheet::{any_fit, fit, longest, Sheet};
 use crate::cases::spoil::spoil;
 use crate::cases::stream::Stream;
 use crate::drive::State;
@@ -37,7 +37,7 @@ fn scene(stream: &mut Stream, rng: &mut Rng) {
 
 fn lend_memory(stream: &mut Stream, rng: &mut Rng) {
     let length = if rng.one_in(4) {
-        rng.pick(&[MEMORY + 1, 5_000, 8_191])
+        rng.pick(&[MEMORY + 1, 7_000, 8_191])
     } else {
         MEMORY
     };
@@ -137,7 +137,7 @@ pub fn trace_scene(stream: &mut Stream, rng: &mut Rng) {
 fn spoilt_scene(stream: &mut Stream, rng: &mut Rng) {
     for _ in 0..rng.range(1, 6) {
         let sheet = any_fit(rng);
-        let rule = rng.range(1, 8);
+        let rule = rng.range(1, 9);
         let table = spoil(rng, &sheet, rule);
         stream.table(&table);
         let last = sheet.last;
@@ -212,7 +212,7 @@ fn memory_scene(stream: &mut Stream, rng: &mut Rng) {
     let marks = lend(stream, &any_fit(rng));
     for _ in 0..rng.range(3, 8) {
         let any = rng.below(8_192) as u16;
-        let length = rng.pick(&[0, 1, MEMORY - 1, MEMORY, MEMORY + 1, 8_191, any]);
+        let length = rng.pick(&[0, 1, 4_360, MEMORY - 1, MEMORY, MEMORY + 1, 8_191, any]);
         let fill = rng.byte();
         stream.memory(length, fill);
         stream.state(any_state(rng));
@@ -259,12 +259,16 @@ fn part_scene(stream: &mut Stream, rng: &mut Rng) {
 /// The largest tables: full answers, cut answers, and one byte or bit wrong.
 fn full_scene(stream: &mut Stream, rng: &mut Rng) {
     let (sessions, tracks) = rng.pick(&[(99, 99), (1, 99), (50, 99), (98, 99), (98, 98)]);
-    let sheet = fit(rng, sessions, tracks);
+    let sheet = if rng.one_in(2) {
+        longest(rng)
+    } else {
+        fit(rng, sessions, tracks)
+    };
     let marks = lend(stream, &sheet);
     lend_memory(stream, rng);
     stream.state(State::READY);
     let number = rng.pick(&[0, 1, sheet.last, 97]);
-    let length = rng.pick(&[804, 4_359, 4_360, 65_535]);
+    let length = rng.pick(&[804, 4_360, 6_537, 6_538, 6_539, 65_535]);
     stream.packet(&toc(rng.one_in(2), 2, number, length));
     stream.packet(&toc(rng.one_in(2), 0, 0, length));
     stream.packet(&capacity());
@@ -280,7 +284,7 @@ fn full_scene(stream: &mut Stream, rng: &mut Rng) {
         let session = rng.pick(&[0, 1, 2, sheet.last, sheet.last + 1, 255]);
         stream.part(session);
     }
-    let rule = rng.range(1, 8);
+    let rule = rng.range(1, 9);
     stream.table(&spoil(rng, &sheet, rule));
     stream.part(sheet.last);
     stream.state(State::READY);
@@ -295,7 +299,7 @@ fn chaos_scene(stream: &mut Stream, rng: &mut Rng) {
             0 => marks = lend(stream, &any_fit(rng)),
             1 => {
                 let sheet = any_fit(rng);
-                let rule = rng.range(1, 8);
+                let rule = rng.range(1, 9);
                 stream.table(&spoil(rng, &sheet, rule));
             }
             2 | 3 => stream.state(any_state(rng)),

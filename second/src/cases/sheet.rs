@@ -35,6 +35,30 @@ fn row(session: u8, bits: u8, point: u8, p: [u8; 3]) -> [u8; ROW] {
     [session, bits, 0, point, 0, 0, 0, 0, p[0], p[1], p[2]]
 }
 
+/// K1's two POINTs, in the order in which they may stand.
+pub const MODE_5: [u8; 2] = [0xB0, 0xC0];
+
+/// A B0h or C0h row (K1): ADR 5 and TNO 0; `free` is MIN to PFRAME.
+pub fn mode_5(session: u8, point: u8, control: u8, free: [u8; 7]) -> [u8; ROW] {
+    let mut row = row(session, 0x50 | control & 0x0F, point, [0; 3]);
+    row[4..].copy_from_slice(&free);
+    row
+}
+
+/// MIN to PFRAME for such rows. Most would break rule 3, 5, 6 or 7 in a row
+/// that these look at.
+pub const FREE: [[u8; 7]; 9] = [
+    [0x04, 0x26, 0x3F, 0x02, 0x40, 0x02, 0x00],
+    [0xC0, 0x00, 0x00, 0x00, 0x61, 0x2C, 0x00],
+    [0, 0, 0, 0, 0, 0, 0],
+    [0xFF; 7],
+    [1, 2, 3, 0x80, 99, 59, 75],
+    [0, 0, 0, 1, 0, 60, 0],
+    [0, 0, 0, 0, 0, 2, 0],
+    [0, 0, 0, 0, 99, 59, 74],
+    [0, 0, 0, 0, 5, 0x30, 1],
+];
+
 fn place(block: u32) -> [u8; 3] {
     let time = address::to_msf(block).expect("cases stay in the range");
     [time.m, time.s, time.f]
@@ -89,6 +113,12 @@ impl Sheet {
         self.set_address(row, m, s, f);
     }
 
+    /// Puts a row behind the last one of its session.
+    pub fn close(&mut self, row: [u8; ROW]) {
+        let before = self.rows.iter().rposition(|one| one[0] == row[0]);
+        self.rows.insert(before.map_or(0, |at| at + 1), row);
+    }
+
     /// The rows with this POINT, by place.
     pub fn points(&self, point: u8) -> Vec<usize> {
         (0..self.rows.len())
@@ -141,13 +171,44 @@ pub fn three_sessions() -> Sheet {
     sheet
 }
 
+/// The two sessions, each closed by B0h and C0h (K1). Rows: A0 A1 A2, tracks
+/// 1 2 3, B0h and C0h are 0 to 7; A0 A1 A2, tracks 4 5, B0h and C0h 8 to 14.
+/// The addresses of B0h and C0h rise with the rest, so rules 5 to 7 would hold
+/// of them too.
+pub fn two_sittings() -> Sheet {
+    let mut sheet = two_sessions();
+    for (session, block) in [(1, 901), (2, 13_001)] {
+        for (point, by) in MODE_5.into_iter().zip(0..) {
+            let [m, s, f] = place(block + by);
+            sheet.close(mode_5(session, point, 4, [0, 0, 0, 0, m, s, f]));
+        }
+    }
+    sheet
+}
+
+/// The three sessions: B0h behind the first, C0h behind the middle one, both
+/// behind the last (K1).
+pub fn three_sittings() -> Sheet {
+    let mut sheet = three_sessions();
+    for (session, point, free) in [
+        (1, 0xB0, FREE[0]),
+        (2, 0xC0, FREE[3]),
+        (3, 0xB0, FREE[4]),
+        (3, 0xC0, FREE[1]),
+    ] {
+        sheet.close(mode_5(session, point, point >> 4, free));
+    }
+    sheet
+}
+
 /// One data track over the whole range: the longest reads.
 pub fn one_long_track() -> Sheet {
     Sheet::lay_out(1, &[Plan::new(TOP_ADDRESS, 0x14, &[(0, 0x14)])])
 }
 
-/// 99 sessions of one track: 396 descriptors, 4,360 bytes.
-pub fn fullest() -> Sheet {
+/// 99 sessions of one track: 396 descriptors, 4,360 bytes, the longest table
+/// without B0h and C0h.
+pub fn most_sessions() -> Sheet {
     let plans: Vec<Plan> = (0..99u32)
         .map(|i| {
             Plan::new(
@@ -160,6 +221,18 @@ pub fn fullest() -> Sheet {
     Sheet::lay_out(1, &plans)
 }
 
+/// The same, each session closed by B0h and C0h: K1's 594 descriptors, 6,538
+/// bytes.
+pub fn fullest() -> Sheet {
+    let mut sheet = most_sessions();
+    for session in 1..=99 {
+        let at = usize::from(session);
+        sheet.close(mode_5(session, 0xB0, session, FREE[at % 9]));
+        sheet.close(mode_5(session, 0xC0, session >> 1, FREE[at % 7]));
+    }
+    sheet
+}
+
 /// One session of 99 tracks, every third audio.
 pub fn most_tracks() -> Sheet {
     let tracks: Vec<(u32, u8)> = (0..99u32)
@@ -169,8 +242,25 @@ pub fn most_tracks() -> Sheet {
 }
 
 /// A fit table with these numbers of sessions and tracks (sessions ≤ tracks
-/// ≤ 99).
+/// ≤ 99); B0h and C0h (K1) behind no session, behind all, or drawn for each.
 pub fn fit(rng: &mut Rng, sessions: usize, tracks: usize) -> Sheet {
+    let mut sheet = without_mode_5(rng, sessions, tracks);
+    match rng.below(5) {
+        0 | 1 => {}
+        2 => close_some(rng, &mut sheet, 1),
+        _ => close_some(rng, &mut sheet, 2),
+    }
+    sheet
+}
+
+/// A fit table of 6,538 bytes.
+pub fn longest(rng: &mut Rng) -> Sheet {
+    let mut sheet = without_mode_5(rng, 99, 99);
+    close_some(rng, &mut sheet, 1);
+    sheet
+}
+
+fn without_mode_5(rng: &mut Rng, sessions: usize, tracks: usize) -> Sheet {
     let mut shares = vec![1; sessions];
     for _ in sessions..tracks {
         let one = rng.below(sessions);
@@ -207,6 +297,32 @@ pub fn fit(rng: &mut Rng, sessions: usize, tracks: usize) -> Sheet {
         }
     }
     sheet
+}
+
+/// Puts B0h and C0h behind sessions, each of them once in so many.
+fn close_some(rng: &mut Rng, sheet: &mut Sheet, many: usize) {
+    for session in 1..=sheet.last {
+        for point in MODE_5 {
+            if rng.one_in(many) {
+                let row = any_mode_5(rng, sheet, session, point);
+                sheet.close(row);
+            }
+        }
+    }
+}
+
+/// A B0h or C0h with every free byte drawn, or the address of another row.
+pub fn any_mode_5(rng: &mut Rng, sheet: &Sheet, session: u8, point: u8) -> [u8; ROW] {
+    let free = if rng.one_in(3) {
+        rng.pick(&FREE)
+    } else {
+        rng.bytes(7).try_into().expect("7 bytes")
+    };
+    let mut row = mode_5(session, point, rng.byte(), free);
+    if rng.one_in(3) {
+        row[7..].copy_from_slice(&rng.pick(&sheet.rows)[7..]);
+    }
+    row
 }
 
 /// A fit table of any size, small ones most often.

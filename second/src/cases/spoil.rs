@@ -1,11 +1,13 @@
 //! Random tables that break a rule, or nearly do.
 
 use crate::cases::breaks::OUTSIDE;
-use crate::cases::sheet::{fullest, Sheet};
+use crate::cases::mode_five::NEAR;
+use crate::cases::sheet::{any_mode_5, fullest, Sheet, MODE_5};
 use crate::limits::{BOUND, ROWS_MAX};
 use crate::rng::Rng;
 
-/// Breaks the rule in one of many ways; a few ways leave the table fit.
+/// Breaks the rule in one of many ways, 9 being what K1 says of B0h and C0h; a
+/// few ways leave the table fit.
 pub fn spoil(rng: &mut Rng, sheet: &Sheet, rule: usize) -> Vec<u8> {
     let mut sheet = sheet.clone();
     match rule {
@@ -49,6 +51,7 @@ pub fn spoil(rng: &mut Rng, sheet: &Sheet, rule: usize) -> Vec<u8> {
             }
         }
         7 => rule_7(rng, &mut sheet),
+        9 => mode_five(rng, &mut sheet),
         _ => anything(rng, &mut sheet),
     }
     // Now and then the data length is left behind too.
@@ -89,7 +92,7 @@ fn rule_1(rng: &mut Rng, sheet: &Sheet) -> Vec<u8> {
     }
 }
 
-/// 4,361 bytes, 397 descriptors, and so on: costly, so it comes seldom.
+/// 6,539 bytes, 595 descriptors, and so on: costly, so it comes seldom.
 fn over_the_bound(rng: &mut Rng) -> Vec<u8> {
     let mut full = fullest();
     if rng.one_in(2) {
@@ -121,14 +124,14 @@ fn rule_4(rng: &mut Rng, sheet: &mut Sheet) {
         }
         5 => {
             let points = [
-                0, 1, 2, 99, 100, 0xA0, 0xA1, 0xA2, 0xA3, 0xAA, 0xB0, 0xC0, 0xFF,
+                0, 1, 2, 99, 100, 0xA0, 0xA1, 0xA2, 0xA3, 0xAA, 0xB1, 0xC1, 0xFF,
             ];
             sheet.rows[row][3] = rng.pick(&points);
         }
         6 => sheet.last = sheet.last.wrapping_add(rng.pick(&[1, 255])),
         7 => {
             let mut more = sheet.rows[count - 1];
-            more[3] = rng.pick(&[more[3] + 1, 0xB0, 0xC0, 0xA0]);
+            more[3] = rng.pick(&[more[3] + 1, 0xB1, 0xC1, 0xA0]);
             sheet.rows.push(more);
         }
         8 => {
@@ -146,7 +149,7 @@ fn rule_4(rng: &mut Rng, sheet: &mut Sheet) {
             for one in sheet.rows.iter_mut().filter(|one| one[0] >= from) {
                 let at = match one[3] {
                     0xA0 | 0xA1 => 8,
-                    0xA2 => continue,
+                    0xA2 | 0xB0 | 0xC0 => continue,
                     _ => 3,
                 };
                 one[at] = one[at].wrapping_add(by);
@@ -189,6 +192,55 @@ fn rule_7(rng: &mut Rng, sheet: &mut Sheet) {
         sheet.rows[other][8..].copy_from_slice(&a[8..]);
     } else {
         sheet.set_block(one, block);
+    }
+}
+
+/// B0h and C0h in wrong places, numbers and forms, or one more in its place.
+fn mode_five(rng: &mut Rng, sheet: &mut Sheet) {
+    let session = rng.range(1, usize::from(sheet.last)) as u8;
+    let point = rng.pick(&MODE_5);
+    let mut row = any_mode_5(rng, sheet, session, point);
+    let held: Vec<usize> = MODE_5.iter().flat_map(|&one| sheet.points(one)).collect();
+    if held.is_empty() || rng.one_in(3) {
+        // A row more, sound or not, behind its session or anywhere.
+        match rng.below(7) {
+            0 => row[1] = row[1] & 0x0F | rng.byte() & 0xF0,
+            1 => row[2] = rng.pick(&[1, 0x80, 0xFF]),
+            2 => row[3] = rng.pick(&NEAR),
+            3 => {
+                row[1] = 0x14;
+                row[3] = rng.pick(&NEAR);
+                row[7] = 0;
+            }
+            4 => row[0] = rng.pick(&[0, session + 1, session - 1, 255]),
+            _ => {}
+        }
+        if rng.one_in(2) {
+            sheet.close(row);
+        } else {
+            let at = rng.below(sheet.rows.len() + 1);
+            sheet.rows.insert(at, row);
+        }
+        return;
+    }
+    let one = rng.pick(&held);
+    match rng.below(9) {
+        0 => sheet.rows[one][1] ^= rng.range(1, 15) as u8 * 16,
+        1 => sheet.rows[one][2] = rng.pick(&[1, 0x80, 0xFF]),
+        2 => sheet.rows[one][0] = rng.pick(&[0, session, session + 1, 255]),
+        3 => sheet.rows[one][3] = rng.pick(&[0xB0, 0xC0, 0xB1, 0xB4, 0xC1, 1, 0xA0]),
+        4 => sheet.rows.insert(one, sheet.rows[one]),
+        5 => sheet.rows.swap(one, one - 1),
+        6 => {
+            let moved = sheet.rows.remove(one);
+            let at = rng.below(sheet.rows.len() + 1);
+            sheet.rows.insert(at, moved);
+        }
+        7 => {
+            // Fit: one fewer may stand, and any free byte.
+            sheet.rows.remove(one);
+        }
+        _ => sheet.rows[one][rng.range(4, 10)] = rng.byte(),
     }
 }
 

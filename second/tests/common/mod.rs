@@ -28,6 +28,13 @@ pub fn good(state: State, packet: &[u8]) -> Vec<u8> {
     memory[..reply.length].to_vec()
 }
 
+/// The bytes of a GOOD packet on this table, loaded.
+pub fn good_on(table: &[u8], packet: &[u8]) -> Vec<u8> {
+    let (reply, memory) = on(State::READY, table, packet);
+    assert_eq!((reply.refusal, reply.status), (None, 0));
+    memory[..reply.length].to_vec()
+}
+
 pub fn check(state: State, packet: &[u8]) -> Sense {
     let (reply, _) = on_e(state, packet);
     assert_eq!((reply.refusal, reply.status), (None, 2));

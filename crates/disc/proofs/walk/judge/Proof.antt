@@ -1,6 +1,8 @@
 -- `disc::walk::judge` meets its contract: rules 1 and 2 are tested in turn, and then the walk decides.
 use mathlib.Core.Path.{sym, ap, _∙_}
 use mathlib.Core.Bool.{Bool}
+use native.Mathlib.Omega.{arith}
+use lib.ListN.{length-drop}
 use Rattle.ground.specs.Memory.{rest-all}
 use Rattle.disc.specs.RulesLaws.{rule1-parts}
 use Rattle.disc.specs.Disc.{lastAt}
@@ -23,6 +25,9 @@ sub-walk c = rule1-parts (sym (c .before .before .before .before .rule1 .ensures
 part-walk-start : tie.Need-part-walk-start
 part-walk-start c = let s = rule1-parts (sym (c .before .before .before .before .rule1 .ensures) ∙ c .before .before .before .if1 .taken) in search needs
 
+walk-requires : tie.Need-walk-requires
+walk-requires c κs = rw rest-all (let s = rule1-parts (sym (c .before .before .before .before .before .rule1 .ensures) ∙ c .before .before .before .before .if1 .taken) in let l = length-drop 4 (c .before .before .before .before .before .before .before .args .t .now) in omega arith)
+
 returns : tie.Need-returns
 returns c = rw rest-all at (c .walk .ensures) ∙ ap (λ (b : Bool). verdict b (lastAt (c .before .before .before .before .before .before .before .before .args .t .now))) (walk-fit _ (sym (c .before .before .before .before .before .before .rule1 .ensures) ∙ c .before .before .before .before .before .if1 .taken) (sym (c .before .before .before .before .rule2 .ensures) ∙ c .before .before .before .if2 .taken))
 
@@ -35,5 +40,5 @@ returns-3 c = c .unfit2 .ensures ∙ verdict-no _ (unfit-rule1 _ (sym (c .before
 pub judge-spec : {M : Type 1} → statement M
 judge-spec =
     tie.close
-    (tie.spec (λ c κs. search needs) rule2-requires shared-slice-read-n sub-walk part-walk-start (λ c. search needs) (λ c κs. search needs)
+    (tie.spec (λ c κs. search needs) rule2-requires shared-slice-read-n sub-walk part-walk-start (λ c. search needs) walk-requires
     returns (λ c κs. search needs) returns-2 (λ c κs. search needs) returns-3)

@@ -4,7 +4,7 @@ use native.Mathlib.Omega.{arith}
 use denote.Ref.{now}
 use Rattle.ground.specs.Memory.{rest-all}
 use Rattle.disc.specs.declared.disc.Disc.{Disc}
-use Rattle.disc.specs.Layout.{descriptors}
+use Rattle.table.specs.Layout.{descriptors}
 use Rattle.disc.specs.Disc.{discOf}
 use Rattle.toc.specs.declared.answer.TocAsk.{TocAsk}
 use Rattle.toc.specs.Answer.{tocBad}

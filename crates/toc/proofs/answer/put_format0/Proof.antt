@@ -5,7 +5,7 @@ use Prim.Native.Nat.{_≤_, _/_}
 use lib.ListN.{length}
 use denote.Ref.{now}
 use Rattle.ground.specs.Memory.{laid-more}
-use Rattle.disc.specs.Layout.{rows}
+use Rattle.table.specs.Layout.{rows}
 use Rattle.toc.specs.ShownLaws.{shownCount-within}
 use Rattle.toc.specs.AnswerLaws.{format0-laid}
 use borrow.Author.Needs.{needs}

@@ -4,7 +4,7 @@ use Prim.Native.Nat.{ℕ, min}
 use denote.Ref.{now}
 use lib.ListN.{length, drop}
 use Rattle.ground.specs.Memory.{rest-all}
-use Rattle.disc.specs.Session.{starts}
+use Rattle.sessions.specs.Session.{starts}
 use Rattle.toc.specs.AnswerLaws.{drop-held}
 use borrow.Author.Needs.{needs}
 use Rattle.toc.proofs.answer.sessions_from.Statement.{statement}

@@ -2,7 +2,7 @@
 use mathlib.Core.Path.{_≡_, refl, sym, ap, _∙_}
 use denote.Ref.{now}
 use Rattle.ground.specs.Tests.{and-on, and-off}
-use Rattle.disc.specs.Layout.{pointAt, isTrack}
+use Rattle.table.specs.Layout.{pointAt, isTrack}
 use Rattle.toc.specs.Shown.{isShown}
 use borrow.Author.Needs.{needs}
 use Rattle.toc.proofs.shown.is_shown.Statement.{statement}

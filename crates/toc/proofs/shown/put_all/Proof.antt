@@ -7,7 +7,7 @@ use borrow.Author.Needs.{needs}
 use lib.ListN.{length}
 use denote.Ref.{now}
 use Rattle.ground.specs.Memory.{Laid, laid-none, laid-within, laid-more, laid-length}
-use Rattle.disc.specs.Layout.{rows}
+use Rattle.table.specs.Layout.{rows}
 use Rattle.toc.specs.ShownLaws.{listed, listed-none, listed-more}
 use Rattle.toc.proofs.shown.put_all.Statement.{statement}
 use Rattle.toc.proofs.shown.put_all.Tie as tie

@@ -2,7 +2,7 @@
 use mathlib.Core.Path.{_≡_}
 use Prim.Native.Nat.{_+_, _-_, _*_}
 use native.Mathlib.Omega.{arith}
-use Rattle.disc.specs.Layout.{row}
+use Rattle.table.specs.Layout.{row}
 use borrow.Author.Needs.{needs}
 use Rattle.toc.proofs.shown.put_row.Statement.{statement}
 use Rattle.toc.proofs.shown.put_row.Tie as tie

@@ -5,7 +5,7 @@ use native.Mathlib.Omega.{arith}
 use lib.ListN.{length}
 use mathlib.Core.Logic.{⊎-elim}
 use denote.Ref.{now}
-use Rattle.disc.specs.Layout.{rows}
+use Rattle.table.specs.Layout.{rows}
 use Rattle.toc.specs.ShownLaws.{shownCount, shownCount-none, shownCount-is, shownCount-not, shownCount-within}
 use Rattle.toc.proofs.shown.shown_count.Statement.{statement}
 use Rattle.toc.proofs.shown.shown_count.Tie as tie

@@ -5,7 +5,7 @@ use Prim.Native.Nat.{_+_, _-_, _≤_}
 use native.Mathlib.Omega.{arith}
 use borrow.Author.Needs.{needs}
 use Rattle.ground.specs.Tests.{every, every-none, every-more, every-breaks, every-at, every-all}
-use Rattle.disc.specs.Layout.{rows}
+use Rattle.table.specs.Layout.{rows}
 use Rattle.tracks.specs.Track.{trackAt, passes}
 use Rattle.tracks.specs.RunLaws.{passes-read}
 use Rattle.tracks.proofs.run.all_pass.Statement.{statement}
@@ -21,10 +21,10 @@ loop-holds : tie.Need-loop-holds Inv-loop μ-loop
 loop-holds c = (omega arith, every-none _)
 
 loop-again : tie.Need-loop-again Inv-loop μ-loop
-loop-again c = (omega arith, every-more _ _ (c .before .before .before .before .loop .inv .1) (sym (passes-read _ _ _ _ (c .before .before .track-at .ensures)) ∙ sym (c .before .passes .ensures) ∙ c .if1 .taken))
+loop-again c = (omega arith, every-more _ _ (c .before .before .before .before .loop .inv .1) (sym (passes-read (c .before .before .before .before .before .before .args .d .now) (c .before .before .before .before .loop .j) _ _ (c .before .before .track-at .ensures)) ∙ sym (c .before .passes .ensures) ∙ c .if1 .taken))
 
 returns : tie.Need-returns Inv-loop μ-loop
-returns c = every-breaks _ _ _ (c .before .before .before .loop-test .taken) (sym (passes-read _ _ _ _ (c .before .before .track-at .ensures)) ∙ sym (c .before .passes .ensures) ∙ c .if1 .left)
+returns c = every-breaks _ _ _ (c .before .before .before .loop-test .taken) (sym (passes-read (c .before .before .before .before .before .before .args .d .now) (c .before .before .before .before .loop .j) _ _ (c .before .before .track-at .ensures)) ∙ sym (c .before .passes .ensures) ∙ c .if1 .left)
 
 returns-2 : tie.Need-returns-2 Inv-loop μ-loop
 returns-2 c = sym (every-all _ _ (λ i k. every-at _ _ (c .before .loop .inv .1) i (omega arith)))

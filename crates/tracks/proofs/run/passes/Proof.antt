@@ -1,7 +1,7 @@
 -- `tracks::run::passes` meets its contract: each way out is one law of the definition, and start - a < n says start < a + n.
 use mathlib.Core.Path.{sym, ap, _∙_}
 use native.Mathlib.Omega.{arith}
-use Rattle.disc.specs.Layout.{isTrack}
+use Rattle.table.specs.Layout.{isTrack}
 use Rattle.tracks.specs.RunLaws.{passes-before, passes-past, passes-track, passes-other}
 use borrow.Author.Needs.{needs}
 use Rattle.tracks.proofs.run.passes.Statement.{statement}

@@ -3,7 +3,7 @@ use mathlib.Core.Path.{_≡_, sym, ap, _∙_}
 use Prim.Native.Nat.{_-_, _≤_}
 use native.Mathlib.Omega.{arith}
 use borrow.Author.Needs.{needs}
-use Rattle.disc.specs.Layout.{rows}
+use Rattle.table.specs.Layout.{rows}
 use Rattle.tracks.specs.Track.{trackWith, outAt, nextOut, found}
 use Rattle.tracks.specs.TrackLaws.{outAt-none, outAt-next, found-none, found-next}
 use Rattle.tracks.proofs.track.found.Statement.{statement}
@@ -20,8 +20,8 @@ loop-holds c = (omega arith, sym (outAt-none _), c .no-track .ensures ∙ sym (f
 
 loop-again : tie.Need-loop-again Inv-loop μ-loop
 loop-again c =
-    let e = c .before .before .track-at .ensures ∙ ap (trackWith _ _) (c .before .before .before .before .loop .inv .1) in
-    (omega arith, c .next-out .ensures ∙ ap nextOut e ∙ sym (outAt-next _ _), c .before .next-found .ensures ∙ found-next _ _ _ e (c .before .before .before .before .loop .inv .2))
+    let e = c .before .before .track-at .ensures ∙ ap (trackWith (c .before .before .before .before .before .before .before .args .d .now) (c .before .before .before .before .loop .j)) (c .before .before .before .before .loop .inv .1) in
+    (omega arith, c .next-out .ensures ∙ ap nextOut e ∙ sym (outAt-next (c .before .before .before .before .before .before .before .args .d .now) (c .before .before .before .before .loop .j)), c .before .next-found .ensures ∙ found-next _ (c .before .before .before .before .before .before .before .args .d .now) (c .before .before .before .before .loop .j) e (c .before .before .before .before .loop .inv .2))
 
 returns : tie.Need-returns Inv-loop μ-loop
 returns c = c .before .loop .inv .2 ∙ ap (found _ _) (let l = c .before .loop .inv .0 in omega arith)

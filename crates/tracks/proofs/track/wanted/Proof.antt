@@ -1,6 +1,6 @@
 -- `tracks::track::wanted` meets its contract: a descriptor that is no track is not wanted, and of a track the test decides that goes with what it is asked for by.
 use mathlib.Core.Path.{sym, ap, _∙_}
-use Rattle.disc.specs.Layout.{isTrack}
+use Rattle.table.specs.Layout.{isTrack}
 use Rattle.tracks.specs.TrackLaws.{wanted-not, wanted-block, wanted-number}
 use borrow.Author.Needs.{needs}
 use Rattle.tracks.proofs.track.wanted.Statement.{statement}
