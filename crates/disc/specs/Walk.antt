@@ -7,7 +7,7 @@ use lib.Dec.{leb, eqb}
 use Rattle.ground.specs.Tests.{_and_, every, if_then_else_}
 use Rattle.table.specs.Layout.{row, A2, B0, C0}
 use Rattle.table.specs.Row.{rowFrom, rowAt, framesAt}
-use Rattle.table.specs.Asked.{kept, a0Kept, a1Kept, extraKept, extraPassed, holds}
+use Rattle.table.specs.Asked.{kept, a0Kept, a1Kept, extraKept, extraPassed, climbs, holds}
 use Rattle.sessions.specs.Session.{first, last, tracks, b0s, size, starts, session}
 use Rattle.disc.specs.declared.walk.Verdict.{Verdict}
 
@@ -20,15 +20,19 @@ unfoldable pub floorAt : List ℕ → ℕ → ℕ → ℕ
 floorAt d floor zero = floor
 floorAt d floor (suc i) = framesAt d (3 + i) + 1
 
--- rules 3, 4, 6 and 7 of the track after i others
+-- rules 3, 4, 6 and 7 of the track after i others, but for its minute: that of the lead-out bounds it
 unfoldable pub trackKept : List ℕ → ℕ → ℕ → ℕ → ℕ → Bool
-trackKept d k f floor i = kept (rowAt d (3 + i)) k (f + i) and holds (rowAt d (3 + i)) (floorAt d floor i)
+trackKept d k f floor i = kept (rowAt d (3 + i)) k (f + i) and climbs (rowAt d (3 + i)) (floorAt d floor i)
 
 -- of all n tracks, and of the lead-out after them
 unfoldable pub tracksKept : List ℕ → ℕ → ℕ → ℕ → ℕ → Bool
 tracksKept d k f n floor = every n (trackKept d k f floor) and holds (rowAt d 2) (floorAt d floor n)
 
--- and of the B0h and the C0h that may stand past the tracks
+-- where the tracks end; 0 where they are not kept
+unfoldable pub tracksEnd : List ℕ → ℕ → ℕ → ℕ → ℕ → ℕ
+tracksEnd d k f n floor = if tracksKept d k f n floor then row * (3 + n) else 0
+
+-- all that is asked of the B0h and the C0h that may stand past the tracks
 unfoldable pub extrasKept : List ℕ → ℕ → Bool
 extrasKept d k = extraPassed (rowAt d (3 + tracks d)) k B0 and extraPassed (rowAt d (3 + tracks d + b0s d)) k C0
 

@@ -12,7 +12,7 @@ use Rattle.ground.specs.Tests.{every, and-head, and-tail, and-both, every-at, e
 use Rattle.table.specs.Layout.{lastSession, descriptors, rows}
 use Rattle.table.specs.Row.{rowAt, framesAt, plain, headed, headA0, headA1, rowTest}
 use Rattle.table.specs.RowLaws.{startOf-frames, headed-A0, headed-A1, rowTest-3, rowTest-5, rowTest-6}
-use Rattle.table.specs.AskedLaws.{holds-low, range-holds, range-least}
+use Rattle.table.specs.AskedLaws.{climbs-low, range-climbs, range-holds, range-least}
 use Rattle.sessions.specs.Session.{first, tracks, count, starts, session, before, follows, inPlace, inOrder}
 use Rattle.sessions.specs.SessionLaws.{isSession-true, inPlace-follows, rowsBefore, starts-rows}
 use Rattle.disc.specs.Rules.{rule1, rule2, eachRow, leadOut, trackStart, outBefore, beginsAfter, rising, rule7, isFit}
@@ -80,7 +80,7 @@ module _ (n : ℕ) (d : List ℕ) (w : walkKept n d ≡ true) where
   walk-begins (suc k) h =
       let o = walk-sound h in
       let v = o .is .order in
-      let r = holds-low (rowAt (session d (suc k)) 3) (framesAt (session d k) 2 + 1) (o .rise 0 (omega arith)) in
+      let r = climbs-low (rowAt (session d (suc k)) 3) (framesAt (session d k) 2 + 1) (o .rise 0 (omega arith)) in
       let l = sound-lead (walk-sound {k = k} (omega arith)) (walk-floor k (omega arith)) in
       let p = startOf-frames (rowAt (session d k) 2) in
       let q = startOf-frames (rowAt (session d (suc k)) 3) in
@@ -132,7 +132,7 @@ module _ {t : List ℕ} (f : Fit t) where
     simple = λ i l. sym (rowTest-3 _) ∙ fit-rule f 3 (f .rule3) h l;
     head0 = sym (headed-A0 _ (fit-listed f h .a0 .point)) ∙ sym (rowTest-5 _) ∙ fit-rule f 5 (f .rule5) {k = k} {i = 0} h (omega arith);
     head1 = sym (headed-A1 _ (fit-listed f h .a1 .point)) ∙ sym (rowTest-5 _) ∙ fit-rule f 5 (f .rule5) {k = k} {i = 1} h (omega arith);
-    rise = λ m l. range-holds _ _ (fit-range f {k = k} {i = 3 + m} h (omega arith) (omega arith)) (fit-rise h m l);
+    rise = λ m l. range-climbs _ _ (fit-range f {k = k} {i = 3 + m} h (omega arith) (omega arith)) (fit-rise h m l);
     lead = range-holds _ _ (fit-range f {k = k} {i = 2} h (omega arith) (omega arith)) (fit-top h);
   }
 

@@ -14,8 +14,8 @@ use Rattle.ground.specs.Tests.{and-head, and-tail, and-both, every-at, every-al
 use Rattle.table.specs.Layout.{pointAt, sessionAt, A0, A1, A2, B0, C0, isExtra}
 use Rattle.table.specs.Row.{rowAt, framesAt, addressAt, names, plain, headA0, headA1, headed, addressed}
 use Rattle.table.specs.RowLaws.{startOf-frames, isExtra-B0, isExtra-C0, headed-A0, headed-A1, headed-other, addressed-of, addressed-other, A0-other, A1-other, B0-other, C0-other}
-use Rattle.table.specs.Asked.{kept, a0Kept, a1Kept, extraKept, extraPassed, holds}
-use Rattle.table.specs.AskedLaws.{kept-names, kept-plain, kept-both, extraPassed-kept, extraPassed-other, extraKept-number, extraKept-plain, extraKept-both, holds-low, holds-isMsf}
+use Rattle.table.specs.Asked.{kept, a0Kept, a1Kept, extraKept, extraPassed, climbs, holds}
+use Rattle.table.specs.AskedLaws.{kept-names, kept-plain, kept-both, extraPassed-kept, extraPassed-other, extraKept-number, extraKept-plain, extraKept-both, climbs-low, climbs-isMsf, holds-climbs, holds-low, holds-most}
 use Rattle.sessions.specs.Session.{first, last, tracks, b0s, c0s, count, listed, numbered, session}
 use Rattle.sessions.specs.SessionLaws.{IsSession, one-is, extras-each, names-parts, listed-parts}
 use Rattle.disc.specs.Rules.{trackStart, rises}
@@ -40,7 +40,7 @@ pub record Sound (k : ℕ) (s : List ℕ) (floor : ℕ) : Type 0 where
   pub simple : (i : ℕ) → i < count s → plain (rowAt s i) ≡ true
   pub head0 : headA0 (rowAt s 0) ≡ true
   pub head1 : headA1 (rowAt s 1) ≡ true
-  pub rise : (m : ℕ) → m < tracks s → holds (rowAt s (3 + m)) (floorAt s floor m) ≡ true
+  pub rise : (m : ℕ) → m < tracks s → climbs (rowAt s (3 + m)) (floorAt s floor m) ≡ true
   pub lead : holds (rowAt s 2) (floorAt s floor (tracks s)) ≡ true
 
 -- what holds of A0, A1, A2, each track, and each descriptor past them holds of each
@@ -178,27 +178,46 @@ module _ {k : ℕ} {s : List ℕ} {floor : ℕ} (o : Sound k s floor) where
     unfolding floorAt
     sound-floor zero l = b
     sound-floor (suc m) l =
-        let r = holds-low (rowAt s (3 + m)) (floorAt s floor m) (o .rise m (omega arith)) in let u = sound-floor m (omega arith) in omega arith
+        let r = climbs-low (rowAt s (3 + m)) (floorAt s floor m) (o .rise m (omega arith)) in let u = sound-floor m (omega arith) in omega arith
 
     -- and so no lead-out
     pub sound-lead : 150 ≤ framesAt s 2
     sound-lead = let r = holds-low (rowAt s 2) (floorAt s floor (tracks s)) (o .lead) in let u = sound-floor (tracks s) (omega arith) in omega arith
 
+    -- each track lies below the floors after it
+    sound-climbs : (i m : ℕ) → i < m → m ≤ tracks s → framesAt s (3 + i) < floorAt s floor m
+    unfolding floorAt
+    sound-climbs i zero l h = absurd (omega arith)
+    sound-climbs i (suc m) l h =
+        let r = climbs-low (rowAt s (3 + m)) (floorAt s floor m) (o .rise m (omega arith)) in
+        elim (ℕ-discrete i m) [
+          | yes e ↦ rw e (omega arith)
+          | no e ↦ (let u = sound-climbs i m (omega arith) (omega arith) in omega arith)
+        ]
+
+    -- and so below 99:59:74, as the lead-out does
+    sound-most : (i : ℕ) → i < tracks s → framesAt s (3 + i) ≤ 449999
+    sound-most i l =
+        let u = sound-climbs i (tracks s) l (omega arith) in
+        let v = holds-low (rowAt s 2) (floorAt s floor (tracks s)) (o .lead) in
+        let w = holds-most (rowAt s 2) (floorAt s floor (tracks s)) (o .lead) in
+        omega arith
+
     pub sound-addressed : (i : ℕ) → i < count s → addressed (rowAt s i) ≡ true
     sound-addressed i l = elim (sound-kind l) [
       | isA0 e p ↦ addressed-other (rowAt s i) A0 p A0-other
       | isA1 e p ↦ addressed-other (rowAt s i) A1 p A1-other
-      | isA2 e p ↦ addressed-of (rowAt s i) (rw e (holds-isMsf (rowAt s 2) (floorAt s floor (tracks s)) (sound-floor (tracks s) (omega arith)) (o .lead)))
-      | isTrackAfter m e g p ↦ addressed-of (rowAt s i) (rw e (holds-isMsf (rowAt s (3 + m)) (floorAt s floor m) (sound-floor m (omega arith)) (o .rise m g)))
+      | isA2 e p ↦ addressed-of (rowAt s i) (rw e (climbs-isMsf (rowAt s 2) (floorAt s floor (tracks s)) (sound-floor (tracks s) (omega arith)) (holds-most _ _ (o .lead)) (holds-climbs _ _ (o .lead))))
+      | isTrackAfter m e g p ↦ addressed-of (rowAt s i) (rw e (climbs-isMsf (rowAt s (3 + m)) (floorAt s floor m) (sound-floor m (omega arith)) (sound-most m g) (o .rise m g)))
       | isB0 e p ↦ addressed-other (rowAt s i) B0 p B0-other
       | isC0 e p ↦ addressed-other (rowAt s i) C0 p C0-other
     ]
 
     -- a track starts before what stands past its frame
-    sound-before : (i j : ℕ) → i < tracks s → holds (rowAt s j) (floorAt s floor (i + 1)) ≡ true → trackStart s i < addressAt s j
+    sound-before : (i j : ℕ) → i < tracks s → climbs (rowAt s j) (floorAt s floor (i + 1)) ≡ true → trackStart s i < addressAt s j
     sound-before i j l h =
-        let u = holds-low (rowAt s j) (floorAt s floor (i + 1)) h in
-        let v = holds-low (rowAt s (3 + i)) (floorAt s floor i) (o .rise i l) in
+        let u = climbs-low (rowAt s j) (floorAt s floor (i + 1)) h in
+        let v = climbs-low (rowAt s (3 + i)) (floorAt s floor i) (o .rise i l) in
         let w = sound-floor i (omega arith) in
         let e = floorAt-next s floor i in
         let p = startOf-frames (rowAt s j) in
@@ -213,4 +232,4 @@ module _ {k : ℕ} {s : List ℕ} {floor : ℕ} (o : Sound k s floor) where
         and-both _ _
         (every-all (tracks s - 1) (λ i. ltb (trackStart s i) (trackStart s (i + 1)))
         (λ i l. lt-ltb _ _ (sound-before i (3 + (i + 1)) (omega arith) (o .rise (i + 1) (omega arith)))))
-        (lt-ltb _ _ (sound-before (tracks s - 1) 2 (omega arith) (ap (λ (x : ℕ). holds (rowAt s 2) (floorAt s floor x)) (sym e) ∙ o .lead)))
+        (lt-ltb _ _ (sound-before (tracks s - 1) 2 (omega arith) (ap (λ (x : ℕ). climbs (rowAt s 2) (floorAt s floor x)) (sym e) ∙ holds-climbs _ _ (o .lead))))

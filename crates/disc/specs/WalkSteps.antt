@@ -8,62 +8,94 @@ use native.Mathlib.Numerals.{add-one}
 use native.Mathlib.Nat.{add-zero}
 use native.Mathlib.Decide.{ℕ-discrete}
 use borrow.Author.Tests.{le-leb, eq-eqb, eqb-true, ne-eqb}
-use lib.ListN.{length, drop}
+use lib.ListN.{length, getD, drop, List·getD-eq-default}
 use lib.Dec.{eqb}
 use Rattle.ground.specs.Tests.{_and_, if_then_else_, when, unless, every, and-on, and-off, and-late, and-both, and-head, and-tail, and-with, every-none, every-more, every-breaks}
 use Rattle.table.specs.Layout.{row, pointAt, B0, C0}
-use Rattle.table.specs.Row.{rowFrom, rowAt, framesAt}
-use Rattle.table.specs.Asked.{kept, extraKept, extraPassed, holds}
+use Rattle.table.specs.Row.{rowFrom, rowAt, framesOf, framesAt, names}
+use Rattle.table.specs.declared.row.Row.{Row}
+use Rattle.table.specs.Asked.{kept, extraKept, extraPassed, climbs, holds}
 use Rattle.table.specs.AskedLaws.{extraPassed-kept, extraPassed-other}
 use Rattle.sessions.specs.Session.{first, last, tracks, one, b0s, c0s, size, starts, session}
 use Rattle.sessions.specs.SessionLaws.{one-is, one-not, size-heads, size-whole, Walked, walked-none, walked-next, walked-all}
-use Rattle.disc.specs.Walk.{headsKept, floorAt, trackKept, tracksKept, extrasKept, sessionKept, extraEnd, extrasEnd, sessionEnd, floorOf, nextOf, stepKept, walkKept, verdict}
+use Rattle.disc.specs.Walk.{headsKept, floorAt, trackKept, tracksKept, tracksEnd, extrasKept, sessionKept, extraEnd, extrasEnd, sessionEnd, floorOf, nextOf, stepKept, walkKept, verdict}
 use Rattle.disc.specs.declared.walk.Verdict.{Verdict}
 use Rattle.disc.specs.WalkLaws.{Sound, floorAt-next, floorOf-next, sessionKept-sound}
 
 -- ---- a session's tracks
 
--- i of n tracks are passed, and the next may start at `low` or later
-pub record Climbed (d : List ℕ) (k f n floor i low : ℕ) : Type 0 where
-  pub turns : i ≤ n
-  pub passed : every i (trackKept d k f floor) ≡ true
-  pub least : low ≡ floorAt d floor i
+-- tracks f to p - 1 of those up to l are passed: the next stands at byte `at`, and may start at `low` or later
+pub record Climbed (d : List ℕ) (k f l floor p at low : ℕ) : Type 0 where
+  pub order : f ≤ p
+  pub turns : p ≤ l + 1
+  pub passed : every (p - f) (trackKept d k f floor) ≡ true
+  pub place : at ≡ row * (3 + (p - f))
+  pub within : at ≤ length d
+  pub least : low ≡ floorAt d floor (p - f)
 
-pub climbed-none : (d : List ℕ) (k f n floor : ℕ) → Climbed d k f n floor 0 floor
+pub climbed-none : (d : List ℕ) (k f l floor : ℕ) → f ≤ l → 3 * row ≤ length d → Climbed d k f l floor f (3 * row) floor
 unfolding floorAt
-climbed-none d k f n floor = record { turns = omega arith; passed = every-none _; least = refl }
+climbed-none d k f l floor h w =
+    let z : f - f ≡ 0 = omega arith in
+    record { order = omega arith; turns = omega arith; passed = rw z (every-none _); place = rw z; within = w; least = rw z }
 
-module _ {d : List ℕ} {k f n floor i low : ℕ} (c : Climbed d k f n floor i low) where
-  module _ (l : i < n) where
-    pub climbed-next :
-        {s : ℕ} → kept (rowAt d (3 + i)) k (f + i) ≡ true → holds (rowAt d (3 + i)) low ≡ true → s ≡ framesAt d (3 + i) → Climbed d k f n floor (i + 1) (s + 1)
-    unfolding trackKept
-    climbed-next {s} h g e = record {
-      turns = omega arith;
-      passed = every-more i (trackKept d k f floor) (c .passed) (and-both _ _ h (rw (c .least) at g));
-      least = ap (λ (x : ℕ). x + 1) e ∙ sym (floorAt-next d floor i);
-    }
+module _ {d : List ℕ} {k f l floor p at low : ℕ} (c : Climbed d k f l floor p at low) where
+  -- the next is descriptor p - f of the tracks
+  next-row : {r : Row} → r ≡ rowFrom d at → r ≡ rowAt d (3 + (p - f))
+  next-row e = e ∙ ap (rowFrom d) (c .place)
 
-    -- the first track that fails decides
-    climbed-fails : false ≡ trackKept d k f floor i → false ≡ tracksKept d k f n floor
-    unfolding tracksKept
-    climbed-fails h = and-off _ _ (sym (every-breaks n (trackKept d k f floor) i l (sym h)))
+  next-kept : {r : Row} {b : Bool} → r ≡ rowFrom d at → kept r k p ≡ b → kept (rowAt d (3 + (p - f))) k (f + (p - f)) ≡ b
+  next-kept e h =
+      ap (kept (rowAt d (3 + (p - f))) k) (let o = c .order in omega arith) ∙ ap (λ (x : Row). kept x k p) (sym (next-row e)) ∙ h
 
-    pub climbed-off : kept (rowAt d (3 + i)) k (f + i) ≡ false → false ≡ tracksKept d k f n floor
-    unfolding trackKept
-    climbed-off h = climbed-fails (and-off _ _ h)
+  pub climbed-next :
+      {r : Row} {s : ℕ} → p ≤ l → at + row ≤ length d → r ≡ rowFrom d at → kept r k p ≡ true → climbs r low ≡ true → s ≡ framesOf r
+      → Climbed d k f l floor (p + 1) (at + row) (s + 1)
+  unfolding trackKept
+  climbed-next {r} {s} i w e h g q =
+      let o = c .order in
+      let t = c .place in
+      let n : p + 1 - f ≡ p - f + 1 = omega arith in
+      record {
+        order = omega arith;
+        turns = omega arith;
+        passed = rw n (every-more (p - f) (trackKept d k f floor) (c .passed)
+            (and-both _ _ (next-kept e h) (rw (next-row e, c .least) at g)));
+        place = omega arith;
+        within = w;
+        least = rw n (ap (λ (x : ℕ). x + 1) (q ∙ ap framesOf (next-row e)) ∙ sym (floorAt-next d floor (p - f)));
+      }
 
-    pub climbed-out : holds (rowAt d (3 + i)) low ≡ false → false ≡ tracksKept d k f n floor
-    unfolding trackKept
-    climbed-out h = climbed-fails (and-late _ _ (sym (rw (c .least) at h)))
+  -- the first track that fails decides
+  climbed-fails : p ≤ l → trackKept d k f floor (p - f) ≡ false → 0 ≡ tracksEnd d k f (l + 1 - f) floor
+  unfolding tracksEnd tracksKept
+  climbed-fails i h =
+      let o = c .order in
+      sym (unless _ _ _ (sym (and-off _ _ (sym (every-breaks (l + 1 - f) (trackKept d k f floor) (p - f) (omega arith) h)))))
+
+  pub climbed-off : {r : Row} → p ≤ l → r ≡ rowFrom d at → kept r k p ≡ false → 0 ≡ tracksEnd d k f (l + 1 - f) floor
+  unfolding trackKept
+  climbed-off i e h = climbed-fails i (sym (and-off _ _ (next-kept e h)))
+
+  pub climbed-out : {r : Row} → p ≤ l → r ≡ rowFrom d at → climbs r low ≡ false → 0 ≡ tracksEnd d k f (l + 1 - f) floor
+  unfolding trackKept
+  climbed-out i e h = climbed-fails i (sym (and-late _ _ (sym (rw (next-row e, c .least) at h))))
+
+  -- past the end stands no descriptor of session k
+  pub climbed-short : p ≤ l → length d ≤ at → 1 ≤ k → 0 ≡ tracksEnd d k f (l + 1 - f) floor
+  unfolding kept names
+  climbed-short i w g =
+      climbed-off i refl (sym (and-off _ _ (sym (and-off _ _ (ne-eqb (getD d at 0) k
+      (λ e. let z = List·getD-eq-default d 0 {n = at} w in omega arith))))))
 
   -- all are passed: what is left to test is the lead-out
-  pub climbed-end : n ≤ i → holds (rowAt d 2) low ≡ tracksKept d k f n floor
-  unfolding tracksKept
-  climbed-end l =
+  pub climbed-end : l < p → {b : Bool} → holds (rowAt d 2) low ≡ b → (if b then at else 0) ≡ tracksEnd d k f (l + 1 - f) floor
+  unfolding tracksEnd tracksKept
+  climbed-end i {b} h =
       let t = c .turns in
-      let q : i ≡ n = omega arith in
-      and-on _ _ (rw q at (c .passed)) (rw (c .least, q))
+      let n : p - f ≡ l + 1 - f = omega arith in
+      ap (λ (x : Bool). if x then at else 0) (sym h ∙ and-on _ _ (rw n at (c .passed)) (rw (c .least, n)))
+      ∙ ap (λ (x : ℕ). if tracksKept d k f (l + 1 - f) floor then x else 0) (c .place ∙ ap (λ (x : ℕ). row * (3 + x)) n)
 
 -- ---- the B0h and the C0h
 
@@ -112,14 +144,35 @@ sessionEnd-not k d next floor n = decided (sessionKept k d floor and eqb (first 
     decided true e = absurd (n (and-head _ _ e) (eqb-true _ _ (and-tail _ _ e)))
     decided false e = sym (unless _ _ _ e)
 
+-- the tracks' end tells whether they are kept
+tracksEnd-told :
+    (d : List ℕ) (k f n floor : ℕ) {e : ℕ} → e ≡ tracksEnd d k f n floor → (e ≡ 0 → ⊥) → (tracksKept d k f n floor ≡ true) × (e ≡ row * (3 + n))
+unfolding tracksEnd
+tracksEnd-told d k f n floor {e} h z = decided (tracksKept d k f n floor) refl
+  where
+    decided : (b : Bool) → tracksKept d k f n floor ≡ b → (tracksKept d k f n floor ≡ true) × (e ≡ row * (3 + n))
+    decided true q = (q, h ∙ when _ _ _ q)
+    decided false q = absurd (z (h ∙ unless _ _ _ q))
+
+pub tracksEnd-none : (d : List ℕ) (k f n floor : ℕ) → tracksEnd d k f n floor ≡ 0 → tracksKept d k f n floor ≡ false
+unfolding tracksEnd
+tracksEnd-none d k f n floor h = decided (tracksKept d k f n floor) refl
+  where
+    decided : (b : Bool) → tracksKept d k f n floor ≡ b → tracksKept d k f n floor ≡ false
+    decided true q = let z = sym (when _ _ _ q) ∙ h in absurd (omega arith)
+    decided false q = q
+
 -- all but the last test hold: what is left are the B0h and the C0h
 pub sessionEnd-on :
-    (k : ℕ) (d : List ℕ) (next floor : ℕ) → length d % row ≡ 0 → 1 ≤ first d → first d ≡ next → first d ≤ last d → last d ≤ 99
-    → row * (3 + tracks d) ≤ length d → headsKept d k ≡ true → tracksKept d k (first d) (tracks d) floor ≡ true
-    → extrasEnd d k (row * (3 + tracks d)) ≡ sessionEnd k d next floor
+    (k : ℕ) (d : List ℕ) (next floor : ℕ) {end : ℕ} → length d % row ≡ 0 → 1 ≤ first d → first d ≡ next → first d ≤ last d → last d ≤ 99
+    → headsKept d k ≡ true → end ≡ tracksEnd d k (first d) (tracks d) floor → (end ≡ 0 → ⊥) → end ≤ length d
+    → extrasEnd d k end ≡ sessionEnd k d next floor
 unfolding sessionEnd sessionKept
-sessionEnd-on k d next floor w a n c e l h t =
-    extrasEnd-rows d k
+sessionEnd-on k d next floor {end} w a n c e h g z b =
+    let u = tracksEnd-told d k (first d) (tracks d) floor g z in
+    let t = u .0 in
+    let l : row * (3 + tracks d) ≤ length d = let q = u .1 in omega arith in
+    ap (extrasEnd d k) (u .1) ∙ extrasEnd-rows d k
     ∙ ap (λ (x : Bool). if x then size d else 0)
     (and-on _ _ (le-leb _ _ (size-whole d w l)) (and-on _ _ (le-leb _ _ a) (and-on _ _ (le-leb _ _ c) (and-on _ _ (le-leb _ _ e)
     (and-on _ _ h (and-on _ _ t refl)))))

@@ -1,5 +1,5 @@
 // What commands need of a fit table, read off it once.
-use crate::row::row_at;
+use crate::rows::row_at;
 use crate::rules::fault;
 use crate::walk::judge;
 use table::layout::HEADER;

@@ -1,6 +1,6 @@
 // A lent disc table: fitness, its sessions' parts, and what commands need of it.
 pub mod disc;
 pub mod part;
-mod row;
+mod rows;
 pub mod rules;
 mod walk;

@@ -1,5 +1,5 @@
 // Rules 1 to 7, each over the whole table, and the first that is broken.
-use crate::row::row_at;
+use crate::rows::row_at;
 use ground::number::wide;
 use ground::number::word16;
 use sessions::session::in_order;

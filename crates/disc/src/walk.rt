@@ -1,11 +1,12 @@
 // One walk over the descriptors that decides fitness: each is read once and tested for all that rules 3 to 7 ask of it as it is passed.
-use crate::row::row_at;
-use crate::row::row_from;
+use crate::rows::row_at;
+use crate::rows::row_from;
 use crate::rules::rule1;
 use crate::rules::rule2;
 use ground::number::wide;
 use table::asked::a0_kept;
 use table::asked::a1_kept;
+use table::asked::climbs;
 use table::asked::extra_kept;
 use table::asked::holds;
 use table::asked::kept;
@@ -25,7 +26,7 @@ ghost use Rattle.table.specs.Layout.{row};
 ghost use Rattle.sessions.specs.Session.{starts};
 ghost use Rattle.disc.specs.Rules.{isFit};
 ghost use Rattle.disc.specs.Disc.{lastAt};
-ghost use Rattle.disc.specs.Walk.{headsKept, tracksKept, extraEnd, extrasEnd, sessionEnd, walkKept, verdict};
+ghost use Rattle.disc.specs.Walk.{headsKept, tracksEnd, extraEnd, extrasEnd, sessionEnd, walkKept, verdict};
 
 // 00:02:00, before which no track starts.
 const FLOOR: usize = 150;
@@ -59,29 +60,36 @@ fn heads_kept(d: &[u8], k: u8) -> bool
     false
 }
 
-// All that is asked of the n tracks from number f on, the first of which starts at `floor` or later, and of the lead-out after them.
-fn tracks_kept(d: &[u8], k: u8, f: u8, n: usize, floor: usize) -> bool
-    requires { ⌜ (row * (3 + n) ≤ length (now d)) × (f + n ≤ 200) ⌝ }
-    ensures { λ r. ⌜ r ≡ tracksKept (now (d .entry)) k f n floor ⌝ }
+// Where the tracks f to l end, the first of which starts at `floor` or later: 0 where one of them or the lead-out after them is not kept.
+fn tracks_end(d: &[u8], k: u8, f: u8, l: u8, floor: usize) -> usize
+    requires { ⌜ (length (now d) % row ≡ 0) × (3 * row ≤ length (now d)) × (1 ≤ k) × (f ≤ l) × (l ≤ 99) ⌝ }
+    ensures same { λ r. ⌜ r ≡ tracksEnd (now (d .entry)) k f (l + 1 - f) floor ⌝ }
+    ensures within { λ r. ⌜ (r % row ≡ 0) × (r ≤ length (now (d .entry))) ⌝ }
 {
-    let mut i = 0;
+    let mut at = 3 * ROW;
     let mut p = f;
     let mut low = floor;
-    while i < n {
-        let r = row_at(d, 3 + i);
+    while p <= l {
+        if d.len() <= at {
+            return 0;
+        }
+        let r = row_from(d, at);
         if kept(r, k, p) {
-            if holds(r, low) {
+            if climbs(r, low) {
                 low = frames_of(r) + 1;
+                at += ROW;
                 p += 1;
-                i += 1;
             } else {
-                return false;
+                return 0;
             }
         } else {
-            return false;
+            return 0;
         }
     }
-    holds(row_at(d, 2), low)
+    if holds(row_at(d, 2), low) {
+        return at;
+    }
+    0
 }
 
 // Where a descriptor of session k with POINT p ends that may stand at byte `at`; 0 where it is not kept.
@@ -117,7 +125,7 @@ fn extras_end(d: &[u8], k: u8, at: usize) -> usize
 
 // Where the session k ends that d begins with: 0 where it is not kept, or does not begin with track `next`.
 fn session_end(d: &[u8], k: u8, next: usize, floor: usize) -> usize
-    requires { ⌜ length (now d) % row ≡ 0 ⌝ }
+    requires { ⌜ (length (now d) % row ≡ 0) × (1 ≤ k) ⌝ }
     ensures { λ r. ⌜ r ≡ sessionEnd k (now (d .entry)) next floor ⌝ }
 {
     if d.len() < 3 * ROW {
@@ -137,16 +145,12 @@ fn session_end(d: &[u8], k: u8, next: usize, floor: usize) -> usize
     if 99 < l {
         return 0;
     }
-    let n = wide(l) + 1 - wide(f);
-    let end = ROW * (3 + n);
-    if d.len() < end {
-        return 0;
-    }
     if heads_kept(d, k) {
-        if tracks_kept(d, k, f, n, floor) {
-            return extras_end(d, k, end);
+        let end = tracks_end(d, k, f, l, floor);
+        if end == 0 {
+            return 0;
         }
-        return 0;
+        return extras_end(d, k, end);
     }
     0
 }

@@ -26,6 +26,10 @@ extraKept r k = eqb (r .session) k and free r
 unfoldable pub extraPassed : Row → ℕ → ℕ → Bool
 extraPassed r k p = if eqb (r .point) p then extraKept r k else true
 
--- it holds an address of rule 6 that is `low` or later, which is 00:02:00 or later itself
+-- it holds an address that is `low` or later, with seconds to 59 and frames to 74
+unfoldable pub climbs : Row → ℕ → Bool
+climbs r low = leb (r .psec) 59 and leb (r .pframe) 74 and leb low (framesOf r)
+
+-- and minutes to 99: an address of rule 6, where `low` is 00:02:00 or later itself
 unfoldable pub holds : Row → ℕ → Bool
-holds r low = leb (r .pmin) 99 and leb (r .psec) 59 and leb (r .pframe) 74 and leb low (framesOf r)
+holds r low = leb (r .pmin) 99 and climbs r low

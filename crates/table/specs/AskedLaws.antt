@@ -11,7 +11,7 @@ use Rattle.address.specs.Laws.{InRange}
 use Rattle.table.specs.Layout.{B0, C0, isExtra}
 use Rattle.table.specs.Row.{framesOf, names, plain}
 use Rattle.table.specs.RowLaws.{plain-free, plain-simple}
-use Rattle.table.specs.Asked.{kept, extraKept, extraPassed, holds}
+use Rattle.table.specs.Asked.{kept, extraKept, extraPassed, climbs, holds}
 use Rattle.table.specs.declared.row.Row.{Row}
 
 -- ---- kept, of a POINT that is neither B0h nor C0h: A0h, A1h, A2h and the tracks' numbers are lower
@@ -55,25 +55,45 @@ pub extraKept-both : (r : Row) (k : ℕ) → isExtra (r .point) ≡ true → eqb
 unfolding extraKept
 extraKept-both r k e h g = and-both _ _ h (sym (plain-free r e) ∙ g)
 
--- ---- holds
+-- ---- climbs and holds
+
+pub climbs-low : (r : Row) (low : ℕ) → climbs r low ≡ true → low ≤ framesOf r
+unfolding climbs
+climbs-low r low h = leb-true _ _ (and-tail _ _ (and-tail _ _ h))
+
+pub holds-climbs : (r : Row) (low : ℕ) → holds r low ≡ true → climbs r low ≡ true
+unfolding holds
+holds-climbs r low h = and-tail _ _ h
 
 pub holds-low : (r : Row) (low : ℕ) → holds r low ≡ true → low ≤ framesOf r
-unfolding holds
-holds-low r low h = leb-true _ _ (and-tail _ _ (and-tail _ _ (and-tail _ _ h)))
+holds-low r low h = climbs-low r low (holds-climbs r low h)
 
--- at 00:02:00 or later it is an address of rule 6
-pub holds-isMsf : (r : Row) (low : ℕ) → 150 ≤ low → holds r low ≡ true → isMsf (r .pmin) (r .psec) (r .pframe) ≡ true
-unfolding holds framesOf isMsf
-holds-isMsf r low b h =
+-- its frames are those of 99:59:74 at most
+pub holds-most : (r : Row) (low : ℕ) → holds r low ≡ true → framesOf r ≤ 449999
+unfolding holds climbs framesOf
+holds-most r low h =
+    let m = leb-true (r .pmin) 99 (and-head _ _ h) in
+    let s = leb-true (r .psec) 59 (and-head _ _ (and-tail _ _ h)) in
+    let f = leb-true (r .pframe) 74 (and-head _ _ (and-tail _ _ (and-tail _ _ h))) in
+    omega arith
+
+-- at 00:02:00 or later, and no later than that, it is an address of rule 6
+pub climbs-isMsf :
+    (r : Row) (low : ℕ) → 150 ≤ low → framesOf r ≤ 449999 → climbs r low ≡ true → isMsf (r .pmin) (r .psec) (r .pframe) ≡ true
+unfolding climbs framesOf isMsf
+climbs-isMsf r low b m h =
     let u = and-tail _ _ h in
-    let v = and-tail _ _ u in
-    let l = leb-true low (frames (r .pmin) (r .psec) (r .pframe)) (and-tail _ _ v) in
-    and-both _ _ (and-head _ _ h) (and-both _ _ (and-head _ _ u) (and-both _ _ (and-head _ _ v) (le-leb 150 (frames (r .pmin) (r .psec) (r .pframe)) (omega arith))))
+    let l = leb-true low (frames (r .pmin) (r .psec) (r .pframe)) (and-tail _ _ u) in
+    and-both _ _ (le-leb (r .pmin) 99 (omega arith)) (and-both _ _ (and-head _ _ h) (and-both _ _ (and-head _ _ u)
+    (le-leb 150 (frames (r .pmin) (r .psec) (r .pframe)) (omega arith))))
+
+pub range-climbs : (r : Row) (low : ℕ) → InRange (r .pmin) (r .psec) (r .pframe) → low ≤ framesOf r → climbs r low ≡ true
+unfolding climbs
+range-climbs r low i l = and-both _ _ (le-leb _ _ (i .second)) (and-both _ _ (le-leb _ _ (i .frame)) (le-leb _ _ l))
 
 pub range-holds : (r : Row) (low : ℕ) → InRange (r .pmin) (r .psec) (r .pframe) → low ≤ framesOf r → holds r low ≡ true
 unfolding holds
-range-holds r low i l =
-    and-both _ _ (le-leb _ _ (i .minute)) (and-both _ _ (le-leb _ _ (i .second)) (and-both _ _ (le-leb _ _ (i .frame)) (le-leb _ _ l)))
+range-holds r low i l = and-both _ _ (le-leb _ _ (i .minute)) (range-climbs r low i l)
 
 pub range-least : (r : Row) → InRange (r .pmin) (r .psec) (r .pframe) → 150 ≤ framesOf r
 unfolding framesOf

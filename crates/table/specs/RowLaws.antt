@@ -2,13 +2,14 @@
 use mathlib.Core.Path.{_≡_, refl, sym, ap, _∙_}
 use mathlib.Core.Bool.{Bool, true, false}
 use mathlib.Core.List.{List}
-use Prim.Native.Nat.{ℕ, _+_, _-_, _*_, _≤_, _<_}
+use Prim.Native.Nat.{ℕ, _+_, _-_, _*_, _%_, _≤_, _<_}
 use native.Mathlib.Omega.{arith}
 use native.Mathlib.Nat.{add-zero}
-use borrow.Author.Tests.{le-leb, eq-eqb, ne-eqb}
+use native.Mathlib.Decide.{ℕ-discrete}
+use borrow.Author.Tests.{le-leb, lt-leb, eq-eqb, ne-eqb}
 use lib.ListN.{length, getD, take, drop, length-drop}
 use lib.Seq.{getD-drop, getD-take, length-take-le}
-use lib.Dec.{eqb}
+use lib.Dec.{leb, eqb}
 use Rattle.ground.specs.Tests.{_and_, _or_, if_then_else_, and-both, or-left, or-right, or-else, when, unless}
 use Rattle.address.specs.Address.{isMsf}
 use Rattle.address.specs.Laws.{InRange, isMsf-range}
@@ -75,6 +76,23 @@ unfolding rowTest if_then_else_
 rowTest-3 r = refl
 
 -- ---- rule 5
+
+-- 00h, 10h and 20h are the multiples of 10h up to 20h
+pub types-most : (s : ℕ) → s % 16 ≡ 0 → leb s 0x20 ≡ (eqb s 0x00 or eqb s 0x10 or eqb s 0x20)
+types-most s h = elim (ℕ-discrete s 0x00) [
+  | yes a ↦ le-leb s 0x20 (omega arith) ∙ sym (or-left _ _ (eq-eqb _ _ a))
+  | no a ↦ elim (ℕ-discrete s 0x10) [
+    | yes b ↦ le-leb s 0x20 (omega arith) ∙ sym (or-right _ _ (or-left _ _ (eq-eqb _ _ b)))
+    | no b ↦ elim (ℕ-discrete s 0x20) [
+      | yes c ↦ le-leb s 0x20 (omega arith) ∙ sym (or-right _ _ (or-right _ _ (eq-eqb _ _ c)))
+      | no c ↦ lt-leb s 0x20 (omega arith) ∙ sym (or-else _ _ (ne-eqb _ _ a) ∙ or-else _ _ (ne-eqb _ _ b) ∙ ne-eqb _ _ c)
+    ]
+  ]
+]
+
+pub types-not : (s : ℕ) → (s % 16 ≡ 0 → ⊥) → (eqb s 0x00 or eqb s 0x10 or eqb s 0x20) ≡ false
+types-not s n =
+    or-else _ _ (ne-eqb s 0x00 (λ e. n (omega arith))) ∙ or-else _ _ (ne-eqb s 0x10 (λ e. n (omega arith))) ∙ ne-eqb s 0x20 (λ e. n (omega arith))
 
 pub headed-A0 : (r : Row) → r .point ≡ A0 → headed r ≡ headA0 r
 unfolding headed

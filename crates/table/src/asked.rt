@@ -8,7 +8,7 @@ use crate::row::head_a0;
 use crate::row::head_a1;
 use crate::row::simple;
 ghost use mathlib.Core.Path.{_≡_};
-ghost use Rattle.table.specs.Asked.{kept, a0Kept, a1Kept, extraKept, holds};
+ghost use Rattle.table.specs.Asked.{kept, a0Kept, a1Kept, extraKept, climbs, holds};
 
 // It is of session k, has POINT p, and has ADR 1, TNO 0 and ZERO 0.
 pub fn kept(r: Row, k: u8, p: u8) -> bool
@@ -53,13 +53,10 @@ pub fn extra_kept(r: Row, k: u8) -> bool
     false
 }
 
-// It holds an address of rule 6 that is `low` or later.
-pub fn holds(r: Row, low: usize) -> bool
-    ensures { λ b. ⌜ b ≡ holds r low ⌝ }
+// It holds an address that is `low` or later, with seconds and frames of rule 6: its minute is one if a later address's is.
+pub fn climbs(r: Row, low: usize) -> bool
+    ensures { λ b. ⌜ b ≡ climbs r low ⌝ }
 {
-    if 99 < r.pmin {
-        return false;
-    }
     if 59 < r.psec {
         return false;
     }
@@ -67,4 +64,14 @@ pub fn holds(r: Row, low: usize) -> bool
         return false;
     }
     low <= frames_of(r)
+}
+
+// It holds an address of rule 6 that is `low` or later.
+pub fn holds(r: Row, low: usize) -> bool
+    ensures { λ b. ⌜ b ≡ holds r low ⌝ }
+{
+    if 99 < r.pmin {
+        return false;
+    }
+    climbs(r, low)
 }

@@ -120,13 +120,10 @@ pub(crate) fn head_a0(r: Row) -> bool
     ensures { λ b. ⌜ b ≡ headA0 r ⌝ }
 {
     if r.pframe == 0 {
-        if r.psec == 0x00 {
-            return true;
+        if wide(r.psec) % 16 == 0 {
+            return r.psec <= 0x20;
         }
-        if r.psec == 0x10 {
-            return true;
-        }
-        return r.psec == 0x20;
+        return false;
     }
     false
 }

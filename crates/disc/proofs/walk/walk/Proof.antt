@@ -34,7 +34,7 @@ loop-holds : tie.Need-loop-holds Inv-loop μ-loop
 loop-holds c = trod-none _ _ (c .byte-at .ensures .same)
 
 session-end-requires : tie.Need-session-end-requires Inv-loop μ-loop
-session-end-requires c κs = rw rest-all (let p = c .before .before .before .before .before .pre in let w = c .before .before .loop .inv .walked in let e = starts-rows (c .before .before .before .before .before .args .d .now) (c .before .before .loop .k) in let l = length-drop (c .before .before .loop .at) (c .before .before .before .before .before .args .d .now) in omega arith)
+session-end-requires c κs = rw rest-all (let p = c .before .before .before .before .before .pre in let w = c .before .before .loop .inv .walked in let e = starts-rows (c .before .before .before .before .before .args .d .now) (c .before .before .loop .k) in let l = length-drop (c .before .before .loop .at) (c .before .before .before .before .before .args .d .now) in (omega arith, omega arith))
 
 returns : tie.Need-returns Inv-loop μ-loop
 returns c = c .unfit .ensures ∙ verdict-no _ (trod-breaks (c .before .before .before .before .before .loop .inv) (c .before .before .before .before .loop-test .taken) (sym (rw rest-all at (c .before .before .session-end .ensures)) ∙ c .before .if1 .taken))

@@ -1,9 +1,9 @@
--- `disc::row::row_from` meets its contract: the eleven bytes lent are the descriptor's.
+-- `disc::rows::row_from` meets its contract: the eleven bytes lent are the descriptor's.
 use mathlib.Core.Path.{_∙_}
 use Rattle.table.specs.RowLaws.{rowOf-part}
 use borrow.Author.Needs.{needs}
-use Rattle.disc.proofs.row.row_from.Statement.{statement}
-use Rattle.disc.proofs.row.row_from.Tie as tie
+use Rattle.disc.proofs.rows.row_from.Statement.{statement}
+use Rattle.disc.proofs.rows.row_from.Tie as tie
 
 returns : tie.Need-returns
 returns c = c .row-of .ensures ∙ rowOf-part (c .before .before .before .args .d .now) (c .before .before .before .args .at) (c .before .before .before .pre)
