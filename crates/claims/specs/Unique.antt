@@ -36,7 +36,7 @@ use Rattle.disc.specs.declared.disc.Reading.{Reading}
 use Rattle.table.specs.declared.row.Row.{Row}
 use Rattle.table.specs.Layout.{descriptors, isTrack, isExtra}
 use Rattle.table.specs.Row.{rowOf, framesOf, startOf, rowTest}
-use Rattle.table.specs.Asked.{kept, a0Kept, a1Kept, extraKept, holds}
+use Rattle.table.specs.Asked.{kept, a0Kept, a1Kept, extraKept, climbs, holds}
 use Rattle.sessions.specs.Session.{size, inOrder, starts}
 use Rattle.disc.specs.Rules.{fault}
 use Rattle.disc.specs.Part.{PartOf, partRefusal, partStart, partSize}
@@ -236,6 +236,9 @@ unique-a1-kept e k r s = value-once
 
 pub unique-extra-kept : (e : Row) (k : ℕ) (r s : Bool) → r ≡ extraKept e k → s ≡ extraKept e k → r ≡ s
 unique-extra-kept e k r s = value-once
+
+pub unique-climbs : (e : Row) (low : ℕ) (r s : Bool) → r ≡ climbs e low → s ≡ climbs e low → r ≡ s
+unique-climbs e low r s = value-once
 
 pub unique-holds : (e : Row) (low : ℕ) (r s : Bool) → r ≡ holds e low → s ≡ holds e low → r ≡ s
 unique-holds e low r s = value-once

@@ -7,15 +7,15 @@ use native.Mathlib.Omega.{arith}
 use native.Mathlib.Numerals.{add-one}
 use native.Mathlib.Nat.{lt-of-not-le}
 use native.Mathlib.Decide.{decLe, ℕ-discrete}
-use borrow.Author.Tests.{le-leb, ltb-true, eq-eqb, eqb-true, ne-eqb}
-use lib.Dec.{ltb, eqb}
-use Rattle.ground.specs.Tests.{_or_, if_then_else_, and-head, and-tail, and-both, when, every-at, or-left, or-right, or-else}
-use Rattle.address.specs.Laws.{InRange, isMsf-range, toBlock-range}
-use Rattle.table.specs.Layout.{row, lastSession, descriptors, rows, flagsAt, pointAt, pminAt, psecAt, pframeAt, A0, A1, A2, B0, C0, isTrack}
+use borrow.Author.Tests.{ltb-true, eq-eqb, eqb-true, ne-eqb}
+use lib.Dec.{ltb}
+use Rattle.ground.specs.Tests.{_or_, and-head, and-tail, every-at, or-left, or-right, or-else}
+use Rattle.address.specs.Laws.{InRange, toBlock-range}
+use Rattle.table.specs.Layout.{row, lastSession, descriptors, rows, pointAt, pminAt, psecAt, pframeAt, A0, A1, A2, B0, C0, isTrack}
 use Rattle.table.specs.Row.{rowFrom, rowAt, startOf, addressAt, rowTest}
 use Rattle.table.specs.RowLaws.{rowFrom-drop, isTrack-true, addressed-range, rowTest-6}
 use Rattle.table.specs.declared.row.Row.{Row}
-use Rattle.sessions.specs.Session.{first, last, tracks, b0s, c0s, count, starts, session, follows}
+use Rattle.sessions.specs.Session.{first, last, tracks, count, starts, session, follows}
 use Rattle.sessions.specs.SessionLaws.{extras-most, extras-each, starts-none, Listed, listed-parts, inPlace-follows, before-next, rowsBefore, rowsBefore-next, starts-rows}
 use Rattle.disc.specs.Rules.{eachRow, leadOut, trackStart, rises, outBefore, beginsAfter, rising, rule7}
 use Rattle.disc.specs.RulesLaws.{Fit, outBefore-next, fit-numbered, fit-places, fit-end-rows, fit-session, fit-last}

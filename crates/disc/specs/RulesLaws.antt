@@ -2,12 +2,12 @@
 use mathlib.Core.Path.{_≡_, refl, sym, ap, _∙_}
 use mathlib.Core.Bool.{Bool, true, false}
 use mathlib.Core.List.{List, [], _∷_}
-use Prim.Native.Nat.{ℕ, suc, _+_, _-_, _*_, _/_, _%_, _≤_, _<_}
+use Prim.Native.Nat.{ℕ, suc, _+_, _-_, _*_, _%_, _≤_, _<_}
 use native.Mathlib.Omega.{arith}
 use native.Mathlib.Numerals.{add-one}
 use borrow.Author.Tests.{leb-true, eq-eqb, eqb-true}
 use lib.ListN.{length, drop, length-drop}
-use Rattle.ground.specs.Tests.{_and_, every, and-head, and-tail, and-both, every-none, every-more, every-breaks}
+use Rattle.ground.specs.Tests.{_and_, every, and-head, and-tail, every-none, every-more, every-breaks}
 use Rattle.table.specs.Layout.{bound, dataLength, firstSession, lastSession, header, row, descriptors, rows}
 use Rattle.sessions.specs.Session.{tracks, size, starts, session, inPlace, inOrder}
 use Rattle.sessions.specs.SessionLaws.{IsSession, size-least, Walked, walked-none, walked-next, walked-all, starts-within, placed, inOrder-places, inOrder-end, rowsBefore, starts-rows}

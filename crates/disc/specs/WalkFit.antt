@@ -1,6 +1,6 @@
 -- The one walk decides fitness: a walk that is kept keeps rules 3 to 7, and that of a fit table is kept.
 use mathlib.Core.Path.{_≡_, refl, sym, ap, _∙_}
-use mathlib.Core.Bool.{Bool, true, false}
+use mathlib.Core.Bool.{true, false}
 use mathlib.Core.List.{List}
 use Prim.Native.Nat.{ℕ, zero, suc, _+_, _-_, _≤_, _<_}
 use native.Mathlib.Omega.{arith}
@@ -8,16 +8,16 @@ use native.Mathlib.Numerals.{add-one}
 use borrow.Author.Tests.{lt-ltb, eq-eqb, eqb-true, ne-eqb}
 use lib.Dec.{eqb}
 use lib.ListN.{length}
-use Rattle.ground.specs.Tests.{every, and-head, and-tail, and-both, every-at, every-all, or-left, or-right, or-else}
+use Rattle.ground.specs.Tests.{and-head, and-tail, and-both, every-at, every-all, or-left, or-right, or-else}
 use Rattle.table.specs.Layout.{lastSession, descriptors, rows}
-use Rattle.table.specs.Row.{rowAt, framesAt, plain, headed, headA0, headA1, rowTest}
+use Rattle.table.specs.Row.{rowAt, framesAt, rowTest}
 use Rattle.table.specs.RowLaws.{startOf-frames, headed-A0, headed-A1, rowTest-3, rowTest-5, rowTest-6}
 use Rattle.table.specs.AskedLaws.{climbs-low, range-climbs, range-holds, range-least}
 use Rattle.sessions.specs.Session.{first, tracks, count, starts, session, before, follows, inPlace, inOrder}
-use Rattle.sessions.specs.SessionLaws.{isSession-true, inPlace-follows, rowsBefore, starts-rows}
+use Rattle.sessions.specs.SessionLaws.{isSession-true, inPlace-follows, starts-rows}
 use Rattle.disc.specs.Rules.{rule1, rule2, eachRow, leadOut, trackStart, outBefore, beginsAfter, rising, rule7, isFit}
 use Rattle.disc.specs.RulesLaws.{Fit, same-test, isFit-true, fit-isFit, fit-places, fit-end, fit-session}
-use Rattle.disc.specs.FitLaws.{rowAt-session, Place, locate, session-none, fit-listed, fit-rule, fit-range, fit-rises, fit-begins, fit-next}
+use Rattle.disc.specs.FitLaws.{rowAt-session, Place, locate, session-none, fit-listed, fit-rule, fit-range, fit-rises, fit-begins}
 use Rattle.disc.specs.Walk.{floorAt, floorOf, nextOf, stepKept, walkKept}
 use Rattle.disc.specs.WalkLaws.{floorAt-next, Sound, sessionKept-sound, sound-sessionKept, sound-lead, sound-headed, sound-addressed, sound-rises}
 

@@ -1,6 +1,6 @@
 -- What the walk asks of one session's descriptors, by name, and which rules that keeps.
 use mathlib.Core.Path.{_≡_, sym, ap, _∙_}
-use mathlib.Core.Bool.{Bool, true, false}
+use mathlib.Core.Bool.{Bool, true}
 use mathlib.Core.List.{List}
 use Prim.Native.Nat.{ℕ, zero, suc, _+_, _-_, _≤_, _<_}
 use native.Mathlib.Omega.{arith}
@@ -8,7 +8,6 @@ use native.Mathlib.Numerals.{add-one}
 use native.Mathlib.Nat.{lt-of-not-le}
 use native.Mathlib.Decide.{decLe, ℕ-discrete}
 use borrow.Author.Tests.{le-leb, leb-true, lt-ltb}
-use lib.ListN.{length}
 use lib.Dec.{ltb, eqb}
 use Rattle.ground.specs.Tests.{and-head, and-tail, and-both, every-at, every-all}
 use Rattle.table.specs.Layout.{pointAt, sessionAt, A0, A1, A2, B0, C0, isExtra}
@@ -16,8 +15,8 @@ use Rattle.table.specs.Row.{rowAt, framesAt, addressAt, names, plain, headA0, h
 use Rattle.table.specs.RowLaws.{startOf-frames, isExtra-B0, isExtra-C0, headed-A0, headed-A1, headed-other, addressed-of, addressed-other, A0-other, A1-other, B0-other, C0-other}
 use Rattle.table.specs.Asked.{kept, a0Kept, a1Kept, extraKept, extraPassed, climbs, holds}
 use Rattle.table.specs.AskedLaws.{kept-names, kept-plain, kept-both, extraPassed-kept, extraPassed-other, extraKept-number, extraKept-plain, extraKept-both, climbs-low, climbs-isMsf, holds-climbs, holds-low, holds-most}
-use Rattle.sessions.specs.Session.{first, last, tracks, b0s, c0s, count, listed, numbered, session}
-use Rattle.sessions.specs.SessionLaws.{IsSession, one-is, extras-each, names-parts, listed-parts}
+use Rattle.sessions.specs.Session.{first, tracks, b0s, c0s, count, listed, numbered, session}
+use Rattle.sessions.specs.SessionLaws.{IsSession, one-is, extras-each, listed-parts}
 use Rattle.disc.specs.Rules.{trackStart, rises}
 use Rattle.disc.specs.FitLaws.{Kind, isA0, isA1, isA2, isTrackAfter, isB0, isC0, listed-kind}
 use Rattle.disc.specs.Walk.{headsKept, floorAt, trackKept, tracksKept, extrasKept, sessionKept, floorOf}

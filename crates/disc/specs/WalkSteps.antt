@@ -14,13 +14,13 @@ use Rattle.ground.specs.Tests.{_and_, if_then_else_, when, unless, every, and-o
 use Rattle.table.specs.Layout.{row, pointAt, B0, C0}
 use Rattle.table.specs.Row.{rowFrom, rowAt, framesOf, framesAt, names}
 use Rattle.table.specs.declared.row.Row.{Row}
-use Rattle.table.specs.Asked.{kept, extraKept, extraPassed, climbs, holds}
+use Rattle.table.specs.Asked.{kept, extraPassed, climbs, holds}
 use Rattle.table.specs.AskedLaws.{extraPassed-kept, extraPassed-other}
-use Rattle.sessions.specs.Session.{first, last, tracks, one, b0s, c0s, size, starts, session}
+use Rattle.sessions.specs.Session.{first, last, tracks, one, b0s, size, starts, session}
 use Rattle.sessions.specs.SessionLaws.{one-is, one-not, size-heads, size-whole, Walked, walked-none, walked-next, walked-all}
 use Rattle.disc.specs.Walk.{headsKept, floorAt, trackKept, tracksKept, tracksEnd, extrasKept, sessionKept, extraEnd, extrasEnd, sessionEnd, floorOf, nextOf, stepKept, walkKept, verdict}
 use Rattle.disc.specs.declared.walk.Verdict.{Verdict}
-use Rattle.disc.specs.WalkLaws.{Sound, floorAt-next, floorOf-next, sessionKept-sound}
+use Rattle.disc.specs.WalkLaws.{floorAt-next, floorOf-next, sessionKept-sound}
 
 -- ---- a session's tracks
 

@@ -13,7 +13,7 @@ ghost use mathlib.Core.Path.{_≡_};
 ghost use Prim.Native.Nat.{_+_, _*_, _≤_, _<_};
 ghost use lib.ListN.{drop};
 ghost use Rattle.ground.specs.Tests.{every};
-ghost use Rattle.table.specs.Layout.{row, pointAt};
+ghost use Rattle.table.specs.Layout.{pointAt};
 ghost use Rattle.table.specs.Row.{rowAt, names};
 ghost use Rattle.sessions.specs.Session.{tracks, one, size, listed, numbered, follows, inOrder, readSession, starts};
 

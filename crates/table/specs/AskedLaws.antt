@@ -8,7 +8,7 @@ use lib.Dec.{eqb}
 use Rattle.ground.specs.Tests.{and-head, and-tail, and-both, when, unless}
 use Rattle.address.specs.Address.{frames, isMsf}
 use Rattle.address.specs.Laws.{InRange}
-use Rattle.table.specs.Layout.{B0, C0, isExtra}
+use Rattle.table.specs.Layout.{B0, isExtra}
 use Rattle.table.specs.Row.{framesOf, names, plain}
 use Rattle.table.specs.RowLaws.{plain-free, plain-simple}
 use Rattle.table.specs.Asked.{kept, extraKept, extraPassed, climbs, holds}

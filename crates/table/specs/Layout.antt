@@ -42,17 +42,8 @@ sessionAt d j = getD d (row * j) 0
 abbrev pub flagsAt : List ℕ → ℕ → ℕ
 flagsAt d j = getD d (row * j + 1) 0
 
-abbrev pub adrAt : List ℕ → ℕ → ℕ
-adrAt d j = flagsAt d j / 16
-
-abbrev pub tnoAt : List ℕ → ℕ → ℕ
-tnoAt d j = getD d (row * j + 2) 0
-
 abbrev pub pointAt : List ℕ → ℕ → ℕ
 pointAt d j = getD d (row * j + 3) 0
-
-abbrev pub zeroAt : List ℕ → ℕ → ℕ
-zeroAt d j = getD d (row * j + 7) 0
 
 abbrev pub pminAt : List ℕ → ℕ → ℕ
 pminAt d j = getD d (row * j + 8) 0

@@ -2,11 +2,11 @@
 use Prim.Native.Nat.{ℕ, _+_, _*_, _/_}
 use mathlib.Core.Bool.{Bool, true}
 use mathlib.Core.List.{List}
-use lib.ListN.{length, getD, take, drop}
+use lib.ListN.{length, getD}
 use lib.Dec.{eqb}
 use Rattle.ground.specs.Tests.{_and_, _or_, if_then_else_}
 use Rattle.address.specs.Address.{frames, addressOf, isMsf}
-use Rattle.table.specs.Layout.{row, sessionAt, flagsAt, tnoAt, pointAt, zeroAt, pminAt, psecAt, pframeAt, A0, A1, A2, isTrack, isExtra}
+use Rattle.table.specs.Layout.{row, A0, A1, A2, isTrack, isExtra}
 use Rattle.table.specs.declared.row.Row.{Row}
 
 -- the descriptor that stands at byte `at`: "session, ADR (high nibble) and control (low), TNO, POINT, MIN, SEC, FRAME, ZERO, PMIN, PSEC, PFRAME"

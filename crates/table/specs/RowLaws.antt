@@ -2,7 +2,7 @@
 use mathlib.Core.Path.{_≡_, refl, sym, ap, _∙_}
 use mathlib.Core.Bool.{Bool, true, false}
 use mathlib.Core.List.{List}
-use Prim.Native.Nat.{ℕ, _+_, _-_, _*_, _%_, _≤_, _<_}
+use Prim.Native.Nat.{ℕ, _+_, _-_, _%_, _≤_, _<_}
 use native.Mathlib.Omega.{arith}
 use native.Mathlib.Nat.{add-zero}
 use native.Mathlib.Decide.{ℕ-discrete}
@@ -14,7 +14,7 @@ use Rattle.ground.specs.Tests.{_and_, _or_, if_then_else_, and-both, or-left, o
 use Rattle.address.specs.Address.{isMsf}
 use Rattle.address.specs.Laws.{InRange, isMsf-range}
 use Rattle.table.specs.Layout.{row, A0, A1, A2, B0, C0, isTrack, isExtra}
-use Rattle.table.specs.Row.{rowFrom, rowAt, rowOf, framesOf, startOf, simple, free, plain, headA0, headA1, headed, addressed, rowTest}
+use Rattle.table.specs.Row.{rowFrom, rowOf, framesOf, startOf, simple, free, plain, headA0, headA1, headed, addressed, rowTest}
 use Rattle.table.specs.declared.row.Row.{Row}
 
 -- ---- where it stands

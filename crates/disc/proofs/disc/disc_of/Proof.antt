@@ -1,12 +1,10 @@
 -- `disc::disc::disc_of` meets its contract: a fit table's last session begins where it is said to, and its descriptors are all there.
-use mathlib.Core.Path.{_≡_, sym, ap, _∙_}
-use mathlib.Core.List.{List}
-use Prim.Native.Nat.{ℕ, _-_, _≤_}
+use mathlib.Core.Path.{_≡_}
+use Prim.Native.Nat.{_-_, _≤_}
 use native.Mathlib.Omega.{arith}
 use lib.ListN.{length, take, drop, length-drop}
 use Rattle.ground.specs.Memory.{rest-all}
-use Rattle.table.specs.Row.{rowAt, startOf}
-use Rattle.table.specs.declared.row.Row.{Row}
+use Rattle.table.specs.Row.{rowAt}
 use Rattle.sessions.specs.SessionLaws.{size-least}
 use Rattle.disc.specs.RulesLaws.{Fit, isFit-true, fit-sized, fit-starts, fit-last}
 use Rattle.disc.specs.Disc.{lastPart}
@@ -19,7 +17,9 @@ fit : (c : tie.After-shared-slice-known) → Fit (c .before .args .t .now)
 fit c = isFit-true (c .before .pre .0)
 
 -- the last session begins in the table
-within : (c : tie.After-shared-slice-known) → c .before .args .at ≤ length (take (length (c .before .args .t .now) - 4) (drop 4 (c .before .args .t .now)))
+within :
+    (c : tie.After-shared-slice-known) → c .before .args .at ≤ length (take (length (c .before .args .t .now) - 4) (drop 4
+    (c .before .args .t .now)))
 within c = rw (rest-all, c .before .pre .1) (fit-starts (fit c) _ (omega arith))
 
 -- it has four descriptors at least
@@ -57,7 +57,24 @@ shared-slice-read-t17 : tie.Need-shared-slice-read-t17
 shared-slice-read-t17 c = rw rest-rest (let l = long (c .before .before .before .before .before .before .before) in omega arith)
 
 returns : tie.Need-returns
-returns c = let q = c .before .before .before .before .before .before .before .before .before .before .pre .1 in let l : c .before .before .before .before .before .row-at .result ≡ rowAt (lastPart (c .before .before .before .before .before .before .before .before .before .before .args .t .now)) 2 = rw (rest-rest, q) at (c .before .before .before .before .before .row-at .ensures) in let e : c .before .before .before .before .row-at2 .result ≡ rowAt (lastPart (c .before .before .before .before .before .before .before .before .before .before .args .t .now)) 3 = rw (rest-rest, q) at (c .before .before .before .before .row-at2 .ensures) in rw (rest-rest, rest-all, q, c .before .start-of .ensures, c .start-of2 .ensures, l, e)
+returns c =
+    let q = c .before .before .before .before .before .before .before .before .before .before .pre .1 in let l :
+    c .before .before .before .before .before .row-at .result ≡ rowAt (lastPart
+    (c .before .before .before .before .before .before .before .before .before .before .args .t .now)) 2 = rw (rest-rest, q) at
+    (c .before .before .before .before .before .row-at .ensures) in let e : c .before .before .before .before .row-at2 .result ≡ rowAt
+    (lastPart (c .before .before .before .before .before .before .before .before .before .before .args .t .now)) 3 = rw (rest-rest, q) at
+    (c .before .before .before .before .row-at2 .ensures) in rw (
+      rest-rest,
+      rest-all,
+      q,
+      c .before .start-of .ensures,
+      c .start-of2 .ensures,
+      l,
+      e,
+    )
 
 pub disc-of-spec : {M : Type 1} → statement M
-disc-of-spec = tie.close (tie.spec shared-slice-read-sessions sub-d part-d-start (λ c. search needs) sub-s part-s-start (λ c. search needs) row-at-requires row-at-requires-2 shared-slice-read-t9 (λ c. search needs) shared-slice-read-t17 (λ c κs. search needs) (λ c κs. search needs) returns)
+disc-of-spec =
+    tie.close (tie.spec shared-slice-read-sessions sub-d part-d-start (λ c. search needs) sub-s part-s-start (λ c. search needs)
+    row-at-requires row-at-requires-2 shared-slice-read-t9 (λ c. search needs) shared-slice-read-t17 (λ c κs. search needs)
+    (λ c κs. search needs) returns)

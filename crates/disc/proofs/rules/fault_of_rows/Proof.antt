@@ -11,11 +11,15 @@ fault-in-order-requires c κs = sym (c .before .in-order .ensures) ∙ c .if2 .t
 
 returns : tie.Need-returns
 unfolding rowRules
-returns c = firstBroken-on _ _ _ (sym (c .before .before .before .before .every-row .ensures) ∙ c .before .before .before .if1 .taken) (firstBroken-on _ _ _ (sym (c .before .before .in-order .ensures) ∙ c .before .if2 .taken) (c .fault-in-order .ensures))
+returns c =
+    firstBroken-on _ _ _ (sym (c .before .before .before .before .every-row .ensures) ∙ c .before .before .before .if1 .taken)
+    (firstBroken-on _ _ _ (sym (c .before .before .in-order .ensures) ∙ c .before .if2 .taken) (c .fault-in-order .ensures))
 
 returns-2 : tie.Need-returns-2
 unfolding rowRules
-returns-2 c = firstBroken-on _ _ _ (sym (c .before .before .before .every-row .ensures) ∙ c .before .before .if1 .taken) (firstBroken-off _ _ _ (sym (c .before .in-order .ensures) ∙ c .if2 .left))
+returns-2 c =
+    firstBroken-on _ _ _ (sym (c .before .before .before .every-row .ensures) ∙ c .before .before .if1 .taken) (firstBroken-off _ _ _ (sym
+    (c .before .in-order .ensures) ∙ c .if2 .left))
 
 returns-3 : tie.Need-returns-3
 unfolding rowRules

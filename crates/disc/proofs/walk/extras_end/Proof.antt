@@ -1,6 +1,5 @@
 -- `disc::walk::extras_end` meets its contract: the second begins where the first ends.
 use mathlib.Core.Path.{sym, ap, _∙_}
-use native.Mathlib.Omega.{arith}
 use Prim.Native.Nat.{ℕ}
 use borrow.Author.Tests.{eq-eqb, ne-eqb}
 use Rattle.ground.specs.Tests.{when, unless}
@@ -16,7 +15,10 @@ returns c = sym (when _ _ _ (eq-eqb _ _ (sym (c .before .extra-end .ensures .0) 
 
 returns-2 : tie.Need-returns-2
 unfolding extrasEnd
-returns-2 c = c .extra-end2 .ensures .0 ∙ ap (λ (x : ℕ). extraEnd (c .before .before .before .before .args .d .now) (c .before .before .before .before .args .k) x C0) (c .before .before .extra-end .ensures .0) ∙ sym (unless _ _ _ (ne-eqb _ _ (λ e. c .before .if1 .left (c .before .before .extra-end .ensures .0 ∙ e))))
+returns-2 c =
+    c .extra-end2 .ensures .0 ∙ ap (λ (x : ℕ). extraEnd (c .before .before .before .before .args .d .now)
+    (c .before .before .before .before .args .k) x C0) (c .before .before .extra-end .ensures .0) ∙ sym (unless _ _ _ (ne-eqb _ _ (λ e.
+    c .before .if1 .left (c .before .before .extra-end .ensures .0 ∙ e))))
 
 pub extras-end-spec : {M : Type 1} → statement M
 extras-end-spec = tie.close (tie.spec (λ c κs. search needs) returns (λ c κs. search needs) returns-2)

@@ -17,19 +17,28 @@ rule2-requires : tie.Need-rule2-requires
 rule2-requires c κs = rule1-parts (sym (c .before .rule1 .ensures) ∙ c .if1 .taken) .least
 
 shared-slice-read-n : tie.Need-shared-slice-read-n
-shared-slice-read-n c = let s = rule1-parts (sym (c .before .before .before .before .rule1 .ensures) ∙ c .before .before .before .if1 .taken) in search needs
+shared-slice-read-n c =
+    let s = rule1-parts (sym (c .before .before .before .before .rule1 .ensures) ∙ c .before .before .before .if1 .taken) in search needs
 
 sub-walk : tie.Need-sub-walk
 sub-walk c = rule1-parts (sym (c .before .before .before .before .rule1 .ensures) ∙ c .before .before .before .if1 .taken) .least
 
 part-walk-start : tie.Need-part-walk-start
-part-walk-start c = let s = rule1-parts (sym (c .before .before .before .before .rule1 .ensures) ∙ c .before .before .before .if1 .taken) in search needs
+part-walk-start c =
+    let s = rule1-parts (sym (c .before .before .before .before .rule1 .ensures) ∙ c .before .before .before .if1 .taken) in search needs
 
 walk-requires : tie.Need-walk-requires
-walk-requires c κs = rw rest-all (let s = rule1-parts (sym (c .before .before .before .before .before .rule1 .ensures) ∙ c .before .before .before .before .if1 .taken) in let l = length-drop 4 (c .before .before .before .before .before .before .before .args .t .now) in omega arith)
+walk-requires c κs =
+    rw rest-all (let s = rule1-parts (sym (c .before .before .before .before .before .rule1 .ensures) ∙
+    c .before .before .before .before .if1 .taken) in let l = length-drop 4
+    (c .before .before .before .before .before .before .before .args .t .now) in omega arith)
 
 returns : tie.Need-returns
-returns c = rw rest-all at (c .walk .ensures) ∙ ap (λ (b : Bool). verdict b (lastAt (c .before .before .before .before .before .before .before .before .args .t .now))) (walk-fit _ (sym (c .before .before .before .before .before .before .rule1 .ensures) ∙ c .before .before .before .before .before .if1 .taken) (sym (c .before .before .before .before .rule2 .ensures) ∙ c .before .before .before .if2 .taken))
+returns c =
+    rw rest-all at (c .walk .ensures) ∙ ap (λ (b : Bool). verdict b (lastAt
+    (c .before .before .before .before .before .before .before .before .args .t .now))) (walk-fit _ (sym
+    (c .before .before .before .before .before .before .rule1 .ensures) ∙ c .before .before .before .before .before .if1 .taken) (sym
+    (c .before .before .before .before .rule2 .ensures) ∙ c .before .before .before .if2 .taken))
 
 returns-2 : tie.Need-returns-2
 returns-2 c = c .unfit .ensures ∙ verdict-no _ (unfit-rule2 _ (sym (c .before .before .rule2 .ensures) ∙ c .before .if2 .left))

@@ -17,11 +17,18 @@ told s k w e h = ap (names s k) (sym (w .same)) ∙ sym e ∙ h
 
 returns : tie.Need-returns
 unfolding listed
-returns c = and-on _ _ (told _ _ (c .before .before .before .before .before .before .before .before .before .wide .ensures) (c .before .before .before .before .before .before .before .before .named .ensures) (c .before .before .before .before .before .before .before .if1 .taken)) (and-on _ _ (told _ _ (c .before .before .before .before .before .before .wide2 .ensures) (c .before .before .before .before .before .named2 .ensures) (c .before .before .before .before .if2 .taken)) (and-on _ _ (told _ _ (c .before .before .before .wide3 .ensures) (c .before .before .named3 .ensures) (c .before .if3 .taken)) (c .lists-tracks .ensures)))
+returns c =
+    and-on _ _ (told _ _ (c .before .before .before .before .before .before .before .before .before .wide .ensures)
+    (c .before .before .before .before .before .before .before .before .named .ensures)
+    (c .before .before .before .before .before .before .before .if1 .taken)) (and-on _ _ (told _ _
+    (c .before .before .before .before .before .before .wide2 .ensures) (c .before .before .before .before .before .named2 .ensures)
+    (c .before .before .before .before .if2 .taken)) (and-on _ _ (told _ _ (c .before .before .before .wide3 .ensures)
+    (c .before .before .named3 .ensures) (c .before .if3 .taken)) (c .lists-tracks .ensures)))
 
 returns-2 : tie.Need-returns-2
 unfolding listed
-returns-2 c = and-late _ _ (and-late _ _ (and-off _ _ (told _ _ (c .before .before .wide3 .ensures) (c .before .named3 .ensures) (c .if3 .left))))
+returns-2 c =
+    and-late _ _ (and-late _ _ (and-off _ _ (told _ _ (c .before .before .wide3 .ensures) (c .before .named3 .ensures) (c .if3 .left))))
 
 returns-3 : tie.Need-returns-3
 unfolding listed
@@ -32,4 +39,6 @@ unfolding listed
 returns-4 c = and-off _ _ (told _ _ (c .before .before .wide .ensures) (c .before .named .ensures) (c .if1 .left))
 
 pub listed-spec : {M : Type 1} → statement M
-listed-spec = tie.close (tie.spec (λ c κs. search needs) (λ c κs. search needs) (λ c κs. search needs) (λ c κs. search needs) (λ c κs. search needs) (λ c κs. search needs) (λ c κs. search needs) returns returns-2 returns-3 returns-4)
+listed-spec =
+    tie.close (tie.spec (λ c κs. search needs) (λ c κs. search needs) (λ c κs. search needs) (λ c κs. search needs) (λ c κs. search needs)
+    (λ c κs. search needs) (λ c κs. search needs) returns returns-2 returns-3 returns-4)

@@ -23,10 +23,14 @@ loop-again : tie.Need-loop-again Inv-loop μ-loop
 loop-again c = (omega arith, every-more _ _ (c .before .before .before .loop .inv .1) (sym (c .before .named .ensures) ∙ c .if1 .taken))
 
 returns : tie.Need-returns Inv-loop μ-loop
-returns c = every-breaks _ _ (c .before .before .before .loop .i) (c .before .before .loop-test .taken) (sym (c .before .named .ensures) ∙ c .if1 .left)
+returns c =
+    every-breaks _ _ (c .before .before .before .loop .i) (c .before .before .loop-test .taken) (sym (c .before .named .ensures) ∙
+    c .if1 .left)
 
 returns-2 : tie.Need-returns-2 Inv-loop μ-loop
 returns-2 c = rw (le-antisymm (c .before .loop .inv .0) (c .loop-test .left)) at (sym (c .before .loop .inv .1))
 
 pub lists-tracks-spec : {M : Type 1} → statement M
-lists-tracks-spec = tie.close (tie.spec Inv-loop μ-loop loop-holds (λ c. search needs) (λ c. search needs) (λ c κs. search needs) (λ c. search needs) (λ c. search needs) loop-again returns returns-2)
+lists-tracks-spec =
+    tie.close (tie.spec Inv-loop μ-loop loop-holds (λ c. search needs) (λ c. search needs) (λ c κs. search needs) (λ c. search needs)
+    (λ c. search needs) loop-again returns returns-2)

@@ -9,7 +9,8 @@ use Rattle.sessions.proofs.session.named.Tie as tie
 
 returns : tie.Need-returns
 unfolding names
-returns c = and-on _ _ (eq-eqb _ _ (sym (c .before .before .byte-at .ensures .same) ∙ c .before .if1 .taken)) (rw (c .byte-at2 .ensures .same))
+returns c =
+    and-on _ _ (eq-eqb _ _ (sym (c .before .before .byte-at .ensures .same) ∙ c .before .if1 .taken)) (rw (c .byte-at2 .ensures .same))
 
 returns-2 : tie.Need-returns-2
 unfolding names

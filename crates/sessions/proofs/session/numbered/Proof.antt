@@ -23,15 +23,23 @@ loop-holds : tie.Need-loop-holds Inv-loop μ-loop
 loop-holds c = (omega arith, every-none _)
 
 loop-again : tie.Need-loop-again Inv-loop μ-loop
-loop-again c = (omega arith, every-more _ _ (c .before .before .before .loop .inv .1) (eq-eqb _ _ (sym (c .before .byte-at .ensures .same) ∙ c .if1 .taken)))
+loop-again c = (
+  omega arith,
+  every-more _ _ (c .before .before .before .loop .inv .1) (eq-eqb _ _ (sym (c .before .byte-at .ensures .same) ∙
+      c .if1 .taken)),
+)
 
 returns : tie.Need-returns Inv-loop μ-loop
 unfolding numbered
-returns c = every-breaks _ _ (c .before .before .before .loop .i) (c .before .before .loop-test .taken) (ne-eqb _ _ (λ e. c .if1 .left (c .before .byte-at .ensures .same ∙ e)))
+returns c =
+    every-breaks _ _ (c .before .before .before .loop .i) (c .before .before .loop-test .taken) (ne-eqb _ _ (λ e. c .if1 .left
+    (c .before .byte-at .ensures .same ∙ e)))
 
 returns-2 : tie.Need-returns-2 Inv-loop μ-loop
 unfolding numbered
 returns-2 c = rw (le-antisymm (c .before .loop .inv .0) (c .loop-test .left)) at (sym (c .before .loop .inv .1))
 
 pub numbered-spec : {M : Type 1} → statement M
-numbered-spec = tie.close (tie.spec Inv-loop μ-loop loop-holds (λ c. search needs) (λ c. search needs) (λ c κs. search needs) (λ c. search needs) (λ c. search needs) loop-again returns returns-2)
+numbered-spec =
+    tie.close (tie.spec Inv-loop μ-loop loop-holds (λ c. search needs) (λ c. search needs) (λ c κs. search needs) (λ c. search needs)
+    (λ c. search needs) loop-again returns returns-2)

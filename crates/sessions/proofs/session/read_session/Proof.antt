@@ -48,16 +48,50 @@ sub-numbered c = omega arith
 
 numbered-requires : tie.Need-numbered-requires
 unfolding size
-numbered-requires c κs = (omega arith, let b = one-most (pointAt (c .before .before .before .before .before .before .before .before .before .before .before .before .args .d .now) (3 + tracks (c .before .before .before .before .before .before .before .before .before .before .before .before .args .d .now))) B0 in let e = one-most (pointAt (c .before .before .before .before .before .before .before .before .before .before .before .before .args .d .now) (3 + tracks (c .before .before .before .before .before .before .before .before .before .before .before .before .args .d .now) + b0s (c .before .before .before .before .before .before .before .before .before .before .before .before .args .d .now))) C0 in omega arith)
+numbered-requires c κs = (
+  omega arith,
+  let b = one-most (pointAt
+      (c .before .before .before .before .before .before .before .before .before .before .before .before .args .d .now) (3 + tracks
+      (c .before .before .before .before .before .before .before .before .before .before .before .before .args .d .now))) B0 in let e =
+      one-most (pointAt (c .before .before .before .before .before .before .before .before .before .before .before .before .args .d .now) (3 +
+      tracks (c .before .before .before .before .before .before .before .before .before .before .before .before .args .d .now) + b0s
+      (c .before .before .before .before .before .before .before .before .before .before .before .before .args .d .now))) C0 in omega arith,
+)
 
 returns-5 : tie.Need-returns-5
-returns-5 c = rw (c .before .before .before .before .before .before .before .before .before .before .before .before .session-bytes .ensures) (readSession-is (record { fits = omega arith; low = omega arith; order = omega arith; high = omega arith; lists = told _ _ (c .before .before .before .before .before .before .before .before .wide .ensures) (c .before .before .before .before .before .before .before .wide2 .ensures) (c .before .before .before .listed .ensures) (c .before .before .if5 .taken); numbers = counted _ _ (c .before .before .before .before .before .before .before .before .wide .ensures) (c .before .before .before .before .before .before .before .wide2 .ensures) (c .before .before .before .before .before .before .before .before .before .before .before .before .session-bytes .ensures) (c .before .numbered .ensures) (c .if6 .taken) }))
+returns-5 c =
+    rw (c .before .before .before .before .before .before .before .before .before .before .before .before .session-bytes .ensures)
+    (readSession-is (record {
+      fits = omega arith;
+      low = omega arith;
+      order = omega arith;
+      high = omega arith;
+      lists = told _ _
+          (c .before .before .before .before .before .before .before .before .wide .ensures)
+          (c .before .before .before .before .before .before .before .wide2 .ensures) (c .before .before .before .listed .ensures)
+          (c .before .before .if5 .taken);
+      numbers = counted _ _
+          (c .before .before .before .before .before .before .before .before .wide .ensures)
+          (c .before .before .before .before .before .before .before .wide2 .ensures)
+          (c .before .before .before .before .before .before .before .before .before .before .before .before .session-bytes .ensures)
+          (c .before .numbered .ensures) (c .if6 .taken);
+    }))
 
 returns-6 : tie.Need-returns-6
-returns-6 c = readSession-not _ _ (λ s. false≢true (sym (counted _ _ (c .before .before .before .before .before .before .before .before .wide .ensures) (c .before .before .before .before .before .before .before .wide2 .ensures) (c .before .before .before .before .before .before .before .before .before .before .before .before .session-bytes .ensures) (c .before .numbered .ensures) (c .if6 .left)) ∙ s .numbers))
+returns-6 c =
+    readSession-not _ _ (λ s. false≢true (sym (counted _ _
+    (c .before .before .before .before .before .before .before .before .wide .ensures)
+    (c .before .before .before .before .before .before .before .wide2 .ensures)
+    (c .before .before .before .before .before .before .before .before .before .before .before .before .session-bytes .ensures)
+    (c .before .numbered .ensures) (c .if6 .left)) ∙ s .numbers))
 
 returns-7 : tie.Need-returns-7
-returns-7 c = readSession-not _ _ (λ s. false≢true (sym (told _ _ (c .before .before .before .before .before .before .wide .ensures) (c .before .before .before .before .before .wide2 .ensures) (c .before .listed .ensures) (c .if5 .left)) ∙ s .lists))
+returns-7 c =
+    readSession-not _ _ (λ s. false≢true (sym (told _ _ (c .before .before .before .before .before .before .wide .ensures)
+    (c .before .before .before .before .before .wide2 .ensures) (c .before .listed .ensures) (c .if5 .left)) ∙ s .lists))
 
 pub read-session-spec : {M : Type 1} → statement M
-read-session-spec = tie.close (tie.spec (λ c κs. search needs) returns shared-slice-read-first (λ c. search needs) shared-slice-read-last (λ c κs. search needs) (λ c κs. search needs) returns-2 returns-3 returns-4 (λ c. search needs) (λ c. search needs) (λ c κs. search needs) (λ c. search needs) (λ c. search needs) sub-numbered numbered-requires returns-5 returns-6 returns-7)
+read-session-spec =
+    tie.close (tie.spec (λ c κs. search needs) returns shared-slice-read-first (λ c. search needs) shared-slice-read-last
+    (λ c κs. search needs) (λ c κs. search needs) returns-2 returns-3 returns-4 (λ c. search needs) (λ c. search needs)
+    (λ c κs. search needs) (λ c. search needs) (λ c. search needs) sub-numbered numbered-requires returns-5 returns-6 returns-7)

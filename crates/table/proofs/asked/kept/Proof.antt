@@ -10,7 +10,8 @@ use Rattle.table.proofs.asked.kept.Tie as tie
 
 returns : tie.Need-returns
 unfolding kept names
-returns c = and-on _ _ (and-both _ _ (eq-eqb _ _ (c .before .before .before .if1 .taken)) (eq-eqb _ _ (c .before .if2 .taken))) (c .simple .ensures)
+returns c =
+    and-on _ _ (and-both _ _ (eq-eqb _ _ (c .before .before .before .if1 .taken)) (eq-eqb _ _ (c .before .if2 .taken))) (c .simple .ensures)
 
 returns-2 : tie.Need-returns-2
 unfolding kept names

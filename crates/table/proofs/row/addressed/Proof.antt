@@ -14,11 +14,23 @@ returns c = rw (eq-eqb _ _ (c .before .if1 .taken)) (c .is-msf .ensures)
 
 returns-2 : tie.Need-returns-2
 unfolding addressed _or_ if_then_else_
-returns-2 c = rw (ne-eqb _ _ (c .before .before .before .before .if1 .left), ap isTrack (sym (c .before .before .before .wide .ensures .same)) ∙ sym (c .before .before .is-track .ensures) ∙ c .before .if2 .taken) (c .is-msf2 .ensures)
+returns-2 c =
+    rw (
+      ne-eqb _ _ (c .before .before .before .before .if1 .left),
+      ap isTrack (sym (c .before .before .before .wide .ensures .same)) ∙ sym
+          (c .before .before .is-track .ensures) ∙ c .before .if2 .taken,
+    ) (c .is-msf2 .ensures)
 
 returns-3 : tie.Need-returns-3
 unfolding addressed _or_ if_then_else_
-returns-3 c = rw (ne-eqb _ _ (c .before .before .before .if1 .left), ap isTrack (sym (c .before .before .wide .ensures .same)) ∙ sym (c .before .is-track .ensures) ∙ c .if2 .left)
+returns-3 c =
+    rw (
+      ne-eqb _ _ (c .before .before .before .if1 .left),
+      ap isTrack (sym (c .before .before .wide .ensures .same)) ∙ sym
+          (c .before .is-track .ensures) ∙ c .if2 .left,
+    )
 
 pub addressed-spec : {M : Type 1} → statement M
-addressed-spec = tie.close (tie.spec (λ c κs. search needs) returns (λ c κs. search needs) (λ c κs. search needs) (λ c κs. search needs) returns-2 returns-3)
+addressed-spec =
+    tie.close (tie.spec (λ c κs. search needs) returns (λ c κs. search needs) (λ c κs. search needs) (λ c κs. search needs) returns-2
+    returns-3)

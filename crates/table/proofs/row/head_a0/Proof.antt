@@ -10,7 +10,9 @@ use Rattle.table.proofs.row.head_a0.Tie as tie
 
 returns : tie.Need-returns
 unfolding headA0
-returns c = and-on _ _ (eq-eqb _ _ (c .before .before .before .if1 .taken)) (types-most _ (rw (c .before .before .wide .ensures .same) at (c .before .if2 .taken)))
+returns c =
+    and-on _ _ (eq-eqb _ _ (c .before .before .before .if1 .taken)) (types-most _ (rw (c .before .before .wide .ensures .same) at
+    (c .before .if2 .taken)))
 
 returns-2 : tie.Need-returns-2
 unfolding headA0

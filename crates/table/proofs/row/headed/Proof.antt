@@ -13,7 +13,9 @@ returns c = c .head-a0 .ensures ∙ sym (when _ _ _ (eq-eqb _ _ (c .before .if1 
 
 returns-2 : tie.Need-returns-2
 unfolding headed
-returns-2 c = c .head-a1 .ensures ∙ sym (unless _ _ _ (ne-eqb _ _ (c .before .before .before .if1 .left)) ∙ when _ _ _ (eq-eqb _ _ (c .before .if2 .taken)))
+returns-2 c =
+    c .head-a1 .ensures ∙ sym (unless _ _ _ (ne-eqb _ _ (c .before .before .before .if1 .left)) ∙ when _ _ _ (eq-eqb _ _
+    (c .before .if2 .taken)))
 
 returns-3 : tie.Need-returns-3
 unfolding headed
