@@ -1,97 +1,70 @@
-/* The seven rules in one pass, two loads of four bytes a descriptor: the C that our walk is to beat. It tells fit or not, and names no rule.
-   Faults that cannot lead the pass out of the table are gathered and looked at once, at its end. */
+/* The seven rules in one pass over the descriptors, byte by byte, each test where its descriptor stands: the C that our walk is to beat.
+   It tells fit or not, and names no rule. */
 #include <stddef.h>
 #include <stdint.h>
 #include "fit.h"
 
-enum { HEADER = 4, ROW = 11, LEAST = HEADER + 4 * ROW, BOUND = 6538 };
+enum { HEADER = 4, ROW = 11, BOUND = 6538 };
 
-/* Of a name: all but control, which is free; and ADR 1 and 5. */
-static const uint32_t NAME = 0xFFFFF0FF, ADR1 = 0x1000, ADR5 = 0x5000;
-
-/* Of what is held: one minute, or one of A0's and A1's PMIN; and the highest bits of second and frame. */
-static const uint32_t MINUTE = 0x10000, HIGHEST = 0x8080;
-
-/* Session, ADR and control, TNO and POINT in one number, from the lowest byte up: gcc makes one load of it. */
-static inline uint32_t name(const uint8_t *e)
+/* The session, POINT, and rule 3 of a descriptor that is neither B0h nor C0h. */
+static inline int is(const uint8_t *e, unsigned session, unsigned point)
 {
-    return e[0] | e[1] << 8 | e[2] << 16 | (uint32_t)e[3] << 24;
+    return e[0] == session && e[3] == point && (((e[1] & 0xF0) ^ 0x10) | e[2] | e[7]) == 0;
 }
 
-static inline uint32_t point(uint32_t p)
+/* The same of a B0h or C0h. */
+static inline int is_extra(const uint8_t *e, unsigned session, unsigned point)
 {
-    return p << 24;
+    return e[0] == session && e[3] == point && (((e[1] & 0xF0) ^ 0x50) | e[2]) == 0;
 }
 
-/* ZERO, PMIN, PSEC, PFRAME in one number, from the highest byte down, so that addresses compare as numbers: a load and a byte swap. */
-static inline uint32_t held(const uint8_t *e)
+static inline int in_range(const uint8_t *e)
 {
-    return (uint32_t)e[7] << 24 | e[8] << 16 | e[9] << 8 | e[10];
+    return e[8] <= 99 && e[9] <= 59 && e[10] <= 74;
 }
 
-/* Has one of the HIGHEST bits exactly if the second is over 59 or the frame over 74. */
-static inline uint32_t over(uint32_t at)
+static inline unsigned frames(const uint8_t *e)
 {
-    return at | (at + ((127 - 59) << 8 | (127 - 74)));
+    return (e[8] * 60 + e[9]) * 75 + e[10];
 }
 
 unsigned fit_in_one_pass(const uint8_t *t, size_t n)
 {
-    if (n < LEAST || n > BOUND || (n - HEADER) % ROW != 0 || (size_t)(t[0] << 8 | t[1]) != n - 2 || t[2] != 1)
+    if (n < HEADER || n > BOUND || (n - HEADER) % ROW != 0 || (size_t)(t[0] << 8 | t[1]) != n - 2)
         return 0;
-    const uint8_t *e = t + HEADER, *end = t + n, *full = end - 4 * ROW;
-    uint32_t session = 1;
-    uint32_t first = e[8] * MINUTE;                 /* the session's first track, as A0 is to hold it */
-    uint32_t last;                                  /* its last track, as A1 holds it */
-    uint32_t track = point(e[8]) + ADR1 + session;  /* the name of the track that comes next */
-    uint32_t out = 0x1FF;                           /* the lead-out that it starts after; at first, what lies before 00:02:00 */
-    uint32_t misnamed = 0, lasts = 0, overs = 0;    /* the faults gathered; and every A1, which holds nothing but PMIN */
-    if (first == 0)
+    unsigned sessions = t[3];
+    if (t[2] != 1 || sessions < 1 || sessions > 99)
         return 0;
-    for (;; session++, first = last + MINUTE, track += point(1) + 1) {
-        if (e > full)
+    const uint8_t *e = t + HEADER, *end = t + n;
+    unsigned next = 0, low = 150;
+    for (unsigned k = 1; k <= sessions; k++) {
+        if (end - e < 4 * ROW || !is(e, k, 0xA0) || !is(e + ROW, k, 0xA1) || !is(e + 2 * ROW, k, 0xA2))
             return 0;
-        uint32_t type = held(e) - first;
-        if (type != 0 && type != 0x1000 && type != 0x2000)
+        unsigned track = e[8], last = e[ROW + 8], type = e[9];
+        if ((next && track != next) || track < 1 || last < track || last > 99)
             return 0;
-        last = held(e + ROW);
-        if (last < first)
+        if (((type & 0x0F) | e[10] | e[ROW + 9] | e[ROW + 10]) != 0 || type > 0x20)
             return 0;
-        uint32_t at = held(e + 3 * ROW);
-        if (at <= out)
+        if (!in_range(e + 2 * ROW))
             return 0;
-        out = held(e + 2 * ROW);
-        misnamed |= name(e) ^ (point(0xA0) + ADR1 + session);
-        misnamed |= name(e + ROW) ^ (point(0xA1) + ADR1 + session);
-        misnamed |= name(e + 2 * ROW) ^ (point(0xA2) + ADR1 + session);
-        misnamed |= name(e + 3 * ROW) ^ track;
-        lasts |= last;
-        overs |= over(out) | over(at);
-        e += 4 * ROW;
-        if (last != first) {
-            size_t more = (last - first) / MINUTE * ROW;
-            if ((size_t)(end - e) < more)
+        unsigned out = frames(e + 2 * ROW);
+        e += 3 * ROW;
+        for (; track <= last; track++, e += ROW) {
+            if (e == end || !is(e, k, track) || !in_range(e))
                 return 0;
-            for (const uint8_t *stop = e + more; e != stop; e += ROW) {
-                uint32_t before = at;
-                at = held(e);
-                if (at <= before)
-                    return 0;
-                track += point(1);
-                misnamed |= name(e) ^ track;
-                overs |= over(at);
-            }
+            unsigned at = frames(e);
+            if (at < low)
+                return 0;
+            low = at + 1;
         }
-        if (at >= out)
+        if (out < low)
             return 0;
-        if (e != end && (name(e) & NAME) == point(0xB0) + ADR5 + session)
+        low = out + 1;
+        next = track;
+        if (e != end && is_extra(e, k, 0xB0))
             e += ROW;
-        if (e != end && (name(e) & NAME) == point(0xC0) + ADR5 + session)
+        if (e != end && is_extra(e, k, 0xC0))
             e += ROW;
-        if (e == end)
-            break;
     }
-    /* starts and lead-outs rise, and so do the tracks' numbers: the last one bounds all of them, and their ZEROs, the highest byte */
-    return session == t[3] && last <= 99 * MINUTE && out < 100 * MINUTE && (misnamed & NAME) == 0 && (lasts & ~(0xFF * MINUTE)) == 0 &&
-        (overs & HIGHEST) == 0;
+    return e == end;
 }

@@ -25,6 +25,8 @@ int main(int argc, char **argv)
         measured = fault;
     else if (!strcmp(argv[1], "pass"))
         measured = fit_in_one_pass;
+    else if (!strcmp(argv[1], "words"))
+        measured = fit_by_words;
     else if (!strcmp(argv[1], "fault"))
         measured = told_by_fault;
     else if (!strcmp(argv[1], "read"))

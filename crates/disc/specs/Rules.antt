@@ -17,11 +17,11 @@ rule1 t = leb header (length t) and leb (length t) bound and eqb ((length t - he
 unfoldable pub rule2 : List ℕ → Bool
 rule2 t = eqb (firstSession t) 1 and leb 1 (lastSession t) and leb (lastSession t) 99
 
--- 3, 5 and 6: each descriptor passes the rule's test
+-- 3, 5 and 6: each descriptor passes the rule's test, which `rowTest` chooses: `plain`, `headed` and `addressed` of table's Row
 unfoldable pub eachRow : ℕ → List ℕ → Bool
 eachRow n d = every (rows d) (λ j. rowTest n (rowAt d j))
 
--- 4. inOrder
+-- 4. `inOrder` of sessions' Session
 
 -- of the session that s begins with: the lead-out, and where its track after i others starts
 abbrev pub leadOut : List ℕ → ℕ

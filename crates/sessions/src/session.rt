@@ -11,9 +11,9 @@ use table::layout::ROW;
 use table::layout::byte_at;
 ghost use mathlib.Core.Path.{_≡_};
 ghost use Prim.Native.Nat.{_+_, _*_, _≤_, _<_};
-ghost use lib.ListN.{drop};
+ghost use lib.ListN.{length, drop};
 ghost use Rattle.ground.specs.Tests.{every};
-ghost use Rattle.table.specs.Layout.{pointAt};
+ghost use Rattle.table.specs.Layout.{row, pointAt};
 ghost use Rattle.table.specs.Row.{rowAt, names};
 ghost use Rattle.sessions.specs.Session.{tracks, one, size, listed, numbered, follows, inOrder, readSession, starts};
 
@@ -25,19 +25,19 @@ pub enum Session {
 
 // Descriptor j is of session k and has POINT p.
 fn named(d: &[u8], k: usize, j: usize, p: usize) -> bool
-    requires { ⌜ j ≤ 1000 ⌝ }
+    requires { ⌜ row * j + row ≤ length (now d) ⌝ }
     ensures { λ r. ⌜ r ≡ names (rowAt (now (d .entry)) j) k p ⌝ }
 {
     let at = ROW * j;
-    if byte_at(d, at) == k {
-        return byte_at(d, at + POINT) == p;
+    if wide(d[at]) == k {
+        return wide(d[at + POINT]) == p;
     }
     false
 }
 
 // The n descriptors after the third are the tracks from number f on.
 fn lists_tracks(d: &[u8], k: usize, f: usize, n: usize) -> bool
-    requires { ⌜ (f ≤ 256) × (n ≤ 256) ⌝ }
+    requires { ⌜ (row * (3 + n) ≤ length (now d)) × (f ≤ 256) × (n ≤ 256) ⌝ }
     ensures { λ r. ⌜ r ≡ every n (λ i. names (rowAt (now (d .entry)) (3 + i)) k (f + i)) ⌝ }
 {
     let mut i = 0;
@@ -53,7 +53,7 @@ fn lists_tracks(d: &[u8], k: usize, f: usize, n: usize) -> bool
 
 // The descriptors of session k name A0, A1, A2 and then the n tracks from number f on.
 fn listed(d: &[u8], k: usize, f: usize, n: usize) -> bool
-    requires { ⌜ (f ≤ 256) × (n ≤ 256) ⌝ }
+    requires { ⌜ (row * (3 + n) ≤ length (now d)) × (f ≤ 256) × (n ≤ 256) ⌝ }
     ensures { λ r. ⌜ r ≡ listed (now (d .entry)) k f n ⌝ }
 {
     if named(d, k, 0, wide(A0)) {
@@ -70,12 +70,12 @@ fn listed(d: &[u8], k: usize, f: usize, n: usize) -> bool
 
 // The m descriptors from j on are of session k.
 fn numbered(d: &[u8], k: usize, j: usize, m: usize) -> bool
-    requires { ⌜ (j ≤ 1000) × (m ≤ 1000) ⌝ }
+    requires { ⌜ row * (j + m) ≤ length (now d) ⌝ }
     ensures { λ r. ⌜ r ≡ numbered (now (d .entry)) k j m ⌝ }
 {
     let mut i = 0;
     while i < m {
-        if byte_at(d, ROW * (j + i)) == k {
+        if wide(d[ROW * (j + i)]) == k {
             i += 1;
         } else {
             return false;

@@ -35,7 +35,7 @@ descriptors t = drop header t
 abbrev pub rows : List ℕ → ℕ
 rows d = length d / row
 
--- descriptor j: "session, ADR (high nibble) and control (low), TNO, POINT, MIN, SEC, FRAME, ZERO, PMIN, PSEC, PFRAME"
+-- fields of descriptor j that are asked for by themselves; `rowAt` has it whole
 abbrev pub sessionAt : List ℕ → ℕ → ℕ
 sessionAt d j = getD d (row * j) 0
 

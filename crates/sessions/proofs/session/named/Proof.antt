@@ -10,11 +10,14 @@ use Rattle.sessions.proofs.session.named.Tie as tie
 returns : tie.Need-returns
 unfolding names
 returns c =
-    and-on _ _ (eq-eqb _ _ (sym (c .before .before .byte-at .ensures .same) ∙ c .before .if1 .taken)) (rw (c .byte-at2 .ensures .same))
+    and-on _ _ (eq-eqb _ _ (sym (c .before .before .before .wide .ensures .same) ∙ c .before .before .if1 .taken)) (rw
+    (c .wide2 .ensures .same))
 
 returns-2 : tie.Need-returns-2
 unfolding names
-returns-2 c = and-off _ _ (ne-eqb _ _ (λ e. c .if1 .left (c .before .byte-at .ensures .same ∙ e)))
+returns-2 c = and-off _ _ (ne-eqb _ _ (λ e. c .if1 .left (c .before .wide .ensures .same ∙ e)))
 
 pub named-spec : {M : Type 1} → statement M
-named-spec = tie.close (tie.spec (λ c. search needs) (λ c κs. search needs) (λ c. search needs) (λ c κs. search needs) returns returns-2)
+named-spec =
+    tie.close (tie.spec (λ c. search needs) (λ c. search needs) (λ c κs. search needs) (λ c. search needs) (λ c. search needs)
+    (λ c κs. search needs) returns returns-2)

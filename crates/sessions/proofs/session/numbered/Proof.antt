@@ -25,15 +25,15 @@ loop-holds c = (omega arith, every-none _)
 loop-again : tie.Need-loop-again Inv-loop μ-loop
 loop-again c = (
   omega arith,
-  every-more _ _ (c .before .before .before .loop .inv .1) (eq-eqb _ _ (sym (c .before .byte-at .ensures .same) ∙
+  every-more _ _ (c .before .before .before .before .loop .inv .1) (eq-eqb _ _ (sym (c .before .wide .ensures .same) ∙
       c .if1 .taken)),
 )
 
 returns : tie.Need-returns Inv-loop μ-loop
 unfolding numbered
 returns c =
-    every-breaks _ _ (c .before .before .before .loop .i) (c .before .before .loop-test .taken) (ne-eqb _ _ (λ e. c .if1 .left
-    (c .before .byte-at .ensures .same ∙ e)))
+    every-breaks _ _ (c .before .before .before .before .loop .i) (c .before .before .before .loop-test .taken) (ne-eqb _ _ (λ e.
+    c .if1 .left (c .before .wide .ensures .same ∙ e)))
 
 returns-2 : tie.Need-returns-2 Inv-loop μ-loop
 unfolding numbered
@@ -41,5 +41,5 @@ returns-2 c = rw (le-antisymm (c .before .loop .inv .0) (c .loop-test .left)) at
 
 pub numbered-spec : {M : Type 1} → statement M
 numbered-spec =
-    tie.close (tie.spec Inv-loop μ-loop loop-holds (λ c. search needs) (λ c. search needs) (λ c κs. search needs) (λ c. search needs)
-    (λ c. search needs) loop-again returns returns-2)
+    tie.close (tie.spec Inv-loop μ-loop loop-holds (λ c. search needs) (λ c. search needs) (λ c. search needs) (λ c κs. search needs)
+    (λ c. search needs) (λ c. search needs) loop-again returns returns-2)

@@ -5,9 +5,9 @@ use mathlib.Core.List.{List}
 use Prim.Native.Nat.{ℕ, _+_, _-_, _/_}
 use native.Mathlib.Omega.{arith}
 use Rattle.ground.specs.Number.{Byte}
-use Rattle.table.specs.Layout.{row, pointAt, B0, C0}
+use Rattle.table.specs.Layout.{row}
 use Rattle.sessions.specs.Session.{first, last, tracks, b0s, c0s, size, listed, numbered}
-use Rattle.sessions.specs.SessionLaws.{one-most, size-heads, size-extras, readSession-is, readSession-not}
+use Rattle.sessions.specs.SessionLaws.{size-heads, size-extras, readSession-is, readSession-not}
 use borrow.Author.Needs.{needs}
 use Rattle.sessions.proofs.session.read_session.Statement.{statement}
 use Rattle.sessions.proofs.session.read_session.Tie as tie
@@ -46,17 +46,13 @@ sub-numbered : tie.Need-sub-numbered
 unfolding size
 sub-numbered c = omega arith
 
+listed-requires : tie.Need-listed-requires
+unfolding size
+listed-requires c κs = (omega arith, omega arith, omega arith)
+
 numbered-requires : tie.Need-numbered-requires
 unfolding size
-numbered-requires c κs = (
-  omega arith,
-  let b = one-most (pointAt
-      (c .before .before .before .before .before .before .before .before .before .before .before .before .args .d .now) (3 + tracks
-      (c .before .before .before .before .before .before .before .before .before .before .before .before .args .d .now))) B0 in let e =
-      one-most (pointAt (c .before .before .before .before .before .before .before .before .before .before .before .before .args .d .now) (3 +
-      tracks (c .before .before .before .before .before .before .before .before .before .before .before .before .args .d .now) + b0s
-      (c .before .before .before .before .before .before .before .before .before .before .before .before .args .d .now))) C0 in omega arith,
-)
+numbered-requires c κs = omega arith
 
 returns-5 : tie.Need-returns-5
 returns-5 c =
@@ -93,5 +89,5 @@ returns-7 c =
 pub read-session-spec : {M : Type 1} → statement M
 read-session-spec =
     tie.close (tie.spec (λ c κs. search needs) returns shared-slice-read-first (λ c. search needs) shared-slice-read-last
-    (λ c κs. search needs) (λ c κs. search needs) returns-2 returns-3 returns-4 (λ c. search needs) (λ c. search needs)
-    (λ c κs. search needs) (λ c. search needs) (λ c. search needs) sub-numbered numbered-requires returns-5 returns-6 returns-7)
+    (λ c κs. search needs) (λ c κs. search needs) returns-2 returns-3 returns-4 (λ c. search needs) (λ c. search needs) listed-requires
+    (λ c. search needs) (λ c. search needs) sub-numbered numbered-requires returns-5 returns-6 returns-7)
