@@ -1,4 +1,5 @@
--- Table E of 01 is fit, and each way to break one rule of it gives that rule's number: one statement over one list, closed by computation.
+-- Table E of 01 and discs of several sittings are fit, and each way to break a rule of one gives that rule's number: one statement over one
+-- list, closed by computation.
 use mathlib.Core.Path.{_≡_, refl}
 use mathlib.Core.Bool.{Bool, true}
 use mathlib.Core.List.{List, [], _∷_, _++_}
@@ -165,7 +166,7 @@ cases =
     ∷ (sittings (extra 1 B0 0 ++ extra 1 C0 0) [] gives 0)
     ∷ (sittings [] (extra 2 B0 0 ++ extra 2 C0 0) gives 0)
     ∷ (sittings (extra 1 B0 255 ++ extra 1 C0 255) (extra 2 B0 99 ++ extra 2 C0 1) gives 0)
-    -- 4: C0h before B0h, two of one, a wrong session's number, one before the tracks or among the heads, B1h and C1h
+    -- 4: C0h before B0h, two of one, a wrong session's number, one before the tracks or before A0, a C0h alone, B1h, B4h and C1h
     ∷ (sittings (extra 1 C0 0 ++ extra 1 B0 0) [] gives 4)
     ∷ (sittings [] (extra 2 C0 0 ++ extra 2 B0 0) gives 4)
     ∷ (sittings (extra 1 B0 0 ++ extra 1 B0 0) [] gives 4)

@@ -289,7 +289,7 @@ module _ {t : List ℕ} (f : Fit t) where
       let q = fit-end-rows f in
       rw (e, q) at r
 
-  -- "(594 descriptors)": rules 2 and 4 alone allow no more, so rule 1's bound keeps no table out that they let in
+  -- "(594 descriptors)": shown by sessions and tracks, and not by the bound
   pub fit-most : rows (descriptors t) ≤ 594
   fit-most = let n = fit-numbered f in let s = fit-span in let c = fit-count in omega arith
 

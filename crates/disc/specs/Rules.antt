@@ -30,7 +30,8 @@ leadOut s = addressAt s 2
 abbrev pub trackStart : List ℕ → ℕ → ℕ
 trackStart s i = addressAt s (3 + i)
 
--- 7. "track starts rise strictly, a session's last track starts before its lead-out": of the session that s begins with, with n tracks
+-- 7. "track starts rise strictly, a session's last track starts before its lead-out": of the session that s begins with, with n tracks;
+-- K1: what stands after the tracks is passed over
 unfoldable pub rises : List ℕ → ℕ → Bool
 rises s n = every (n - 1) (λ i. ltb (trackStart s i) (trackStart s (i + 1))) and ltb (trackStart s (n - 1)) (leadOut s)
 

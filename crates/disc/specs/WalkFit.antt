@@ -60,7 +60,7 @@ module _ (n : ℕ) (d : List ℕ) (w : walkKept n d ≡ true) where
       rw (q .place) (ap (rowTest r) (sym (rowAt-session d (q .k) (q .i))) ∙ each (q .k) (q .i) (q .below) (q .inside)))
 
   pub walk-rule3 : eachRow 3 d ≡ true
-  walk-rule3 = walk-rows 3 (λ k i l g. rowTest-3 _ ∙ walk-sound l .simple i g)
+  walk-rule3 = walk-rows 3 (λ k i l g. rowTest-3 _ ∙ walk-sound l .rule3 i g)
 
   pub walk-rule5 : eachRow 5 d ≡ true
   walk-rule5 = walk-rows 5 (λ k i l g. rowTest-5 _ ∙ sound-headed (walk-sound l) i g)
@@ -129,7 +129,7 @@ module _ {t : List ℕ} (f : Fit t) where
   fit-sound : {k : ℕ} → k < lastSession t → Sound (k + 1) (session (descriptors t) k) (floorOf (descriptors t) k)
   fit-sound {k} h = record {
     is = fit-session f h;
-    simple = λ i l. sym (rowTest-3 _) ∙ fit-rule f 3 (f .rule3) h l;
+    rule3 = λ i l. sym (rowTest-3 _) ∙ fit-rule f 3 (f .rule3) h l;
     head0 = sym (headed-A0 _ (fit-listed f h .a0 .point)) ∙ sym (rowTest-5 _) ∙ fit-rule f 5 (f .rule5) {k = k} {i = 0} h (omega arith);
     head1 = sym (headed-A1 _ (fit-listed f h .a1 .point)) ∙ sym (rowTest-5 _) ∙ fit-rule f 5 (f .rule5) {k = k} {i = 1} h (omega arith);
     rise = λ m l. range-climbs _ _ (fit-range f {k = k} {i = 3 + m} h (omega arith) (omega arith)) (fit-rise h m l);

@@ -36,7 +36,7 @@ floorOf-next d k = rw (add-one k)
 -- s begins with session k, and its descriptors keep rules 3 to 7, by name
 pub record Sound (k : ℕ) (s : List ℕ) (floor : ℕ) : Type 0 where
   pub is : IsSession k s
-  pub simple : (i : ℕ) → i < count s → plain (rowAt s i) ≡ true
+  pub rule3 : (i : ℕ) → i < count s → plain (rowAt s i) ≡ true
   pub head0 : headA0 (rowAt s 0) ≡ true
   pub head1 : headA1 (rowAt s 1) ≡ true
   pub rise : (m : ℕ) → m < tracks s → climbs (rowAt s (3 + m)) (floorAt s floor m) ≡ true
@@ -119,7 +119,7 @@ module _ (k : ℕ) (s : List ℕ) where
                 (and-both _ _ (kept-names _ _ _ (and-tail _ _ v)) (every-all _ _ (λ m l. kept-names _ _ _ (and-head _ _ (each m l))))));
             numbers = every-all _ _ (λ i l. extraKept-number _ _ (x (3 + tracks s + i) (omega arith) (omega arith) .0));
           };
-          simple =
+          rule3 =
               rows-all s (λ i. plain (rowAt s i)) (kept-plain (rowAt s 0) k A0 (omega arith) (and-head _ _ (and-head _ _ u)))
               (kept-plain (rowAt s 1) k A1 (omega arith) (and-head _ _ (and-head _ _ v))) (kept-plain (rowAt s 2) k A2 (omega arith) (and-tail _ _ v))
               (λ m l. kept-plain (rowAt s (3 + m)) k (first s + m) (omega arith) (and-head _ _ (each m l)))
@@ -137,7 +137,7 @@ module _ (k : ℕ) (s : List ℕ) where
         let l = i .lists in
         let u = and-tail _ _ l in
         let v = and-tail _ _ u in
-        let p = o .simple in
+        let p = o .rule3 in
         let high = i .high in
         let order = i .order in
         and-both _ _ (le-leb _ _ (i .fits)) (and-both _ _ (le-leb _ _ (i .low)) (and-both _ _ (le-leb _ _ order) (and-both _ _ (le-leb _ _ high)

@@ -1,4 +1,4 @@
--- The walk step by step, for the code: over a session's tracks, and over the sessions.
+-- The walk step by step, for the code: over a session's tracks, its B0h and C0h, and the sessions.
 use mathlib.Core.Path.{_≡_, refl, sym, ap, _∙_}
 use mathlib.Core.Bool.{Bool, true, false}
 use mathlib.Core.List.{List}

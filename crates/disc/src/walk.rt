@@ -1,4 +1,4 @@
-// One walk over the descriptors that decides fitness: each is read once and tested for all that rules 3 to 7 ask of it as it is passed.
+// One walk over the descriptors that decides fitness: each is read into a value and tested for all that rules 3 to 7 ask of it as it is passed.
 use crate::rows::row_at;
 use crate::rows::row_from;
 use crate::rules::rule1;

@@ -80,11 +80,11 @@ headA0 r = eqb (r .pframe) 0 and (eqb (r .psec) 0x00 or eqb (r .psec) 0x10 or eq
 unfoldable pub headA1 : Row → Bool
 headA1 r = eqb (r .psec) 0 and eqb (r .pframe) 0
 
--- rule 5
+-- rule 5; K1: "Rules 5 to 7 .. pass over" B0h and C0h
 unfoldable pub headed : Row → Bool
 headed r = if eqb (r .point) A0 then headA0 r else (if eqb (r .point) A1 then headA1 r else true)
 
--- rule 6: "A2 (lead-out) and every track hold an address from 00:02:00 to 99:59:74, seconds to 59, frames to 74"
+-- rule 6: "A2 (lead-out) and every track hold an address from 00:02:00 to 99:59:74, seconds to 59, frames to 74"; it passes over them too
 unfoldable pub addressed : Row → Bool
 addressed r = if eqb (r .point) A2 or isTrack (r .point) then isMsf (r .pmin) (r .psec) (r .pframe) else true
 

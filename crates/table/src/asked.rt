@@ -53,7 +53,7 @@ pub fn extra_kept(r: Row, k: u8) -> bool
     false
 }
 
-// It holds an address that is `low` or later, with seconds and frames of rule 6: its minute is one if a later address's is.
+// It holds an address that is `low` or later, with seconds and frames of rule 6. Its minute is not tested: the lead-out after it bounds that.
 pub fn climbs(r: Row, low: usize) -> bool
     ensures { λ b. ⌜ b ≡ climbs r low ⌝ }
 {

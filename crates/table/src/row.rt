@@ -12,6 +12,7 @@ ghost use mathlib.Core.Path.{_≡_};
 ghost use Prim.Native.Nat.{_≤_};
 ghost use Rattle.table.specs.Row.{blank, rowOf, framesOf, startOf, simple, free, plain, headA0, headA1, headed, addressed, rowTest};
 
+// A descriptor's eleven bytes by name: ADR and control are one of them.
 pub struct Row {
     pub session: u8,
     pub flags: u8,

@@ -26,7 +26,7 @@ format0 disc msf n d =
     headed (disc .first) (disc .last)
     (shownTracks msf n d (rows d) ++ described msf (disc .«lead_flags») AA (disc .«lead_out»))
 
--- "Format 1: 000Ah, 1, S, then one such descriptor for the last session's first track"
+-- "Format 1: 000Ah, 1, S, then one such descriptor for the last session's first track", which stands before any B0h and C0h
 unfoldable pub format1 : Disc → Bool → List ℕ
 format1 disc msf =
     headed 1 (disc .sessions) (described msf (disc .«last_first_flags») (disc .«last_first») (disc .«last_first_start»))
@@ -35,7 +35,7 @@ format1 disc msf =
 abbrev pub whole : List ℕ → List ℕ
 whole s = take (row * rows s) s
 
--- "Format 2: header with 1 and S, then the table's descriptors of sessions N and up"
+-- "Format 2: header with 1 and S, then the table's descriptors of sessions N and up"; K1: "format 2 returns" B0h and C0h
 unfoldable pub format2 : Disc → ℕ → List ℕ → List ℕ
 format2 disc n d = headed 1 (disc .sessions) (whole (session d (n - 1)))
 

@@ -21,7 +21,7 @@ described msf flags number a = 0 ∷ flags ∷ number ∷ 0 ∷ shownAddress msf
 abbrev pub describedRow : Bool → List ℕ → ℕ → List ℕ
 describedRow msf d j = described msf (flagsAt d j) (pointAt d j) (addressAt d j)
 
--- descriptor j of the table is a track "numbered N or more"
+-- descriptor j of the table is a track "numbered N or more"; K1: "formats 0 and 1 pass over" B0h and C0h
 unfoldable pub isShown : ℕ → List ℕ → ℕ → Bool
 isShown n d j = isTrack (pointAt d j) and leb n (pointAt d j)
 
