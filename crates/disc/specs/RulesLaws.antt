@@ -7,10 +7,13 @@ use native.Mathlib.Omega.{arith}
 use native.Mathlib.Numerals.{add-one}
 use borrow.Author.Tests.{leb-true, eq-eqb, eqb-true}
 use lib.ListN.{length, drop, length-drop}
-use Rattle.ground.specs.Tests.{_and_, every, and-head, and-tail, every-none, every-more, every-breaks}
+use Rattle.ground.specs.Tests.{_and_, every, if_then_else_, when, unless, and-head, and-tail, every-none, every-step, every-more, every-breaks}
+use Rattle.table.specs.Row.{rowAt, rowTest}
+use Rattle.table.specs.declared.row.Row.{Row}
 use Rattle.table.specs.Layout.{bound, dataLength, firstSession, lastSession, header, row, descriptors, rows}
 use Rattle.sessions.specs.Session.{tracks, size, starts, session, inPlace, inOrder}
 use Rattle.sessions.specs.SessionLaws.{IsSession, size-least, Walked, walked-none, walked-next, walked-all, starts-within, placed, inOrder-places, inOrder-end, rowsBefore, starts-rows}
+use Rattle.disc.specs.declared.rules.Rows.{Rows}
 use Rattle.disc.specs.Rules.{rule1, rule2, eachRow, leadOut, trackStart, rises, outBefore, beginsAfter, rising, rule7, firstBroken, lateRules, rowRules, fault, isFit}
 
 -- ---- the first broken rule
@@ -38,6 +41,66 @@ pub same-test : (x y : Bool) → (x ≡ true → y ≡ true) → (y ≡ true →
 same-test true y f g = sym (f refl)
 same-test false true f g = g refl
 same-test false false f g = refl
+
+-- ---- rules 3, 5 and 6, descriptor by descriptor
+
+-- what one pass tells: whether each is kept, and nothing of 5 and 6 where 3 is not
+unfoldable pub rowsTold : List ℕ → Rows
+rowsTold d =
+    if eachRow 3 d then record { three = true; five = eachRow 5 d; six = eachRow 6 d }
+    else record { three = false; five = false; six = false }
+
+-- the first j descriptors keep rule 3, and `five` and `six` tell whether they keep the others
+pub record Tested (d : List ℕ) (j : ℕ) (five six : Bool) : Type 0 where
+  pub turns : j ≤ rows d
+  pub three : every j (λ i. rowTest 3 (rowAt d i)) ≡ true
+  pub told5 : five ≡ every j (λ i. rowTest 5 (rowAt d i))
+  pub told6 : six ≡ every j (λ i. rowTest 6 (rowAt d i))
+
+pub tested-none : (d : List ℕ) → Tested d 0 true true
+tested-none d = record { turns = omega arith; three = every-none _; told5 = sym (every-none _); told6 = sym (every-none _) }
+
+module _ {d : List ℕ} {j : ℕ} {five six : Bool} (t : Tested d j five six) where
+  pub tested-next :
+      {r : Row} {a b : Bool} → j < rows d → r ≡ rowAt d j → rowTest 3 r ≡ true → a ≡ five and rowTest 5 r → b ≡ six and rowTest 6 r
+      → Tested d (j + 1) a b
+  tested-next {r} l e h p q = record {
+    turns = omega arith;
+    three = every-more j (λ i. rowTest 3 (rowAt d i)) (t .three) (ap (rowTest 3) (sym e) ∙ h);
+    told5 = p ∙ rw (t .told5, e) (sym (every-step j (λ i. rowTest 5 (rowAt d i))));
+    told6 = q ∙ rw (t .told6, e) (sym (every-step j (λ i. rowTest 6 (rowAt d i))));
+  }
+
+  -- the first descriptor that breaks rule 3 decides
+  pub tested-breaks :
+      {r : Row} → j < rows d → r ≡ rowAt d j → rowTest 3 r ≡ false
+      → _≡_ {A = Rows} (record { three = false; five = false; six = false }) (rowsTold d)
+  unfolding rowsTold eachRow
+  tested-breaks l e h = sym (unless _ _ _ (sym (every-breaks (rows d) (λ i. rowTest 3 (rowAt d i)) j l (ap (rowTest 3) (sym e) ∙ h))))
+
+  pub tested-end : rows d ≤ j → _≡_ {A = Rows} (record { three = true; five = five; six = six }) (rowsTold d)
+  unfolding rowsTold eachRow
+  tested-end l =
+      let u = t .turns in
+      let e : j ≡ rows d = omega arith in
+      let a = rw e at (t .three) in
+      let b = rw e at (t .told5) in
+      let c = rw e at (t .told6) in
+      rw (b, c) (sym (when _ _ _ a))
+
+-- what it tells of rule 3, and then of the others
+pub rowsTold-three : (d : List ℕ) {r : Rows} → r ≡ rowsTold d → r .three ≡ eachRow 3 d
+unfolding rowsTold
+rowsTold-three d {r} e = ap (λ (x : Rows). x .three) e ∙ decided (eachRow 3 d) refl
+  where
+    decided : (b : Bool) → eachRow 3 d ≡ b → rowsTold d .three ≡ eachRow 3 d
+    decided true h = ap (λ (x : Rows). x .three) (when _ _ _ h) ∙ sym h
+    decided false h = ap (λ (x : Rows). x .three) (unless _ _ _ h) ∙ sym h
+
+pub rowsTold-late : (d : List ℕ) {r : Rows} → r ≡ rowsTold d → r .three ≡ true → (r .five ≡ eachRow 5 d) × (r .six ≡ eachRow 6 d)
+unfolding rowsTold
+rowsTold-late d {r} e h =
+    let q = e ∙ when _ _ _ (sym (rowsTold-three d e) ∙ h) in (ap (λ (x : Rows). x .five) q, ap (λ (x : Rows). x .six) q)
 
 -- ---- rule 7, session by session
 

@@ -17,6 +17,7 @@ ghost use lib.ListN.{length};
 ghost use Rattle.ground.specs.Tests.{_and_};
 ghost use Rattle.table.specs.Layout.{row};
 ghost use Rattle.sessions.specs.Session.{first, last, tracks, inOrder};
+ghost use Rattle.disc.specs.RulesLaws.{rowsTold};
 ghost use Rattle.disc.specs.Rules.{rule1, rule2, eachRow, trackStart, rises, beginsAfter, rule7, firstBroken, lateRules, rowRules, fault};
 
 // Rule 1: the length, and the data length that says it.
@@ -51,20 +52,49 @@ pub(crate) fn rule2(t: &[u8]) -> bool
     false
 }
 
-// Every descriptor passes the test of rule n.
-fn every_row(n: usize, d: &[u8]) -> bool
-    ensures { λ r. ⌜ r ≡ eachRow n (now (d .entry)) ⌝ }
+// What one pass over the descriptors tells of rules 3, 5 and 6: whether each is kept, and nothing of 5 and 6 where 3 is not.
+pub struct Rows {
+    pub three: bool,
+    pub five: bool,
+    pub six: bool,
+}
+
+fn both(a: bool, b: bool) -> bool
+    ensures { λ r. ⌜ r ≡ a and b ⌝ }
+{
+    if a {
+        return b;
+    }
+    false
+}
+
+// Every descriptor is read once and held to rules 3, 5 and 6.
+fn test_rows(d: &[u8]) -> Rows
+    ensures { λ r. ⌜ r ≡ rowsTold (now (d .entry)) ⌝ }
 {
     let end = d.len() / ROW;
     let mut j = 0;
+    let mut five = true;
+    let mut six = true;
     while j < end {
-        if row_test(n, row_at(d, j)) {
+        let r = row_at(d, j);
+        if row_test(3, r) {
+            five = both(five, row_test(5, r));
+            six = both(six, row_test(6, r));
             j += 1;
         } else {
-            return false;
+            return Rows {
+                three: false,
+                five: false,
+                six: false,
+            };
         }
     }
-    true
+    Rows {
+        three: true,
+        five,
+        six,
+    }
 }
 
 // The starts of the n tracks of the session that s begins with rise up to its lead-out.
@@ -149,9 +179,10 @@ pub fn fault(t: &[u8]) -> u8
 fn fault_of_rows(d: &[u8], s: u8) -> u8
     ensures { λ r. ⌜ r ≡ firstBroken 3 (rowRules s (now (d .entry))) ⌝ }
 {
-    if every_row(3, d) {
+    let t = test_rows(d);
+    if t.three {
         if in_order(d, s) {
-            return fault_in_order(d, s);
+            return fault_in_order(d, s, t.five, t.six);
         }
         return 4;
     }
@@ -159,12 +190,12 @@ fn fault_of_rows(d: &[u8], s: u8) -> u8
 }
 
 // The first broken rule of 5 to 7, of a table whose sessions stand in order.
-fn fault_in_order(d: &[u8], s: u8) -> u8
-    requires { ⌜ inOrder s (now d) ≡ true ⌝ }
+fn fault_in_order(d: &[u8], s: u8, five: bool, six: bool) -> u8
+    requires { ⌜ (inOrder s (now d) ≡ true) × (five ≡ eachRow 5 (now d)) × (six ≡ eachRow 6 (now d)) ⌝ }
     ensures { λ r. ⌜ r ≡ firstBroken 5 (lateRules s (now (d .entry))) ⌝ }
 {
-    if every_row(5, d) {
-        if every_row(6, d) {
+    if five {
+        if six {
             if rule7(s, d) {
                 return 0;
             }
