@@ -59,6 +59,7 @@ pub struct Rows {
     pub six: bool,
 }
 
+// Both hold.
 fn both(a: bool, b: bool) -> bool
     ensures { λ r. ⌜ r ≡ a and b ⌝ }
 {

@@ -21,7 +21,7 @@ last d = pminAt d 1
 abbrev pub tracks : List ℕ → ℕ
 tracks d = last d + 1 - first d
 
--- how many descriptors with POINT p stand where POINT q does: one or none
+-- one where POINT q is p, and none where it is not
 unfoldable pub one : ℕ → ℕ → ℕ
 one q p = if eqb q p then 1 else 0
 
@@ -32,7 +32,7 @@ b0s d = one (pointAt d (3 + tracks d)) B0
 abbrev pub c0s : List ℕ → ℕ
 c0s d = one (pointAt d (3 + tracks d + b0s d)) C0
 
--- how many descriptors in all, and how many bytes they take
+-- how many descriptors in all, those two counted in, and how many bytes they take
 abbrev pub count : List ℕ → ℕ
 count d = 3 + tracks d + b0s d + c0s d
 

@@ -60,11 +60,11 @@ adr r = r .flags / 16
 unfoldable pub names : Row → ℕ → ℕ → Bool
 names r k p = eqb (r .session) k and eqb (r .point) p
 
--- "every descriptor has ADR 1, TNO 0 and ZERO 0"
+-- rule 3: "every descriptor has ADR 1, TNO 0 and ZERO 0"
 unfoldable pub simple : Row → Bool
 simple r = eqb (adr r) 1 and eqb (r .tno) 0 and eqb (r .zero) 0
 
--- K1: "ADR 5 and TNO 0 (rule 3, in place of its own); other bytes are free"
+-- and of B0h and C0h, K1: "ADR 5 and TNO 0 (rule 3, in place of its own); other bytes are free"
 unfoldable pub free : Row → Bool
 free r = eqb (adr r) 5 and eqb (r .tno) 0
 
