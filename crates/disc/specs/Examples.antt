@@ -202,8 +202,3 @@ tested (c ∷ cs) = eqb (fault (c .table)) (c .rule) and tested cs
 pub examples-tested : tested cases ≡ true
 unfolding tested _and_ _or_ every if_then_else_ isMsf isTrack isExtra startOf names simple free plain headA0 headA1 headed addressed rowTest one size listed numbered isSession starts before follows inPlace inOrder rule1 rule2 eachRow rises outBefore beginsAfter rising rule7 firstBroken lateRules rowRules fault chain
 examples-tested = refl
-
--- and 6,538 bytes are not: to go on to rule 3 would compute for long
-pub bound-reached : rule1 (framed 1 (replicate 6534 0)) ≡ true
-unfolding rule1 _and_
-bound-reached = refl

@@ -10,3 +10,4 @@ pub mod WalkLaws
 pub mod WalkFit
 pub mod WalkSteps
 pub mod Examples
+pub mod Longest
