@@ -3,6 +3,7 @@ pub mod Attentions
 pub mod NoSuccess
 pub mod TwoRuns
 pub mod Refused
+pub mod Whole
 pub mod Marked
 pub mod Addresses
 pub mod Block
@@ -20,4 +21,5 @@ pub mod UnitLaws
 pub mod PacketLaws
 pub mod DriveDevice
 pub mod RefusalLaws
+pub mod WholeLaws
 pub mod AddressLaws

@@ -23,7 +23,7 @@ use Rattle.toc.specs.Answer.{headed as tocHeaded, format0, tocBytes, tocBad}
 use Rattle.target.specs.ReadToc.{readToc}
 use Rattle.target.specs.Perform.{read, perform}
 use Rattle.outcome.specs.Outcome.{stateOf, bytesOf}
-use Rattle.target.specs.Packet.{within, refusalOf, answer}
+use Rattle.target.specs.Packet.{refusalOf, answer}
 
 -- "Table E, 59 bytes"
 abbrev pub tableE : List ℕ
@@ -152,5 +152,5 @@ marks =
     ∷ []
 
 pub marked : allMarked marks ≡ true
-unfolding allMarked sameOutcome sameBytes asked _and_ _or_ if_then_else_ every isMsf toMsf toBlock senseAt sameSense among isKnown attend isTrack isExtra startOf names simple free plain headA0 headA1 headed addressed rowTest one size listed numbered isSession starts before follows inPlace inOrder rule1 rule2 eachRow rises outBefore beginsAfter rising rule7 firstBroken lateRules rowRules fault isFit nextOut outAt covers wanted nextFound found trackOf inData allInData pendingOf gate decode shownAddress isShown shownTrack shownTracks tocHeaded format0 tocBytes tocBad readToc read perform within refusalOf answer
+unfolding allMarked sameOutcome sameBytes asked _and_ _or_ if_then_else_ every isMsf toMsf toBlock senseAt sameSense among isKnown attend isTrack isExtra startOf names simple free plain headA0 headA1 headed addressed rowTest one size listed numbered isSession starts before follows inPlace inOrder rule1 rule2 eachRow rises outBefore beginsAfter rising rule7 firstBroken lateRules rowRules fault isFit nextOut outAt covers wanted nextFound found trackOf inData allInData pendingOf gate decode shownAddress isShown shownTrack shownTracks tocHeaded format0 tocBytes tocBad readToc read perform refusalOf answer
 marked = refl

@@ -1,16 +1,14 @@
 -- A packet on the drive is one of three kinds, refused or not; none but a closing with a disc is a loading.
-use mathlib.Core.Path.{_≡_, refl, sym, ap, _∙_}
+use mathlib.Core.Path.{_≡_, refl, sym, _∙_}
 use mathlib.Core.Bool.{Bool, true, false, not, false≢true}
 use mathlib.Core.List.{List}
 use Prim.Native.Nat.{ℕ, zero, suc}
-use lib.ListN.{length}
-use lib.Dec.{eqb, ltb, eqb·suc-zero}
+use lib.Dec.{eqb, eqb·suc-zero}
 use borrow.Author.Tests.{eqb-true}
 use Rattle.ground.specs.Tests.{_and_, _or_, if_then_else_, when, unless, either}
 use Rattle.drive.specs.declared.state.Unit.{Unit}
 use Rattle.drive.specs.declared.state.Mechanics.{Mechanics}
 use Rattle.drive.specs.declared.state.Drive.{Drive}
-use Rattle.table.specs.Layout.{bound}
 use Rattle.disc.specs.Rules.{isFit}
 use Rattle.gate.specs.Gate.{Result, Reply, refuse, gate}
 use Rattle.command.specs.declared.decode.Command.{Command}
@@ -19,7 +17,7 @@ use Rattle.command.specs.Command.{decode, byte, codeOf, needsDisc, loEj, start}
 use Rattle.command.specs.Tray.{eject, load, startStop}
 use Rattle.target.specs.ReadToc.{readToc}
 use Rattle.target.specs.Perform.{inquiry, seek, read, work, perform}
-use Rattle.target.specs.Packet.{steps, within, refusalOf, longAnswer, answer as replyTo}
+use Rattle.target.specs.Packet.{steps, refusalOf, answer as replyTo}
 use Rattle.claims.specs.Telling.{anyPending}
 use Rattle.claims.specs.UnitLaws.{Kind, asks, frees, orders, isAsking, reply, meets, nextOf, loadingOf, Honest, gate-blind}
 use Rattle.claims.specs.Call.{closed, isRequestSense, isNeeding}
@@ -101,22 +99,14 @@ stepped d p t = steps (decode (codeOf p)) (d .unit) (d .mechanics) p t
 pub stepped-kind : (d : Drive) (p t : List ℕ) → stepped d p t ≡ reply (kind p (d .mechanics) t) (d .unit) (d .mechanics)
 stepped-kind d p t = kind-steps (seen (decode (codeOf p))) (d .unit) (d .mechanics) p t
 
--- the answer is that of the packet's kind, or a refusal
-pub reply-kind : (d : Drive) (p t : List ℕ) (n : ℕ) → (j : ℕ) × (replyTo d p t n ≡ meets j (kind p (d .mechanics) t) (d .unit) (d .mechanics))
-unfolding replyTo within
-reply-kind d p t n = refused (refusalOf d p t n) refl
+-- the answer is that of the packet's kind, or the refusal
+pub reply-kind : (d : Drive) (p t : List ℕ) (n : ℕ) → replyTo d p t n ≡ meets (refusalOf d p t n) (kind p (d .mechanics) t) (d .unit) (d .mechanics)
+unfolding replyTo
+reply-kind d p t n = by-number (refusalOf d p t n)
   where
-    Found : Type 0
-    Found = (j : ℕ) × (replyTo d p t n ≡ meets j (kind p (d .mechanics) t) (d .unit) (d .mechanics))
-
-    long : (b : Bool) → refusalOf d p t n ≡ 0 → ltb bound (length (stepped d p t .full)) ≡ b → Found
-    long true e q = (longAnswer, when _ _ _ (ap (λ (x : ℕ). eqb x 0) e) ∙ when _ _ _ q)
-    long false e q = (0, when _ _ _ (ap (λ (x : ℕ). eqb x 0) e) ∙ unless _ _ _ q ∙ stepped-kind d p t)
-
-    refused : (j : ℕ) → refusalOf d p t n ≡ j → Found
-    refused zero e = long _ e refl
-    refused (suc j) e =
-        (suc j, unless _ _ _ (ap (λ (x : ℕ). eqb x 0) e ∙ eqb·suc-zero j) ∙ ap (λ (x : ℕ). refuse x (d .unit) (d .mechanics)) e)
+    by-number : (j : ℕ) → (if eqb j 0 then stepped d p t else refuse j (d .unit) (d .mechanics)) ≡ meets j (kind p (d .mechanics) t) (d .unit) (d .mechanics)
+    by-number zero = when _ _ _ refl ∙ stepped-kind d p t
+    by-number (suc j) = unless _ _ _ (eqb·suc-zero j)
 
 -- ---- no command but a closing is a loading
 

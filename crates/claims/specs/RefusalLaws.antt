@@ -1,15 +1,15 @@
 -- Which number a call gives, and what a refused call leaves.
 use mathlib.Core.Path.{_≡_, refl, sym, ap, _∙_}
-use mathlib.Core.Bool.{Bool, true, false, not, true≢false}
+use mathlib.Core.Bool.{Bool, true, false, not}
 use mathlib.Core.List.{List, []}
-use Prim.Native.Nat.{ℕ, zero, suc, _<_}
+use Prim.Native.Nat.{ℕ, zero, suc, _≤_, _<_}
 use native.Mathlib.Omega.{arith}
 use native.Mathlib.Nat.{lt-of-not-le}
 use native.Mathlib.Decide.{decLe}
 use borrow.Author.Tests.{eq-eqb, ne-eqb, le-ltb, lt-ltb}
 use lib.ListN.{length}
 use lib.Dec.{eqb, ltb, leb}
-use Rattle.ground.specs.Tests.{_and_, _or_, if_then_else_, when, unless}
+use Rattle.ground.specs.Tests.{_and_, _or_, if_then_else_}
 use Rattle.ground.specs.Memory.{fill-none}
 use Rattle.drive.specs.declared.state.Unit.{Unit}
 use Rattle.drive.specs.declared.state.Mechanics.{Mechanics}
@@ -26,16 +26,12 @@ use Rattle.address.specs.Address.{MsfAnswer, BlockAnswer, last, addressOf, isMs
 use Rattle.address.specs.Laws.{toMsf-at, toMsf-refused}
 use Rattle.gate.specs.Unit.{pendingOf}
 use Rattle.gate.specs.Gate.{Result, fails, goes, Reply, gate}
-use Rattle.disc.specs.RulesLaws.{isFit-true}
-use Rattle.disc.specs.Disc.{discOf}
-use Rattle.target.specs.FitFacts.{fit-facts}
-use Rattle.target.specs.PacketLaws.{steps-within}
 use Rattle.outcome.specs.Outcome.{stateOf}
-use Rattle.target.specs.Packet.{refusalOf, within, answer as replyTo}
+use Rattle.target.specs.Packet.{refusalOf, answer as replyTo}
 use Rattle.claims.specs.Telling.{Attention, power, change, Answer, answerOf, tellsTo}
 use Rattle.claims.specs.UnitLaws.{Kind, asks, frees, orders, reply, meets}
 use Rattle.claims.specs.Call.{Call, powering, pressing, laying, lifting, packet, memoryOf, answer, next, event, isPowering, closed, isLoading, causes, isRequestSense, tells}
-use Rattle.claims.specs.PacketLaws.{closed-still, kind, stepped, stepped-kind, reply-kind}
+use Rattle.claims.specs.PacketLaws.{closed-still, kind, reply-kind}
 
 -- ---- what is not refused has the number 0
 
@@ -53,6 +49,10 @@ reply-number (asks limit) u m = refl
 reply-number (frees (fails f)) u m = refl
 reply-number (frees (goes next loading full limit start count)) u m = refl
 reply-number (orders r) u m = gate-number (u .power) (u .change) (u .sense) m r
+
+meets-number : {M : Type 0} (j : ℕ) (k : Kind M) (u : Unit) (m : M) → meets j k u m .number ≡ j
+meets-number zero k u m = reply-number k u m
+meets-number (suc j) k u m = refl
 
 -- ---- a refused call
 
@@ -73,8 +73,8 @@ call-unchanged pressing d n = (button-refused d n, refl)
 call-unchanged laying d n = (lay-refused d n, refl)
 call-unchanged lifting d n = (lift-refused d n, refl)
 call-unchanged (packet p t m) d n =
-    let f = reply-kind d p t (length m) in
-    let u : Unchanged d m (replyTo d p t (length m)) = rw (f .1) (meets-unchanged (f .0) (kind p (d .mechanics) t) d m) in
+    let u : Unchanged d m (replyTo d p t (length m)) =
+    rw (reply-kind d p t (length m)) (meets-unchanged (refusalOf d p t (length m)) (kind p (d .mechanics) t) d m) in
     u n
 
 -- a refused call is no cause and tells nothing
@@ -116,88 +116,33 @@ refused-silent k c d n = (refused-causes k c d n, refused-tells k c d n)
 -- ---- the numbers, in the order of their tests
 
 -- n is the number of a packet with those tests
-pub record Ordered (twelve known short unfit long : Bool) (n : ℕ) : Type 0 where
-  pub zero : eqb n 0 ≡ twelve and known and not short and not unfit and not long
+pub record Ordered (twelve known short unfit : Bool) (n : ℕ) : Type 0 where
+  pub zero : eqb n 0 ≡ twelve and known and not short and not unfit
   pub one : eqb n 1 ≡ not twelve
   pub two : eqb n 2 ≡ twelve and not known
   pub three : eqb n 3 ≡ twelve and known and short
   pub four : eqb n 4 ≡ twelve and known and not short and unfit
-  pub nine : eqb n 9 ≡ twelve and known and not short and not unfit and long
+  pub most : n ≤ 4
 
 module _ (d : Drive) (p t : List ℕ) (n : ℕ) where
-  -- the refusal before the steps
-  refusal-gives : {k : ℕ} → refusalOf d p t n ≡ k → eqb k 0 ≡ false → replyTo d p t n .number ≡ k
-  unfolding replyTo
-  refusal-gives {k} e z = ap (λ (r : Reply Mechanics). r .number) (unless _ _ _ (ap (λ (x : ℕ). eqb x 0) e ∙ z)) ∙ e
+  pub refusal-ordered : Ordered (eqb (length p) 12) (isKnown (d .unit .sense)) (ltb n bound) (isLoaded (d .mechanics) and not (isFit t)) (refusalOf d p t n)
+  unfolding refusalOf if_then_else_ _and_
+  refusal-ordered = by-tests (eqb (length p) 12) (isKnown (d .unit .sense)) (ltb n bound) (isLoaded (d .mechanics) and not (isFit t))
+    where
+      by-tests : (twelve known short unfit : Bool)
+          → Ordered twelve known short unfit (if not twelve then 1 else (if not known then 2 else (if short then 3 else (if unfit then 4 else 0))))
+      by-tests false known short unfit = record { zero = refl; one = refl; two = refl; three = refl; four = refl; most = omega arith }
+      by-tests true false short unfit = record { zero = refl; one = refl; two = refl; three = refl; four = refl; most = omega arith }
+      by-tests true true true unfit = record { zero = refl; one = refl; two = refl; three = refl; four = refl; most = omega arith }
+      by-tests true true false true = record { zero = refl; one = refl; two = refl; three = refl; four = refl; most = omega arith }
+      by-tests true true false false = record { zero = refl; one = refl; two = refl; three = refl; four = refl; most = omega arith }
 
-  steps-give : refusalOf d p t n ≡ 0 → replyTo d p t n ≡ within (d .unit) (d .mechanics) (stepped d p t)
-  unfolding replyTo
-  steps-give e = when _ _ _ (ap (λ (x : ℕ). eqb x 0) e)
+  -- the answer's number is that of the refusal
+  reply-refusal : replyTo d p t n .number ≡ refusalOf d p t n
+  reply-refusal = rw (reply-kind d p t n) (meets-number (refusalOf d p t n) (kind p (d .mechanics) t) (d .unit) (d .mechanics))
 
-abbrev first : Bool → Bool → Bool → Bool → Bool → ℕ
-first false known short unfit long = 1
-first true false short unfit long = 2
-first true true true unfit long = 3
-first true true false true long = 4
-first true true false false true = 9
-first true true false false false = 0
-
-first-ordered : (twelve known short unfit long : Bool) → Ordered twelve known short unfit long (first twelve known short unfit long)
-unfolding _and_
-first-ordered false known short unfit long = record { zero = refl; one = refl; two = refl; three = refl; four = refl; nine = refl }
-first-ordered true false short unfit long = record { zero = refl; one = refl; two = refl; three = refl; four = refl; nine = refl }
-first-ordered true true true unfit long = record { zero = refl; one = refl; two = refl; three = refl; four = refl; nine = refl }
-first-ordered true true false true long = record { zero = refl; one = refl; two = refl; three = refl; four = refl; nine = refl }
-first-ordered true true false false true = record { zero = refl; one = refl; two = refl; three = refl; four = refl; nine = refl }
-first-ordered true true false false false = record { zero = refl; one = refl; two = refl; three = refl; four = refl; nine = refl }
-
-module _ (d : Drive) (p t : List ℕ) (n : ℕ) where
-  reply-first : (a b c e g : Bool) → eqb (length p) 12 ≡ a → isKnown (d .unit .sense) ≡ b → ltb n bound ≡ c → isLoaded (d .mechanics) and not (isFit t) ≡ e
-      → ltb bound (length (stepped d p t .full)) ≡ g → replyTo d p t n .number ≡ first a b c e g
-  unfolding refusalOf within
-  reply-first false b c e g h i j k l = refusal-gives d p t n (when _ _ _ (ap not h)) refl
-  reply-first true false c e g h i j k l = refusal-gives d p t n (unless _ _ _ (ap not h) ∙ when _ _ _ (ap not i)) refl
-  reply-first true true true e g h i j k l =
-      refusal-gives d p t n (unless _ _ _ (ap not h) ∙ unless _ _ _ (ap not i) ∙ when _ _ _ j) refl
-  reply-first true true false true g h i j k l =
-      refusal-gives d p t n (unless _ _ _ (ap not h) ∙ unless _ _ _ (ap not i) ∙ unless _ _ _ j ∙ when _ _ _ k) refl
-  reply-first true true false false true h i j k l =
-      ap (λ (r : Reply Mechanics). r .number)
-      (steps-give d p t n (unless _ _ _ (ap not h) ∙ unless _ _ _ (ap not i) ∙ unless _ _ _ j ∙ unless _ _ _ k) ∙ when _ _ _ l)
-  reply-first true true false false false h i j k l =
-      ap (λ (r : Reply Mechanics). r .number)
-      (steps-give d p t n (unless _ _ _ (ap not h) ∙ unless _ _ _ (ap not i) ∙ unless _ _ _ j ∙ unless _ _ _ k) ∙ unless _ _ _ l ∙ stepped-kind d p t)
-      ∙ reply-number (kind p (d .mechanics) t) (d .unit) (d .mechanics)
-
-  pub reply-ordered :
-      Ordered (eqb (length p) 12) (isKnown (d .unit .sense)) (ltb n bound) (isLoaded (d .mechanics) and not (isFit t)) (ltb bound (length (stepped d p t .full)))
-      (replyTo d p t n .number)
-  reply-ordered = rw (reply-first _ _ _ _ _ refl refl refl refl refl) (first-ordered _ _ _ _ _)
-
--- ---- 9 is never given
-
--- the test for 9 cannot hold once the one for 4 does not
-last-off : (a b c u o : Bool) → (u ≡ false → o ≡ false) → a and b and not c and not u and o ≡ false
-unfolding _and_
-last-off false b c u o h = refl
-last-off true false c u o h = refl
-last-off true true true u o h = refl
-last-off true true false true o h = refl
-last-off true true false false o h = h refl
-
--- a loaded drive that is not refused for its table has a fit one
-fit-loaded : (t : List ℕ) (l f : Bool) → isFit t ≡ f → l and not f ≡ false → l ≡ true → isFit t ≡ true
-unfolding _and_
-fit-loaded t l true e h k = e
-fit-loaded t true false e h k = absurd (true≢false h)
-fit-loaded t false false e h k = absurd (true≢false (sym k))
-
--- whatever the first three tests say, the test for 9 does not hold
-pub over-never : (d : Drive) (p t : List ℕ) (twelve known under : Bool)
-    → twelve and known and not under and not (isLoaded (d .mechanics) and not (isFit t)) and ltb bound (length (stepped d p t .full)) ≡ false
-over-never d p t a b c = last-off a b c _ _
-    (λ u. le-ltb _ _ (steps-within d p t (discOf t)
-    (λ l. record { fits = fit-facts (isFit-true (fit-loaded t _ (isFit t) refl u l)); same = refl })))
+  pub reply-ordered : Ordered (eqb (length p) 12) (isKnown (d .unit .sense)) (ltb n bound) (isLoaded (d .mechanics) and not (isFit t)) (replyTo d p t n .number)
+  reply-ordered = rw reply-refusal refusal-ordered
 
 -- ---- the other calls
 

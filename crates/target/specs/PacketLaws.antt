@@ -22,18 +22,13 @@ use Rattle.gate.specs.declared.unit.Pending.{Pending}
 use Rattle.gate.specs.declared.unit.Pending.the-variants.{Power, Change, Nothing}
 use Rattle.gate.specs.Unit.{clear, pendingOf, attentionSense, told}
 use Rattle.gate.specs.Gate.{Result, fails, goes, Reply, refuse, check, good, settle, pass, meet, gate}
-use Rattle.command.specs.declared.decode.Command.{Command}
-use Rattle.command.specs.declared.decode.Kind.{Kind}
-use Rattle.command.specs.declared.decode.Kind.the-variants.{Asks, Passes, Gates}
 use Rattle.command.specs.declared.done.Done.{Done}
 use Rattle.outcome.specs.declared.Outcome.{Outcome}
 use Rattle.outcome.specs.Outcome.{outcomeOf, bytesOf, Answered, refused, checked, granted, finished}
 use Rattle.command.specs.Done.{doneOf}
-use Rattle.target.specs.Perform.{written, Performed, perform}
-use Rattle.target.specs.FitFacts.{ReadOff}
-use Rattle.target.specs.PerformLaws.{fullOf, perform-within}
-use Rattle.command.specs.Command.{codeOf, decode, kindOf}
-use Rattle.target.specs.Packet.{steps, stepsBy, answer, refusalOf, within, notTwelve, shortMemory}
+use Rattle.target.specs.Perform.{written, Performed}
+use Rattle.command.specs.Command.{codeOf, decode}
+use Rattle.target.specs.Packet.{steps, answer, refusalOf, notTwelve, shortMemory}
 
 -- no disc was read
 abbrev pub unread : Disc
@@ -123,46 +118,16 @@ module _ (d : Drive) (p t : List ℕ) (n : ℕ) where
             (unless _ _ _ (ap not (eq-eqb _ _ a)) ∙ unless _ _ _ (ap not b) ∙ unless _ _ _ (le-ltb _ _ c) ∙ when _ _ _ (and-both _ _ h (ap not k)))
             (λ z. omega arith)
 
-        -- none of them: the steps, if no full answer passes the bound
-        pub answer-steps :
-            (isLoaded (d .mechanics) ≡ true → isFit t ≡ true) → length (stepsOf d p t .full) ≤ bound → answer d p t n ≡ stepsOf d p t
-        unfolding answer refusalOf within
-        answer-steps f h =
+        -- none of them: the steps
+        pub answer-steps : (isLoaded (d .mechanics) ≡ true → isFit t ≡ true) → answer d p t n ≡ stepsOf d p t
+        unfolding answer refusalOf
+        answer-steps f =
             when _ _ _ (eq-eqb _ _
             (unless _ _ _ (ap not (eq-eqb _ _ a)) ∙ unless _ _ _ (ap not b) ∙ unless _ _ _ (le-ltb _ _ c) ∙ unless _ _ _ (fits (isLoaded (d .mechanics)) refl)))
-            ∙ unless _ _ _ (le-ltb _ _ h)
           where
             fits : (l : Bool) → isLoaded (d .mechanics) ≡ l → isLoaded (d .mechanics) and not (isFit t) ≡ false
             fits true e = sym (and-late _ _ (sym (ap not (f e))))
             fits false e = sym (and-off _ _ e)
-
--- ---- no full answer passes the bound
-
-settle-within : (u : Unit) (m : Mechanics) (r : Result Mechanics) → length (fullOf r) ≤ bound → length (settle u m r .full) ≤ bound
-settle-within u m (fails f) h = omega arith
-settle-within u m (goes next loading full limit start count) h = h
-
-pass-within : (u : Unit) (m : Mechanics) (r : Result Mechanics) → length (fullOf r) ≤ bound → length (pass u m r .full) ≤ bound
-pass-within u m (fails f) h = omega arith
-pass-within u m (goes next loading full limit start count) h = h
-
-meet-within : (a : Pending) (u : Unit) (m : Mechanics) (r : Result Mechanics) → length (fullOf r) ≤ bound → length (meet a u m r .full) ≤ bound
-meet-within Power u m r h = omega arith
-meet-within Change u m r h = omega arith
-meet-within Nothing u m r h = settle-within u m r h
-
-steps-by :
-    (k : Kind) (c : Command) (u : Unit) (m : Mechanics) (p t : List ℕ) → length (fullOf (perform c p m t)) ≤ bound
-    → length (stepsBy k c u m p t .full) ≤ bound
-unfolding gate
-steps-by Asks c u m p t h = omega arith
-steps-by Passes c u m p t h = pass-within u m (perform c p m t) h
-steps-by Gates c u m p t h = meet-within (pendingOf u) u m (perform c p m t) h
-
-pub steps-within : (d : Drive) (p t : List ℕ) (disc : Disc) → (isLoaded (d .mechanics) ≡ true → ReadOff t disc) → length (stepsOf d p t .full) ≤ bound
-steps-within d p t disc r =
-    let c = decode (codeOf p) in
-    steps-by (kindOf c) c (d .unit) (d .mechanics) p t (perform-within c p (d .mechanics) t disc r)
 
 -- ---- step 2
 

@@ -1,8 +1,8 @@
 -- How the code's answers meet a result: a failure writes nothing, and what went well was laid.
 use mathlib.Core.Path.{_≡_, refl, sym, ap, _∙_}
-use mathlib.Core.Bool.{Bool, true, false, not, true≢false}
+use mathlib.Core.Bool.{Bool, true, false, not}
 use mathlib.Core.List.{List, []}
-use Prim.Native.Nat.{ℕ, _+_, _-_, _≤_, _<_, min}
+use Prim.Native.Nat.{ℕ, _+_, _≤_, _<_, min}
 use native.Mathlib.Omega.{arith}
 use lib.ListN.{length, take, length-take, length-drop}
 use lib.Seq.{take-nil}
@@ -19,13 +19,11 @@ use Rattle.gate.specs.declared.fault.Fault.{Fault}
 use Rattle.gate.specs.declared.fault.Fault.the-variants.{OutOfRange, BadField, IllegalMode}
 use Rattle.gate.specs.Gate.{Result, fails, goes}
 use Rattle.command.specs.declared.decode.Command.{Command}
-use Rattle.command.specs.declared.decode.Command.the-variants.{TestUnitReady, RequestSense, Inquiry, StartStop, Prevent, ReadCapacity, Read10, Seek, ReadToc, Read12, Unknown}
 use Rattle.command.specs.declared.done.Done.{Done}
 use Rattle.command.specs.declared.done.Done.the-variants.{Fails, Goes}
-use Rattle.command.specs.Command.{byte, bit0, needsDisc, addressIn, count10, count12}
+use Rattle.command.specs.Command.{byte, bit0, needsDisc}
 use Rattle.command.specs.Tray.{eject, load, startStop, noMedium}
 use Rattle.toc.specs.Answer.{tocBytes, tocBad}
-use Rattle.toc.specs.AnswerLaws.{tocBytes-within}
 use Rattle.target.specs.ReadToc.{readToc, formatIn, msfIn, numberIn, lengthIn}
 use Rattle.target.specs.FitFacts.{ReadOff}
 use Rattle.target.specs.Perform.{written, Performed, inquiryBytes, inquiry, L, over, seek, read, work, perform}
@@ -156,39 +154,3 @@ perform-loaded c p m t k = unless _ _ _ (sym (and-late _ _ (sym (ap not k))))
 pub perform-free : (c : Command) (p : List ℕ) (m : Mechanics) (t : List ℕ) → needsDisc c p ≡ false → perform c p m t ≡ work c p m t
 unfolding perform
 perform-free c p m t h = unless _ _ _ (sym (and-off _ _ h))
-
--- ---- no full answer passes the bound
-
-inquiry-within : (p : List ℕ) (m : Mechanics) → length (fullOf (inquiry p m)) ≤ bound
-unfolding inquiry
-inquiry-within p m = either (λ (r : Result Mechanics). length (fullOf r) ≤ bound) (bit0 (byte p 1)) (λ h. omega arith) (λ h. omega arith)
-
-readToc-within : (p : List ℕ) (m : Mechanics) {t : List ℕ} {disc : Disc} → ReadOff t disc → length (fullOf (readToc p m t)) ≤ bound
-unfolding readToc
-readToc-within p m {t} r =
-    either (λ (x : Result Mechanics). length (fullOf x) ≤ bound) (tocBad (discOf t) (formatIn p) (numberIn p)) (λ h. omega arith)
-    (λ h. tocBytes-within (discOf t) (formatIn p) (msfIn p) (numberIn p) (descriptors t) (readOff-length r))
-
--- of a command that has what it needs
-work-within : (c : Command) (p : List ℕ) (m : Mechanics) (t : List ℕ) (disc : Disc) → (needsDisc c p ≡ true → ReadOff t disc)
-    → length (fullOf (work c p m t)) ≤ bound
-work-within TestUnitReady p m t disc r = omega arith
-work-within RequestSense p m t disc r = omega arith
-work-within Inquiry p m t disc r = inquiry-within p m
-work-within StartStop p m t disc r = rw (startStop-quiet (byte p 4) m) (omega arith)
-work-within Prevent p m t disc r = omega arith
-work-within ReadCapacity p m t disc r = omega arith
-work-within Read10 p m t disc r = rw (read-quiet (addressIn p) (count10 p) m t) (omega arith)
-work-within Seek p m t disc r = rw (seek-quiet (addressIn p) m (L t)) (omega arith)
-work-within ReadToc p m t disc r = readToc-within p m (r refl)
-work-within Read12 p m t disc r = rw (read-quiet (addressIn p) (count12 p) m t) (omega arith)
-work-within Unknown p m t disc r = omega arith
-
-pub perform-within : (c : Command) (p : List ℕ) (m : Mechanics) (t : List ℕ) (disc : Disc) → (isLoaded m ≡ true → ReadOff t disc)
-    → length (fullOf (perform c p m t)) ≤ bound
-perform-within c p m t disc r = decided (needsDisc c p) refl (isLoaded m) refl
-  where
-    decided : (n : Bool) → needsDisc c p ≡ n → (l : Bool) → isLoaded m ≡ l → length (fullOf (perform c p m t)) ≤ bound
-    decided true h true k = rw (perform-loaded c p m t k) (work-within c p m t disc (λ z. r k))
-    decided true h false k = rw (perform-empty c p m t h k) (omega arith)
-    decided false h l k = rw (perform-free c p m t h) (work-within c p m t disc (λ z. absurd (true≢false (sym z ∙ h))))

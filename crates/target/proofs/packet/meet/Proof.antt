@@ -1,10 +1,10 @@
--- `target::packet::meet` meets its contract: a loaded drive's table is fit or the call is refused, and no full answer passes the bound.
+-- `target::packet::meet` meets its contract: a loaded drive's table is fit or the call is refused.
 use mathlib.Core.Path.{sym, _∙_}
 use mathlib.Core.Bool.{true≢false}
 use denote.Ref.{now}
 use Rattle.disc.specs.DiscLaws.{reading-fit, reading-unfit}
 use Rattle.target.specs.FitFacts.{read-off}
-use Rattle.target.specs.PacketLaws.{unread, steps-within, answer-4, answer-steps, answered-refused}
+use Rattle.target.specs.PacketLaws.{answer-4, answer-steps, answered-refused}
 use borrow.Author.Needs.{needs}
 use Rattle.target.proofs.packet.meet.Statement.{statement}
 use Rattle.target.proofs.packet.meet.Tie as tie
@@ -18,8 +18,7 @@ returns : tie.Need-returns
 returns c = let x = c .before .before .before .before .before .before .before .before .before .before .before .before .before .args in
     let q = c .before .before .before .before .before .before .before .before .before .before .before .before .before .pre in
     let r = sym (c .before .before .before .before .before .before .before .read .ensures) ∙ c .before .before .before .before .before .disc .given .1 in
-    let w = steps-within (x .d) (now (x .p)) (now (x .t)) _ (λ h. read-off _ _ r) in
-    rw (answer-steps (x .d) (now (x .p)) (now (x .t)) _ (q .0) (q .1) (q .2) (λ h. reading-fit _ _ r .0) w) (c .before .before .steps .ensures)
+    rw (answer-steps (x .d) (now (x .p)) (now (x .t)) _ (q .0) (q .1) (q .2) (λ h. reading-fit _ _ r .0)) (c .before .before .steps .ensures)
 
 returns-2 : tie.Need-returns-2
 returns-2 c = let x = c .before .before .before .before .before .before .before .before .before .args in
@@ -37,8 +36,7 @@ returns-3 : tie.Need-returns-3
 returns-3 c = let x = c .before .before .before .before .before .before .before .before .before .before .args in
     let q = c .before .before .before .before .before .before .before .before .before .before .pre in
     let l = sym (c .before .before .before .before .before .before .is-loaded .ensures) ∙ c .before .before .before .before .before .if1 .left in
-    let w = steps-within (x .d) (now (x .p)) (now (x .t)) unread (λ h. absurd (true≢false (sym h ∙ l))) in
-    rw (answer-steps (x .d) (now (x .p)) (now (x .t)) _ (q .0) (q .1) (q .2) (λ h. absurd (true≢false (sym h ∙ l))) w) (c .before .before .steps2 .ensures)
+    rw (answer-steps (x .d) (now (x .p)) (now (x .t)) _ (q .0) (q .1) (q .2) (λ h. absurd (true≢false (sym h ∙ l)))) (c .before .before .steps2 .ensures)
 
 pub meet-spec : {M : Type 1} → statement M
 meet-spec =

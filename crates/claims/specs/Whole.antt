@@ -1,0 +1,82 @@
+-- K9: "with a fit table no full answer passes K1's bound, so refusal 3 covers it": every answer comes whole.
+use Prim.Native.Nat.{ℕ, _≤_, min}
+use mathlib.Core.Path.{_≡_, refl, ap, _∙_}
+use mathlib.Core.Bool.{true, not}
+use mathlib.Core.List.{List, [], _∷_, _++_}
+use native.Mathlib.Omega.{arith}
+use lib.ListN.{length, take, drop, length-take}
+use borrow.Author.Tests.{le-ltb}
+use Rattle.ground.specs.Tests.{_and_, _or_, if_then_else_}
+use Rattle.ground.specs.Memory.{fill-fits}
+use Rattle.drive.specs.declared.state.Mechanics.{Mechanics}
+use Rattle.drive.specs.declared.state.Drive.{Drive}
+use Rattle.drive.specs.Sense.{senseAt, sameSense, among, isKnown}
+use Rattle.drive.specs.State.{isLoaded}
+use Rattle.table.specs.Layout.{bound, lastSession, descriptors}
+use Rattle.disc.specs.Rules.{isFit}
+use Rattle.disc.specs.RulesLaws.{isFit-true, fit-numbered}
+use Rattle.disc.specs.Disc.{discOf}
+use Rattle.disc.specs.Longest.{longest, longest-fit, longest-length}
+use Rattle.gate.specs.Unit.{pendingOf}
+use Rattle.gate.specs.Gate.{Reply, gate}
+use Rattle.command.specs.Command.{codeOf, decode}
+use Rattle.toc.specs.Answer.{format2, tocBytes, tocBad}
+use Rattle.target.specs.ReadToc.{readToc}
+use Rattle.target.specs.Perform.{perform}
+use Rattle.target.specs.Packet.{steps}
+use Rattle.target.specs.PacketLaws.{answer-steps}
+use Rattle.claims.specs.Call.{Call, powering, pressing, laying, lifting, packet, answer}
+use Rattle.claims.specs.Marked.{loadedE}
+use Rattle.claims.specs.WholeLaws.{fit-where-loaded, stepped-bounded, reply-held, format2-length}
+use Rattle.claims.specs.PacketLaws.{stepped}
+
+-- of a fit table, or of a drive that is not loaded: no full answer, before cutting, passes the bound, whatever the packet and the state
+pub full-answers-bounded : (d : Drive) (p t : List ℕ) → isFit t or not (isLoaded (d .mechanics)) ≡ true
+    → length (steps (decode (codeOf p)) (d .unit) (d .mechanics) p t .full) ≤ bound
+full-answers-bounded d p t h = let b = stepped-bounded d p t (fit-where-loaded _ _ h) in omega arith
+
+-- and so no call's does, of any table and memory: what is refused has no bytes
+pub answers-bounded : (c : Call) (d : Drive) → length (answer c d .full) ≤ bound
+answers-bounded powering d = omega arith
+answers-bounded pressing d = omega arith
+answers-bounded laying d = omega arith
+answers-bounded lifting d = omega arith
+answers-bounded (packet p t m) d = reply-held d p t (length m) .0
+
+-- a memory that passes refusal 3 holds every answer whole: none is longer than the memory that was lent
+pub memory-holds-answers : (d : Drive) (p t m : List ℕ) → length (answer (packet p t m) d .full) ≤ length m
+memory-holds-answers d p t m = let b = reply-held d p t (length m) .1 in omega arith
+
+-- so the allocation length alone cuts it: those bytes stand in front, and the rest of the memory is as it was
+pub answers-whole : (d : Drive) (p t m : List ℕ) →
+    let a = answer (packet p t m) d in
+    a .memory ≡ take (a .limit) (a .full) ++ drop (min (a .limit) (length (a .full))) m
+answers-whole d p t m =
+    let a = answer (packet p t m) d in
+    let l = length-take (a .limit) (a .full) in
+    let h = reply-held d p t (length m) .1 in
+    fill-fits m (take (a .limit) (a .full)) (omega arith) ∙ ap (λ (n : ℕ). take (a .limit) (a .full) ++ drop n m) l
+
+-- ---- the bound is reached
+
+-- READ TOC: format 2 from session 1 on, with room for 6,538 bytes
+abbrev pub wholeToc : List ℕ
+wholeToc = 0x43 ∷ 0x00 ∷ 0x02 ∷ 0x00 ∷ 0x00 ∷ 0x00 ∷ 0x01 ∷ 0x19 ∷ 0x8A ∷ 0x00 ∷ 0x00 ∷ 0x00 ∷ []
+
+-- of a drive "Loaded, nothing pending" the steps answer it whole
+steps-whole : (t : List ℕ) → isFit t ≡ true → stepped loadedE wholeToc t .full ≡ format2 (discOf t) 1 (descriptors t)
+unfolding decode if_then_else_ gate pendingOf perform readToc tocBad tocBytes _and_
+steps-whole t f = rw (le-ltb (lastSession t) 1 (fit-numbered (isFit-true f) .low))
+
+known : isKnown (loadedE .unit .sense) ≡ true
+unfolding isKnown among sameSense senseAt _and_ _or_
+known = refl
+
+-- and the answer is as long as the table
+pub format2-as-long : (t m : List ℕ) → isFit t ≡ true → bound ≤ length m → length (answer (packet wholeToc t m) loadedE .full) ≡ length t
+format2-as-long t m f h =
+    ap (λ (r : Reply Mechanics). length (r .full)) (answer-steps loadedE wholeToc t (length m) refl known h (λ l. f)) ∙ ap length (steps-whole t f) ∙ format2-length t f
+
+-- 99 sessions of one track with a B0h and a C0h each are 594 descriptors, and fit: their answer has 6,538 bytes
+pub bound-reached : (m : List ℕ) → bound ≤ length m → length (answer (packet wholeToc longest m) loadedE .full) ≡ bound
+bound-reached m h = format2-as-long longest m longest-fit h ∙ longest-length

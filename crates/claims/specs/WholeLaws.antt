@@ -1,0 +1,164 @@
+-- No full answer passes the bound: READ TOC's are no longer than the table, and every other is short or empty.
+use mathlib.Core.Path.{_≡_, refl, sym, ap, _∙_}
+use mathlib.Core.Bool.{Bool, true, false, not, true≢false}
+use mathlib.Core.List.{List}
+use Prim.Native.Nat.{ℕ, zero, suc, _+_, _≤_}
+use native.Mathlib.Omega.{arith}
+use lib.ListN.{length, length-append, length-drop}
+use lib.Dec.{eqb, ltb}
+use native.Mathlib.Nat.{lt-of-not-le}
+use native.Mathlib.Decide.{decLe}
+use borrow.Author.Tests.{lt-ltb}
+use Rattle.ground.specs.Tests.{_and_, _or_, either, and-head, and-tail}
+use Rattle.drive.specs.declared.state.Unit.{Unit}
+use Rattle.drive.specs.declared.state.Mechanics.{Mechanics}
+use Rattle.drive.specs.declared.state.Drive.{Drive}
+use Rattle.drive.specs.Sense.{isKnown}
+use Rattle.drive.specs.State.{isLoaded}
+use Rattle.table.specs.Layout.{bound, header, descriptors, lastSession}
+use Rattle.sessions.specs.Session.{session}
+use Rattle.disc.specs.Rules.{isFit}
+use Rattle.disc.specs.RulesLaws.{isFit-true, fit-sized, fit-numbered}
+use Rattle.disc.specs.FitLaws.{session-none}
+use Rattle.disc.specs.Disc.{discOf}
+use Rattle.gate.specs.declared.unit.Pending.{Pending}
+use Rattle.gate.specs.declared.unit.Pending.the-variants.{Power, Change, Nothing}
+use Rattle.gate.specs.Unit.{pendingOf}
+use Rattle.gate.specs.Gate.{Result, fails, goes, settle, pass, meet, gate}
+use Rattle.command.specs.declared.decode.Command.{Command}
+use Rattle.command.specs.declared.decode.Command.the-variants.{TestUnitReady, RequestSense, Inquiry, StartStop, Prevent, ReadCapacity, Read10, Seek, ReadToc, Read12, Unknown}
+use Rattle.command.specs.declared.decode.Kind.{Kind}
+use Rattle.command.specs.declared.decode.Kind.the-variants.{Asks, Passes, Gates}
+use Rattle.command.specs.Command.{byte, bit0, needsDisc, addressIn, count10, count12, codeOf, decode, kindOf}
+use Rattle.toc.specs.Answer.{tocBad, whole, format2}
+use Rattle.toc.specs.AnswerLaws.{headOf, headed-one, whole-fit, tocBytes-within}
+use Rattle.target.specs.ReadToc.{readToc, formatIn, msfIn, numberIn}
+use Rattle.target.specs.Perform.{L, inquiry, work, perform}
+use Rattle.target.specs.PerformLaws.{fullOf, startStop-quiet, seek-quiet, read-quiet, perform-empty, perform-loaded, perform-free}
+use Rattle.target.specs.Packet.{stepsBy, refusalOf, answer as replyTo}
+use Rattle.claims.specs.UnitLaws.{meets}
+use Rattle.claims.specs.PacketLaws.{kind, stepped, stepped-kind, reply-kind}
+use Rattle.claims.specs.RefusalLaws.{refusal-ordered}
+
+-- ---- what each command comes to
+
+-- the table is no longer than the bound
+abbrev Short : List ℕ → Type 0
+Short t = header + length (descriptors t) ≤ bound
+
+-- the result's full answer is not either
+abbrev Bounded : Result Mechanics → Type 0
+Bounded r = length (fullOf r) ≤ bound
+
+inquiry-bounded : (p : List ℕ) (m : Mechanics) → Bounded (inquiry p m)
+unfolding inquiry
+inquiry-bounded p m = either Bounded (bit0 (byte p 1)) (λ h. omega arith) (λ h. omega arith)
+
+readToc-bounded : (p : List ℕ) (m : Mechanics) (t : List ℕ) → Short t → Bounded (readToc p m t)
+unfolding readToc
+readToc-bounded p m t s =
+    either Bounded (tocBad (discOf t) (formatIn p) (numberIn p)) (λ h. omega arith)
+    (λ h. tocBytes-within (discOf t) (formatIn p) (msfIn p) (numberIn p) (descriptors t) s)
+
+-- of a command that has what it needs
+work-bounded : (c : Command) (p : List ℕ) (m : Mechanics) (t : List ℕ) → (needsDisc c p ≡ true → Short t) → Bounded (work c p m t)
+work-bounded TestUnitReady p m t s = omega arith
+work-bounded RequestSense p m t s = omega arith
+work-bounded Inquiry p m t s = inquiry-bounded p m
+work-bounded StartStop p m t s = rw (startStop-quiet (byte p 4) m) (omega arith)
+work-bounded Prevent p m t s = omega arith
+work-bounded ReadCapacity p m t s = omega arith
+work-bounded Read10 p m t s = rw (read-quiet (addressIn p) (count10 p) m t) (omega arith)
+work-bounded Seek p m t s = rw (seek-quiet (addressIn p) m (L t)) (omega arith)
+work-bounded ReadToc p m t s = readToc-bounded p m t (s refl)
+work-bounded Read12 p m t s = rw (read-quiet (addressIn p) (count12 p) m t) (omega arith)
+work-bounded Unknown p m t s = omega arith
+
+perform-bounded : (c : Command) (p : List ℕ) (m : Mechanics) (t : List ℕ) → (isLoaded m ≡ true → Short t) → Bounded (perform c p m t)
+perform-bounded c p m t s = decided (needsDisc c p) refl (isLoaded m) refl
+  where
+    decided : (n : Bool) → needsDisc c p ≡ n → (l : Bool) → isLoaded m ≡ l → Bounded (perform c p m t)
+    decided true h true k = rw (perform-loaded c p m t k) (work-bounded c p m t (λ z. s k))
+    decided true h false k = rw (perform-empty c p m t h k) (omega arith)
+    decided false h l k = rw (perform-free c p m t h) (work-bounded c p m t (λ z. absurd (true≢false (sym z ∙ h))))
+
+-- ---- and what the steps make of it
+
+settle-bounded : (u : Unit) (m : Mechanics) (r : Result Mechanics) → Bounded r → length (settle u m r .full) ≤ bound
+settle-bounded u m (fails f) h = omega arith
+settle-bounded u m (goes next loading full limit start count) h = h
+
+pass-bounded : (u : Unit) (m : Mechanics) (r : Result Mechanics) → Bounded r → length (pass u m r .full) ≤ bound
+pass-bounded u m (fails f) h = omega arith
+pass-bounded u m (goes next loading full limit start count) h = h
+
+meet-bounded : (a : Pending) (u : Unit) (m : Mechanics) (r : Result Mechanics) → Bounded r → length (meet a u m r .full) ≤ bound
+meet-bounded Power u m r h = omega arith
+meet-bounded Change u m r h = omega arith
+meet-bounded Nothing u m r h = settle-bounded u m r h
+
+steps-by : (k : Kind) (c : Command) (u : Unit) (m : Mechanics) (p t : List ℕ) → Bounded (perform c p m t) → length (stepsBy k c u m p t .full) ≤ bound
+unfolding gate
+steps-by Asks c u m p t h = omega arith
+steps-by Passes c u m p t h = pass-bounded u m (perform c p m t) h
+steps-by Gates c u m p t h = meet-bounded (pendingOf u) u m (perform c p m t) h
+
+-- a fit table is no longer than the bound
+fit-short : (t : List ℕ) → isFit t ≡ true → Short t
+fit-short t h = let s = fit-sized (isFit-true h) in let a = s .least in let b = s .most in let l = length-drop header t in omega arith
+
+pub stepped-bounded : (d : Drive) (p t : List ℕ) → (isLoaded (d .mechanics) ≡ true → isFit t ≡ true) → length (stepped d p t .full) ≤ bound
+stepped-bounded d p t f =
+    let c = decode (codeOf p) in
+    steps-by (kindOf c) c (d .unit) (d .mechanics) p t (perform-bounded c p (d .mechanics) t (λ l. fit-short t (f l)))
+
+-- "where the table is fit or the drive not loaded", of the two tests
+pub fit-where-loaded : (fit loaded : Bool) → fit or not loaded ≡ true → loaded ≡ true → fit ≡ true
+unfolding _or_
+fit-where-loaded true loaded h l = refl
+fit-where-loaded false loaded h l = sym (ap not l) ∙ h
+
+-- ---- an answer is no longer than the memory that was lent
+
+-- what refusals 3 and 4 leave
+not-short : (n : ℕ) → not (ltb n bound) ≡ true → bound ≤ n
+not-short n h = elim (decLe bound n) [
+  | yes l ↦ l
+  | no l ↦ absurd (true≢false (sym h ∙ ap not (lt-ltb n bound (lt-of-not-le l))))
+]
+
+fit-or-refused : (fit loaded : Bool) → not (loaded and not fit) ≡ true → loaded ≡ true → fit ≡ true
+unfolding _and_
+fit-or-refused true loaded h l = refl
+fit-or-refused false true h l = h
+fit-or-refused false false h l = l
+
+-- a packet's answer, of a memory of n bytes: one that is refused has no bytes, and any other has passed refusal 3
+pub reply-held : (d : Drive) (p t : List ℕ) (n : ℕ) → (length (replyTo d p t n .full) ≤ bound) × (length (replyTo d p t n .full) ≤ n)
+reply-held d p t n = rw (reply-kind d p t n) (by-number (refusalOf d p t n) (refusal-ordered d p t n .zero))
+  where
+    by-number : (j : ℕ) → eqb j 0 ≡ eqb (length p) 12 and isKnown (d .unit .sense) and not (ltb n bound) and not (isLoaded (d .mechanics) and not (isFit t))
+        → (length (meets j (kind p (d .mechanics) t) (d .unit) (d .mechanics) .full) ≤ bound) × (length (meets j (kind p (d .mechanics) t) (d .unit) (d .mechanics) .full) ≤ n)
+    by-number zero e =
+        let h = and-tail _ _ (and-tail _ _ (sym e)) in
+        let m = not-short n (and-head _ _ h) in
+        let b = stepped-bounded d p t (fit-or-refused _ _ (and-tail _ _ h)) in
+        let s = rw (stepped-kind d p t) at b in
+        (s, omega arith)
+    by-number (suc j) e = (omega arith, omega arith)
+
+-- ---- READ TOC by format 2
+
+-- from session 1 on it is as long as the table
+pub format2-length : (t : List ℕ) → isFit t ≡ true → length (format2 (discOf t) 1 (descriptors t)) ≡ length t
+unfolding format2
+format2-length t h =
+    let f = isFit-true h in
+    let d = descriptors t in
+    let x = whole (session d 0) in
+    let e = ap length (headed-one 1 (lastSession t) x) in
+    let a = length-append (headOf 1 (lastSession t) (2 + length x)) x in
+    let q = ap length (whole-fit f 0 (fit-numbered f .low) ∙ session-none d) in
+    let l = length-drop header t in
+    let b = fit-sized f .least in
+    omega arith
