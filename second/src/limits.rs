@@ -1,8 +1,9 @@
 //! The numbers of 01 that more than one place leans on, each named once.
 
 /// K1: "6,538 bytes (594 descriptors) replaces 4,360 in rule 1 and refusals 3
-/// and 9." So rule 1 "it is 4 to 6,538 bytes long", refusal 3 "response memory
-/// is under 6,538 bytes", refusal 9 "a full answer would pass 6,538 bytes".
+/// and 9", the last of which K9 took away. So rule 1 "it is 4 to 6,538 bytes
+/// long" and refusal 3 "response memory is under 6,538 bytes"; that "no full
+/// answer passes" it (K9) follows, and no call tests it.
 pub const BOUND: usize = 6_538;
 
 /// Table header: "2 bytes data length, first session, last session S".

@@ -1,5 +1,5 @@
-//! One packet: "Packets test 1, 2, 3, 4, then the steps below, and 9 once the
-//! full answer is known."
+//! One packet: "Packets test 1, 2, 3, 4, then the steps below". Nothing is
+//! tested behind the steps: K9 took 01's last test away.
 
 use crate::answers::{self, Command, Outcome};
 use crate::drive::State;
@@ -33,13 +33,14 @@ pub fn perform(state: State, table: &[u8], packet: &[u8], memory: &mut [u8]) -> 
         count: 0,
         next: state,
     };
-    let refused = |refusal| Reply {
-        refusal: Some(refusal),
-        ..still
-    };
     let (bytes, disc) = match tests(state, table, packet, memory.len()) {
         Ok(passed) => passed,
-        Err(refusal) => return refused(refusal),
+        Err(refusal) => {
+            return Reply {
+                refusal: Some(refusal),
+                ..still
+            }
+        }
     };
     let mut next = state;
     match steps(&mut next, disc.as_ref(), &bytes) {
@@ -54,11 +55,9 @@ pub fn perform(state: State, table: &[u8], packet: &[u8], memory: &mut [u8]) -> 
             }
         }
         Ok(good) => {
-            if good.answer.len() > BOUND {
-                return refused(Refusal::LongAnswer);
-            }
             // "the bytes are the first n of the full answer, n the smaller of
-            // the two lengths"
+            // the two lengths". K9: "no full answer passes K1's bound, so
+            // refusal 3 covers it": the memory holds n bytes, whatever n is.
             let whole = good.answer.len();
             let n = good.allocation.map_or(whole, |limit| limit.min(whole));
             memory[..n].copy_from_slice(&good.answer[..n]);

@@ -18,13 +18,12 @@ pub enum Refusal {
     CannotLift,
     /// "address over 449,849, or M:S:F outside rule 6"
     BadAddress,
-    /// "a full answer would pass 6,538 bytes" (K1's bound)
-    LongAnswer,
     /// "a session asked for is 0 or over S"
     NoSession,
 }
 
 impl Refusal {
+    /// 1 to 8 and 10: where K9 took one away, "Other numbers stay."
     pub fn number(self) -> u8 {
         match self {
             Refusal::PacketLength => 1,
@@ -35,7 +34,6 @@ impl Refusal {
             Refusal::CannotLay => 6,
             Refusal::CannotLift => 7,
             Refusal::BadAddress => 8,
-            Refusal::LongAnswer => 9,
             Refusal::NoSession => 10,
         }
     }

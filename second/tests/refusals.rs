@@ -1,18 +1,26 @@
-//! Every refusal number, and the order of the tests.
+//! Every refusal number, the order of the tests, and what K9 says of the bound.
 
 mod common;
 
-use common::number;
+use std::collections::BTreeSet;
+
+use common::{good_on, number};
+use second::cases::bad::random_stream;
 use second::cases::breaks::breaks;
 use second::cases::fits::fits;
-use second::cases::packets::{inquiry, one_of_each, start_stop, test_ready, toc};
+use second::cases::packets::{
+    inquiry, one_of_each, request_sense, start_stop, test_ready, toc, Packet,
+};
 use second::cases::picked_state::strangers;
-use second::cases::sheet::{any_fit, disc_e, Sheet};
+use second::cases::sheet::{any_fit, disc_e, fullest, longest, most_tracks, Sheet};
 use second::drive::State;
 use second::packet::perform;
 use second::refusal::{number_of, Refusal};
 use second::rng::Rng;
 use second::sense::{self, Sense, TEN};
+use second::table::read;
+use second::toc::{full_answer, TocRequest};
+use second::{replay, stored};
 
 const READY: State = State::READY;
 
@@ -133,25 +141,126 @@ fn five_six_seven_tray() {
     }
 }
 
-/// 8 and 10 are in `marked` and `rules`; 9 is never given, whatever READ TOC
-/// asks of a fit table: the longest answer just reaches the bound.
+/// K9: "Other numbers stay." 8 and 10 are met in `marked` and `rules`.
 #[test]
-fn nine_is_out_of_reach() {
-    assert_eq!(Refusal::LongAnswer.number(), 9);
+fn numbers_in_use() {
+    let all = [
+        Refusal::PacketLength,
+        Refusal::UnknownSense,
+        Refusal::SmallMemory,
+        Refusal::UnfitTable,
+        Refusal::Locked,
+        Refusal::CannotLay,
+        Refusal::CannotLift,
+        Refusal::BadAddress,
+        Refusal::NoSession,
+    ];
+    assert_eq!(all.map(Refusal::number), [1, 2, 3, 4, 5, 6, 7, 8, 10]);
+    let met: BTreeSet<u8> = given().into_iter().map(|(_, number)| number).collect();
+    assert_eq!(met, (0..=8).chain([10]).collect());
+}
+
+/// "Packets test 1, 2, 3, 4, then the steps below", and K9: nothing more.
+#[test]
+fn packets_give_0_to_4() {
+    let packets = given().into_iter().filter(|(letter, _)| letter == "p");
+    let met: Vec<u8> = packets.map(|(_, number)| number).collect();
+    assert_eq!(met, [0, 1, 2, 3, 4]);
+}
+
+/// The numbers given in the stored stream and a drawn one, each with the letter
+/// of its line.
+fn given() -> BTreeSet<(String, u8)> {
+    let streams = [stored::stored_stream(), random_stream(9, 20_000)];
+    let mut given = BTreeSet::new();
+    for lines in streams.map(|stream| replay::run(&stream.bytes)) {
+        for line in lines.lines().filter(|&line| line != "bad record") {
+            let mut words = line.split(' ');
+            let letter = words.next().expect("a letter").to_string();
+            let number = words.next().and_then(|word| word.parse().ok());
+            given.insert((letter, number.expect("a number")));
+        }
+    }
+    given
+}
+
+/// One packet of each, then those with an allocation length at its greatest,
+/// with the most bytes that each may give: under that length, so nothing is cut.
+fn whole_answers() -> Vec<(Packet, usize)> {
+    let mut list: Vec<(Packet, usize)> = one_of_each().into_iter().map(|p| (p, 6_538)).collect();
+    list.extend([(request_sense(255), 254), (inquiry(255), 254)]);
+    for number in 0..=255 {
+        for format in 0..4 {
+            list.push((toc(false, format, number, u16::MAX), 6_538));
+            list.push((toc(true, format, number, u16::MAX), 6_538));
+        }
+    }
+    list
+}
+
+/// K9: "with a fit table no full answer passes K1's bound", nor does one where
+/// the drive is not loaded.
+#[test]
+fn no_answer_passes_the_bound() {
     let mut rng = Rng::new(9);
-    let picked = fits().into_iter().map(|(_, sheet)| sheet);
+    let picked = fits().into_iter().map(|(_, sheet)| (READY, sheet.bytes()));
     let drawn: Vec<Sheet> = (0..30).map(|_| any_fit(&mut rng)).collect();
-    let mut longest = 0;
-    for table in picked.chain(drawn).map(|sheet| sheet.bytes()) {
-        let mut memory = vec![0; 8_191];
-        for number in 0..=255 {
-            for (msf, format) in [(false, 0), (true, 0), (false, 1), (true, 1), (false, 2)] {
-                let packet = toc(msf, format, number, u16::MAX);
-                let reply = perform(READY, &table, &packet, &mut memory);
-                assert_eq!(reply.refusal, None);
-                longest = longest.max(reply.length);
+    let drawn = drawn.iter().map(|sheet| (READY, sheet.bytes()));
+    let unloaded = [State::ZERO, State::ZERO.opened(), READY.opened()];
+    let unloaded = unloaded.map(|state| (state, fullest().bytes()));
+    let packets = whole_answers();
+    let mut memory = vec![0; 8_191];
+    for (state, table) in picked.chain(drawn).chain(unloaded) {
+        for (packet, most) in &packets {
+            let reply = perform(state, &table, packet, &mut memory);
+            assert_eq!(reply.refusal, None);
+            assert!(reply.length <= *most, "{packet:02X?}");
+        }
+    }
+}
+
+/// K1's "6,538 bytes (594 descriptors)": format 2 gives such a table back.
+#[test]
+fn the_bound_is_reached() {
+    let mut rng = Rng::new(594);
+    for sheet in [fullest(), longest(&mut rng), longest(&mut rng)] {
+        let table = sheet.bytes();
+        assert_eq!((sheet.rows.len(), table.len()), (594, 6_538));
+        for number in [0, 1] {
+            for msf in [false, true] {
+                let packet = toc(msf, 2, number, u16::MAX);
+                assert_eq!(good_on(&table, &packet), table);
             }
         }
     }
-    assert_eq!(longest, 6_538);
+}
+
+/// K9: "so refusal 3 covers it": where 3 is not given, the allocation length
+/// alone cuts an answer, and how much longer the memory is changes nothing.
+#[test]
+fn memory_holds_every_answer() {
+    for sheet in [disc_e(), most_tracks(), fullest()] {
+        let table = sheet.bytes();
+        let disc = read(&table).expect("fit");
+        for (format, number) in [(0, 0), (0, 0xAA), (1, 0), (2, 0), (2, 1)] {
+            let request = TocRequest {
+                msf: true,
+                format,
+                number,
+            };
+            let full = full_answer(&disc, request).expect("GOOD");
+            for length in [0, 4, 804, 4_360, 6_537, 6_538, 6_539, 65_535] {
+                let due = &full[..full.len().min(usize::from(length))];
+                for size in [6_538, 6_539, 8_191, 70_000] {
+                    let mut memory = vec![0xEE; size];
+                    let packet = toc(true, format, number, length);
+                    let reply = perform(READY, &table, &packet, &mut memory);
+                    assert_eq!((reply.refusal, reply.length), (None, due.len()));
+                    let mut whole = due.to_vec();
+                    whole.resize(size, 0xEE);
+                    assert!(memory == whole, "{size} {length}");
+                }
+            }
+        }
+    }
 }

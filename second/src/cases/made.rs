@@ -47,13 +47,14 @@ macro_rules! named {
     };
 }
 
-const MAKERS: [(&str, Maker); 37] = [
+const MAKERS: [(&str, Maker); 38] = [
     named!(Start, picked_state::from_nothing),
     named!(Calls, picked_state::attentions),
     named!(Calls, picked_state::senses),
     named!(Calls, picked_state::refusal_order),
     named!(Calls, picked_state::packet_lengths),
     named!(Calls, picked_state::memories),
+    named!(Calls, picked_state::longest_answer),
     named!(Calls, picked_state::tray_traces),
     named!(Calls, picked::conversions),
     named!(Calls, picked_fields::codes),

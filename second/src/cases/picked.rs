@@ -12,6 +12,7 @@ pub fn all(stream: &mut Stream) {
     picked_state::refusal_order(stream);
     picked_state::packet_lengths(stream);
     picked_state::memories(stream);
+    picked_state::longest_answer(stream);
     picked_state::tray_traces(stream);
     picked_fields::codes(stream);
     picked_fields::bits(stream);

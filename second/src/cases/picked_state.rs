@@ -5,7 +5,7 @@ use crate::cases::packets::{
     capacity, inquiry, one_of_each, prevent, read10, request_sense, start_stop, test_ready, toc,
     EJECT, LOAD,
 };
-use crate::cases::sheet::{disc_e, two_sittings};
+use crate::cases::sheet::{disc_e, fullest, two_sittings};
 use crate::cases::stream::Stream;
 use crate::drive::State;
 use crate::limits::BOUND;
@@ -231,6 +231,19 @@ pub fn memories(stream: &mut Stream) {
             }
             stream.packet(&toc(false, 2, 0, 65_535));
             stream.packet(&request_sense(3));
+        }
+    }
+    stream.memory(MEMORY, 0xC3);
+}
+
+/// K9: "so refusal 3 covers it". Where 3 is not given the longest answer, of
+/// 594 descriptors, comes whole; the allocation length alone cuts it.
+pub fn longest_answer(stream: &mut Stream) {
+    stream.table(&fullest().bytes());
+    for memory in [6_537, 6_538, 8_191] {
+        for length in [6_537, 6_538, 6_539, 65_535] {
+            stream.memory(memory, 0x9B);
+            stream.packet_from(State::READY, &toc(false, 2, (length % 2) as u8, length));
         }
     }
     stream.memory(MEMORY, 0xC3);
