@@ -6,9 +6,7 @@ use Prim.Native.Nat.{ℕ, zero, suc, _+_, _≤_}
 use native.Mathlib.Omega.{arith}
 use lib.ListN.{length, length-append, length-drop}
 use lib.Dec.{eqb, ltb}
-use native.Mathlib.Nat.{lt-of-not-le}
-use native.Mathlib.Decide.{decLe}
-use borrow.Author.Tests.{lt-ltb}
+use borrow.Author.Tests.{ltb-false}
 use Rattle.ground.specs.Tests.{_and_, _or_, either, and-head, and-tail}
 use Rattle.drive.specs.declared.state.Unit.{Unit}
 use Rattle.drive.specs.declared.state.Mechanics.{Mechanics}
@@ -34,11 +32,30 @@ use Rattle.toc.specs.Answer.{tocBad, whole, format2}
 use Rattle.toc.specs.AnswerLaws.{headOf, headed-one, whole-fit, tocBytes-within}
 use Rattle.target.specs.ReadToc.{readToc, formatIn, msfIn, numberIn}
 use Rattle.target.specs.Perform.{L, inquiry, work, perform}
-use Rattle.target.specs.PerformLaws.{fullOf, startStop-quiet, seek-quiet, read-quiet, perform-empty, perform-loaded, perform-free}
+use Rattle.target.specs.PerformLaws.{fullOf, startStop-quiet, seek-quiet, read-quiet}
 use Rattle.target.specs.Packet.{stepsBy, refusalOf, answer as replyTo}
 use Rattle.claims.specs.UnitLaws.{meets}
 use Rattle.claims.specs.PacketLaws.{kind, stepped, stepped-kind, reply-kind}
 use Rattle.claims.specs.RefusalLaws.{refusal-ordered}
+
+-- ---- tests
+
+not-true : (b : Bool) → not b ≡ true → b ≡ false
+not-true true h = sym h
+not-true false h = refl
+
+-- the first does not hold without the second
+second-holds : (a b : Bool) → a and not b ≡ false → a ≡ true → b ≡ true
+unfolding _and_
+second-holds true true h e = refl
+second-holds true false h e = sym h
+second-holds false b h e = absurd (true≢false (sym e))
+
+-- "where the table is fit or the drive not loaded"
+pub fit-where-loaded : (fit loaded : Bool) → fit or not loaded ≡ true → loaded ≡ true → fit ≡ true
+unfolding _or_
+fit-where-loaded true loaded h l = refl
+fit-where-loaded false loaded h l = sym (ap not l) ∙ h
 
 -- ---- what each command comes to
 
@@ -75,12 +92,9 @@ work-bounded Read12 p m t s = rw (read-quiet (addressIn p) (count12 p) m t) (ome
 work-bounded Unknown p m t s = omega arith
 
 perform-bounded : (c : Command) (p : List ℕ) (m : Mechanics) (t : List ℕ) → (isLoaded m ≡ true → Short t) → Bounded (perform c p m t)
-perform-bounded c p m t s = decided (needsDisc c p) refl (isLoaded m) refl
-  where
-    decided : (n : Bool) → needsDisc c p ≡ n → (l : Bool) → isLoaded m ≡ l → Bounded (perform c p m t)
-    decided true h true k = rw (perform-loaded c p m t k) (work-bounded c p m t (λ z. s k))
-    decided true h false k = rw (perform-empty c p m t h k) (omega arith)
-    decided false h l k = rw (perform-free c p m t h) (work-bounded c p m t (λ z. absurd (true≢false (sym z ∙ h))))
+unfolding perform
+perform-bounded c p m t s =
+    either Bounded (needsDisc c p and not (isLoaded m)) (λ h. omega arith) (λ h. work-bounded c p m t (λ n. s (second-holds _ _ h n)))
 
 -- ---- and what the steps make of it
 
@@ -112,26 +126,7 @@ stepped-bounded d p t f =
     let c = decode (codeOf p) in
     steps-by (kindOf c) c (d .unit) (d .mechanics) p t (perform-bounded c p (d .mechanics) t (λ l. fit-short t (f l)))
 
--- "where the table is fit or the drive not loaded", of the two tests
-pub fit-where-loaded : (fit loaded : Bool) → fit or not loaded ≡ true → loaded ≡ true → fit ≡ true
-unfolding _or_
-fit-where-loaded true loaded h l = refl
-fit-where-loaded false loaded h l = sym (ap not l) ∙ h
-
 -- ---- an answer is no longer than the memory that was lent
-
--- what refusals 3 and 4 leave
-not-short : (n : ℕ) → not (ltb n bound) ≡ true → bound ≤ n
-not-short n h = elim (decLe bound n) [
-  | yes l ↦ l
-  | no l ↦ absurd (true≢false (sym h ∙ ap not (lt-ltb n bound (lt-of-not-le l))))
-]
-
-fit-or-refused : (fit loaded : Bool) → not (loaded and not fit) ≡ true → loaded ≡ true → fit ≡ true
-unfolding _and_
-fit-or-refused true loaded h l = refl
-fit-or-refused false true h l = h
-fit-or-refused false false h l = l
 
 -- a packet's answer, of a memory of n bytes: one that is refused has no bytes, and any other has passed refusal 3
 pub reply-held : (d : Drive) (p t : List ℕ) (n : ℕ) → (length (replyTo d p t n .full) ≤ bound) × (length (replyTo d p t n .full) ≤ n)
@@ -141,8 +136,8 @@ reply-held d p t n = rw (reply-kind d p t n) (by-number (refusalOf d p t n) (ref
         → (length (meets j (kind p (d .mechanics) t) (d .unit) (d .mechanics) .full) ≤ bound) × (length (meets j (kind p (d .mechanics) t) (d .unit) (d .mechanics) .full) ≤ n)
     by-number zero e =
         let h = and-tail _ _ (and-tail _ _ (sym e)) in
-        let m = not-short n (and-head _ _ h) in
-        let b = stepped-bounded d p t (fit-or-refused _ _ (and-tail _ _ h)) in
+        let m = ltb-false n bound (not-true _ (and-head _ _ h)) in
+        let b = stepped-bounded d p t (second-holds _ _ (not-true _ (and-tail _ _ h))) in
         let s = rw (stepped-kind d p t) at b in
         (s, omega arith)
     by-number (suc j) e = (omega arith, omega arith)
