@@ -1,5 +1,5 @@
 //! One packet: "Packets test 1, 2, 3, 4, then the steps below". Nothing is
-//! tested behind the steps: K9 took 01's last test away.
+//! tested after the steps: K9 took 01's last test away.
 
 use crate::answers::{self, Command, Outcome};
 use crate::drive::State;

@@ -10,7 +10,7 @@ use Rattle.drive.specs.declared.state.Unit.{Unit}
 use Rattle.drive.specs.declared.state.Mechanics.{Mechanics}
 use Rattle.drive.specs.declared.state.Drive.{Drive}
 use Rattle.disc.specs.Rules.{isFit}
-use Rattle.gate.specs.Gate.{Result, Reply, refuse, gate}
+use Rattle.gate.specs.Gate.{Result, refuse, gate}
 use Rattle.command.specs.declared.decode.Command.{Command}
 use Rattle.command.specs.declared.decode.Command.the-variants.{TestUnitReady, RequestSense, Inquiry, StartStop, Prevent, ReadCapacity, Read10, Seek, ReadToc, Read12, Unknown}
 use Rattle.command.specs.Command.{decode, byte, codeOf, needsDisc, loEj, start}
@@ -18,6 +18,7 @@ use Rattle.command.specs.Tray.{eject, load, startStop}
 use Rattle.target.specs.ReadToc.{readToc}
 use Rattle.target.specs.Perform.{inquiry, seek, read, work, perform}
 use Rattle.target.specs.Packet.{steps, refusalOf, answer as replyTo}
+use Rattle.target.specs.PacketLaws.{stepsOf}
 use Rattle.claims.specs.Telling.{anyPending}
 use Rattle.claims.specs.UnitLaws.{Kind, asks, frees, orders, isAsking, reply, meets, nextOf, loadingOf, Honest, gate-blind}
 use Rattle.claims.specs.Call.{closed, isRequestSense, isNeeding}
@@ -92,20 +93,16 @@ steps-blind c u m p t t′ l =
 
 -- ---- refused or not
 
--- the packet's steps, as they are where it is not refused
-abbrev pub stepped : Drive → List ℕ → List ℕ → Reply Mechanics
-stepped d p t = steps (decode (codeOf p)) (d .unit) (d .mechanics) p t
-
-pub stepped-kind : (d : Drive) (p t : List ℕ) → stepped d p t ≡ reply (kind p (d .mechanics) t) (d .unit) (d .mechanics)
-stepped-kind d p t = kind-steps (seen (decode (codeOf p))) (d .unit) (d .mechanics) p t
+pub stepsOf-kind : (d : Drive) (p t : List ℕ) → stepsOf d p t ≡ reply (kind p (d .mechanics) t) (d .unit) (d .mechanics)
+stepsOf-kind d p t = kind-steps (seen (decode (codeOf p))) (d .unit) (d .mechanics) p t
 
 -- the answer is that of the packet's kind, or the refusal
 pub reply-kind : (d : Drive) (p t : List ℕ) (n : ℕ) → replyTo d p t n ≡ meets (refusalOf d p t n) (kind p (d .mechanics) t) (d .unit) (d .mechanics)
 unfolding replyTo
 reply-kind d p t n = by-number (refusalOf d p t n)
   where
-    by-number : (j : ℕ) → (if eqb j 0 then stepped d p t else refuse j (d .unit) (d .mechanics)) ≡ meets j (kind p (d .mechanics) t) (d .unit) (d .mechanics)
-    by-number zero = when _ _ _ refl ∙ stepped-kind d p t
+    by-number : (j : ℕ) → (if eqb j 0 then stepsOf d p t else refuse j (d .unit) (d .mechanics)) ≡ meets j (kind p (d .mechanics) t) (d .unit) (d .mechanics)
+    by-number zero = when _ _ _ refl ∙ stepsOf-kind d p t
     by-number (suc j) = unless _ _ _ (eqb·suc-zero j)
 
 -- ---- no command but a closing is a loading

@@ -31,7 +31,7 @@ module _ (d : Drive) where
   abbrev isOfTen : Bool
   isOfTen = isKnown (d .unit .sense)
 
-  -- ---- "Packets test 1, 2, 3, 4, then the steps below."
+  -- ---- "Packets test 1, 2, 3, 4, then the steps below"; K9: and nothing more
 
   module _ (p t m : List ℕ) where
     -- the packet is 12 bytes

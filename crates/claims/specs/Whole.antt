@@ -24,16 +24,15 @@ use Rattle.toc.specs.Answer.{format2, tocBytes, tocBad}
 use Rattle.target.specs.ReadToc.{readToc}
 use Rattle.target.specs.Perform.{perform}
 use Rattle.target.specs.Packet.{steps}
-use Rattle.target.specs.PacketLaws.{answer-steps}
+use Rattle.target.specs.PacketLaws.{stepsOf, answer-steps}
 use Rattle.claims.specs.Call.{Call, powering, pressing, laying, lifting, packet, answer}
 use Rattle.claims.specs.Marked.{loadedE}
-use Rattle.claims.specs.WholeLaws.{fit-where-loaded, stepped-bounded, reply-held, format2-length}
-use Rattle.claims.specs.PacketLaws.{stepped}
+use Rattle.claims.specs.WholeLaws.{fit-where-loaded, stepsOf-bounded, reply-held, format2-length}
 
 -- of a fit table, or of a drive that is not loaded: no full answer, before cutting, passes the bound, whatever the packet and the state
 pub full-answers-bounded : (d : Drive) (p t : List ℕ) → isFit t or not (isLoaded (d .mechanics)) ≡ true
     → length (steps (decode (codeOf p)) (d .unit) (d .mechanics) p t .full) ≤ bound
-full-answers-bounded d p t h = let b = stepped-bounded d p t (fit-where-loaded _ _ h) in omega arith
+full-answers-bounded d p t h = let b = stepsOf-bounded d p t (fit-where-loaded _ _ h) in omega arith
 
 -- and so no call's does, of any table and memory: what is refused has no bytes
 pub answers-bounded : (c : Call) (d : Drive) → length (answer c d .full) ≤ bound
@@ -43,7 +42,7 @@ answers-bounded laying d = omega arith
 answers-bounded lifting d = omega arith
 answers-bounded (packet p t m) d = reply-held d p t (length m) .0
 
--- a memory that passes refusal 3 holds every answer whole: none is longer than the memory that was lent
+-- a memory that passes refusal 3 holds every answer whole: none is longer than the memory that was lent, and a refused one is empty
 pub memory-holds-answers : (d : Drive) (p t m : List ℕ) → length (answer (packet p t m) d .full) ≤ length m
 memory-holds-answers d p t m = let b = reply-held d p t (length m) .1 in omega arith
 
@@ -64,7 +63,7 @@ abbrev pub wholeToc : List ℕ
 wholeToc = 0x43 ∷ 0x00 ∷ 0x02 ∷ 0x00 ∷ 0x00 ∷ 0x00 ∷ 0x01 ∷ 0x19 ∷ 0x8A ∷ 0x00 ∷ 0x00 ∷ 0x00 ∷ []
 
 -- of a drive "Loaded, nothing pending" the steps answer it whole
-steps-whole : (t : List ℕ) → isFit t ≡ true → stepped loadedE wholeToc t .full ≡ format2 (discOf t) 1 (descriptors t)
+steps-whole : (t : List ℕ) → isFit t ≡ true → stepsOf loadedE wholeToc t .full ≡ format2 (discOf t) 1 (descriptors t)
 unfolding decode if_then_else_ gate pendingOf perform readToc tocBad tocBytes _and_
 steps-whole t f = rw (le-ltb (lastSession t) 1 (fit-numbered (isFit-true f) .low))
 
@@ -72,7 +71,7 @@ known : isKnown (loadedE .unit .sense) ≡ true
 unfolding isKnown among sameSense senseAt _and_ _or_
 known = refl
 
--- and the answer is as long as the table
+-- and so does the drive, into a memory that passes refusal 3: of any fit table the answer is as long as the table
 pub format2-as-long : (t m : List ℕ) → isFit t ≡ true → bound ≤ length m → length (answer (packet wholeToc t m) loadedE .full) ≡ length t
 format2-as-long t m f h =
     ap (λ (r : Reply Mechanics). length (r .full)) (answer-steps loadedE wholeToc t (length m) refl known h (λ l. f)) ∙ ap length (steps-whole t f) ∙ format2-length t f

@@ -35,7 +35,8 @@ use Rattle.target.specs.Perform.{L, inquiry, work, perform}
 use Rattle.target.specs.PerformLaws.{fullOf, startStop-quiet, seek-quiet, read-quiet}
 use Rattle.target.specs.Packet.{stepsBy, refusalOf, answer as replyTo}
 use Rattle.claims.specs.UnitLaws.{meets}
-use Rattle.claims.specs.PacketLaws.{kind, stepped, stepped-kind, reply-kind}
+use Rattle.target.specs.PacketLaws.{stepsOf}
+use Rattle.claims.specs.PacketLaws.{kind, stepsOf-kind, reply-kind}
 use Rattle.claims.specs.RefusalLaws.{refusal-ordered}
 
 -- ---- tests
@@ -51,7 +52,7 @@ second-holds true true h e = refl
 second-holds true false h e = sym h
 second-holds false b h e = absurd (true≢false (sym e))
 
--- "where the table is fit or the drive not loaded"
+-- the table is fit, or the drive is not loaded
 pub fit-where-loaded : (fit loaded : Bool) → fit or not loaded ≡ true → loaded ≡ true → fit ≡ true
 unfolding _or_
 fit-where-loaded true loaded h l = refl
@@ -121,8 +122,8 @@ steps-by Gates c u m p t h = meet-bounded (pendingOf u) u m (perform c p m t) h
 fit-short : (t : List ℕ) → isFit t ≡ true → Short t
 fit-short t h = let s = fit-sized (isFit-true h) in let a = s .least in let b = s .most in let l = length-drop header t in omega arith
 
-pub stepped-bounded : (d : Drive) (p t : List ℕ) → (isLoaded (d .mechanics) ≡ true → isFit t ≡ true) → length (stepped d p t .full) ≤ bound
-stepped-bounded d p t f =
+pub stepsOf-bounded : (d : Drive) (p t : List ℕ) → (isLoaded (d .mechanics) ≡ true → isFit t ≡ true) → length (stepsOf d p t .full) ≤ bound
+stepsOf-bounded d p t f =
     let c = decode (codeOf p) in
     steps-by (kindOf c) c (d .unit) (d .mechanics) p t (perform-bounded c p (d .mechanics) t (λ l. fit-short t (f l)))
 
@@ -137,8 +138,8 @@ reply-held d p t n = rw (reply-kind d p t n) (by-number (refusalOf d p t n) (ref
     by-number zero e =
         let h = and-tail _ _ (and-tail _ _ (sym e)) in
         let m = ltb-false n bound (not-true _ (and-head _ _ h)) in
-        let b = stepped-bounded d p t (second-holds _ _ (not-true _ (and-tail _ _ h))) in
-        let s = rw (stepped-kind d p t) at b in
+        let b = stepsOf-bounded d p t (second-holds _ _ (not-true _ (and-tail _ _ h))) in
+        let s = rw (stepsOf-kind d p t) at b in
         (s, omega arith)
     by-number (suc j) e = (omega arith, omega arith)
 

@@ -26,7 +26,7 @@ pub record ReadOff (t : List ℕ) (disc : Disc) : Type 0 where
   pub fits : FitFacts t
   pub same : disc ≡ discOf t
 
-pub fit-facts : {t : List ℕ} → Fit t → FitFacts t
+fit-facts : {t : List ℕ} → Fit t → FitFacts t
 fit-facts f =
     let s = fit-sized f in
     record {
