@@ -18,8 +18,8 @@ fit c = isFit-true (c .before .pre .0)
 
 -- the last session begins in the table
 within :
-    (c : tie.After-shared-slice-known) → c .before .args .at ≤ length (take (length (c .before .args .t .now) - 4) (drop 4
-    (c .before .args .t .now)))
+    (c : tie.After-shared-slice-known)
+    → c .before .args .at ≤ length (take (length (c .before .args .t .now) - 4) (drop 4 (c .before .args .t .now)))
 within c = rw (rest-all, c .before .pre .1) (fit-starts (fit c) _ (omega arith))
 
 -- it has four descriptors at least
@@ -58,20 +58,14 @@ shared-slice-read-t17 c = rw rest-rest (let l = long (c .before .before .before 
 
 returns : tie.Need-returns
 returns c =
-    let q = c .before .before .before .before .before .before .before .before .before .before .pre .1 in let l :
-    c .before .before .before .before .before .row-at .result ≡ rowAt (lastPart
-    (c .before .before .before .before .before .before .before .before .before .before .args .t .now)) 2 = rw (rest-rest, q) at
-    (c .before .before .before .before .before .row-at .ensures) in let e : c .before .before .before .before .row-at2 .result ≡ rowAt
-    (lastPart (c .before .before .before .before .before .before .before .before .before .before .args .t .now)) 3 = rw (rest-rest, q) at
-    (c .before .before .before .before .row-at2 .ensures) in rw (
-      rest-rest,
-      rest-all,
-      q,
-      c .before .start-of .ensures,
-      c .start-of2 .ensures,
-      l,
-      e,
-    )
+    let q = c .before .before .before .before .before .before .before .before .before .before .pre .1 in
+    let l : c .before .before .before .before .before .row-at .result ≡ rowAt
+    (lastPart (c .before .before .before .before .before .before .before .before .before .before .args .t .now)) 2 =
+    rw (rest-rest, q) at (c .before .before .before .before .before .row-at .ensures) in
+    let e : c .before .before .before .before .row-at2 .result ≡ rowAt
+    (lastPart (c .before .before .before .before .before .before .before .before .before .before .args .t .now)) 3 =
+    rw (rest-rest, q) at (c .before .before .before .before .row-at2 .ensures) in
+    rw (rest-rest, rest-all, q, c .before .start-of .ensures, c .start-of2 .ensures, l, e)
 
 pub disc-of-spec : {M : Type 1} → statement M
 disc-of-spec =

@@ -20,38 +20,45 @@ given c = partRefusal-given _ _ (sym (c .before .session-refusal .ensures) ∙ c
 
 -- where the session begins, and that it is one
 from :
-    (c : tie.After-starts-after) → c .starts-after .result ≡ starts (descriptors (c .before .before .before .before .before .args .t .now))
+    (c : tie.After-starts-after)
+    → c .starts-after .result ≡ starts (descriptors (c .before .before .before .before .before .args .t .now))
     (c .before .before .before .before .before .args .k - 1)
 from c = rw rest-all at (c .starts-after .ensures)
 
-within : (c : tie.After-starts-after)
-    → c .starts-after .result ≤ length (take (length (c .before .before .before .before .before .args .t .now) - 4) (drop 4
-    (c .before .before .before .before .before .args .t .now)))
+within :
+    (c : tie.After-starts-after)
+    → c .starts-after .result ≤ length
+    (take (length (c .before .before .before .before .before .args .t .now) - 4)
+    (drop 4 (c .before .before .before .before .before .args .t .now)))
 within c = rw (rest-all, from c) (let g = given (c .before .before) in fit-starts (g .fit) _ (omega arith))
 
 here :
-    (c : tie.After-starts-after) → IsSession (c .before .before .before .before .before .args .k - 1 + 1) (drop (c .starts-after .result)
-    (drop 4 (c .before .before .before .before .before .args .t .now)))
+    (c : tie.After-starts-after)
+    → IsSession (c .before .before .before .before .before .args .k - 1 + 1)
+    (drop (c .starts-after .result) (drop 4 (c .before .before .before .before .before .args .t .now)))
 here c = rw (from c) (let g = given (c .before .before) in fit-session (g .fit) (omega arith))
 
 -- how long it is
 bytes :
-    (c : tie.After-session-bytes) → c .session-bytes .result ≡ size (drop (c .before .before .starts-after .result) (drop 4
-    (c .before .before .before .before .before .before .before .args .t .now)))
+    (c : tie.After-session-bytes)
+    → c .session-bytes .result ≡ size
+    (drop (c .before .before .starts-after .result) (drop 4 (c .before .before .before .before .before .before .before .args .t .now)))
 bytes c = rw rest-rest at (c .session-bytes .ensures)
 
 ends :
-    (c : tie.After-session-bytes) → 4 + c .before .before .starts-after .result + c .session-bytes .result ≤ length
+    (c : tie.After-session-bytes)
+    → 4 + c .before .before .starts-after .result + c .session-bytes .result ≤ length
     (c .before .before .before .before .before .before .before .args .t .now)
 ends c =
-    let w : c .before .before .starts-after .result ≤ length (drop 4
-    (c .before .before .before .before .before .before .before .args .t .now)) = rw rest-all at (within (c .before .before)) in
-    let e = size-within (c .before .before .starts-after .result) (drop 4
-    (c .before .before .before .before .before .before .before .args .t .now)) w (here (c .before .before)) in
+    let w : c .before .before .starts-after .result ≤ length
+    (drop 4 (c .before .before .before .before .before .before .before .args .t .now)) =
+    rw rest-all at (within (c .before .before)) in
+    let e =
+    size-within (c .before .before .starts-after .result)
+    (drop 4 (c .before .before .before .before .before .before .before .args .t .now)) w (here (c .before .before)) in
     let b = bytes c in
     let l = length-drop 4 (c .before .before .before .before .before .before .before .args .t .now) in
-    let s = fit-sized (given (c .before .before .before .before) .fit) in
-    omega arith
+    let s = fit-sized (given (c .before .before .before .before) .fit) in omega arith
 
 sub-d : tie.Need-sub-d
 sub-d c = fit-sized (given c .fit) .least

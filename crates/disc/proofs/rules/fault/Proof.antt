@@ -24,15 +24,16 @@ part-fault-of-rows-start c =
 returns : tie.Need-returns
 unfolding fault
 returns c =
-    firstBroken-on _ _ _ (sym (c .before .before .before .before .before .before .rule1 .ensures) ∙
-    c .before .before .before .before .before .if1 .taken) (firstBroken-on _ _ _ (sym (c .before .before .before .before .rule2 .ensures) ∙
-    c .before .before .before .if2 .taken) (rw rest-all at (c .fault-of-rows .ensures)))
+    firstBroken-on _ _ _
+    (sym (c .before .before .before .before .before .before .rule1 .ensures) ∙ c .before .before .before .before .before .if1 .taken)
+    (firstBroken-on _ _ _ (sym (c .before .before .before .before .rule2 .ensures) ∙ c .before .before .before .if2 .taken)
+    (rw rest-all at (c .fault-of-rows .ensures)))
 
 returns-2 : tie.Need-returns-2
 unfolding fault
 returns-2 c =
-    firstBroken-on _ _ _ (sym (c .before .before .before .rule1 .ensures) ∙ c .before .before .if1 .taken) (firstBroken-off _ _ _ (sym
-    (c .before .rule2 .ensures) ∙ c .if2 .left))
+    firstBroken-on _ _ _ (sym (c .before .before .before .rule1 .ensures) ∙ c .before .before .if1 .taken)
+    (firstBroken-off _ _ _ (sym (c .before .rule2 .ensures) ∙ c .if2 .left))
 
 returns-3 : tie.Need-returns-3
 unfolding fault

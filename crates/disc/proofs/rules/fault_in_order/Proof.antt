@@ -9,22 +9,22 @@ use Rattle.disc.proofs.rules.fault_in_order.Tie as tie
 returns : tie.Need-returns
 unfolding lateRules
 returns c =
-    firstBroken-on _ _ _ (sym (c .before .before .before .before .before .pre .1) ∙ c .before .before .before .if1 .taken) (firstBroken-on _
-    _ _ (sym (c .before .before .before .before .before .pre .2) ∙ c .before .before .if2 .taken) (firstBroken-on _ _ _ (sym
-    (c .before .rule7 .ensures) ∙ c .if3 .taken) (firstBroken-none _)))
+    firstBroken-on _ _ _ (sym (c .before .before .before .before .before .pre .1) ∙ c .before .before .before .if1 .taken)
+    (firstBroken-on _ _ _ (sym (c .before .before .before .before .before .pre .2) ∙ c .before .before .if2 .taken)
+    (firstBroken-on _ _ _ (sym (c .before .rule7 .ensures) ∙ c .if3 .taken) (firstBroken-none _)))
 
 returns-2 : tie.Need-returns-2
 unfolding lateRules
 returns-2 c =
-    firstBroken-on _ _ _ (sym (c .before .before .before .before .before .pre .1) ∙ c .before .before .before .if1 .taken) (firstBroken-on _
-    _ _ (sym (c .before .before .before .before .before .pre .2) ∙ c .before .before .if2 .taken) (firstBroken-off _ _ _ (sym
-    (c .before .rule7 .ensures) ∙ c .if3 .left)))
+    firstBroken-on _ _ _ (sym (c .before .before .before .before .before .pre .1) ∙ c .before .before .before .if1 .taken)
+    (firstBroken-on _ _ _ (sym (c .before .before .before .before .before .pre .2) ∙ c .before .before .if2 .taken)
+    (firstBroken-off _ _ _ (sym (c .before .rule7 .ensures) ∙ c .if3 .left)))
 
 returns-3 : tie.Need-returns-3
 unfolding lateRules
 returns-3 c =
-    firstBroken-on _ _ _ (sym (c .before .before .before .pre .1) ∙ c .before .if1 .taken) (firstBroken-off _ _ _ (sym
-    (c .before .before .before .pre .2) ∙ c .if2 .left))
+    firstBroken-on _ _ _ (sym (c .before .before .before .pre .1) ∙ c .before .if1 .taken)
+    (firstBroken-off _ _ _ (sym (c .before .before .before .pre .2) ∙ c .if2 .left))
 
 returns-4 : tie.Need-returns-4
 unfolding lateRules

@@ -24,22 +24,25 @@ abbrev μ-loop : tie.MeasureT-loop
 
 -- the session that begins here
 here :
-    (c : tie.In-loop Inv-loop μ-loop) → IsSession (c .before .loop .k + 1) (drop (c .before .loop .at)
-    (c .before .before .before .args .d .now))
+    (c : tie.In-loop Inv-loop μ-loop)
+    → IsSession (c .before .loop .k + 1) (drop (c .before .loop .at) (c .before .before .before .args .d .now))
 here c = placed-at _ _ (inOrder-places _ _ (c .before .before .before .pre)) (c .before .loop .inv .walked .place) (c .loop-test .taken)
 
 -- it has four descriptors at least
 long :
-    (c : tie.In-loop Inv-loop μ-loop) → 44 ≤ length (take (length (c .before .before .before .args .d .now) - c .before .loop .at) (drop
-    (c .before .loop .at) (c .before .before .before .args .d .now)))
+    (c : tie.In-loop Inv-loop μ-loop)
+    → 44 ≤ length
+    (take (length (c .before .before .before .args .d .now) - c .before .loop .at)
+    (drop (c .before .loop .at) (c .before .before .before .args .d .now)))
 long c = rw rest-all (let s = here c in let l = size-least s in let f = s .fits in omega arith)
 
 -- what its test told
-told : (c : tie.After-session-rises Inv-loop μ-loop) {b : Bool} → c .session-rises .result ≡ b
-    → (rises (drop (c .before .before .before .before .loop .at) (c .before .before .before .before .before .before .args .d .now)) (tracks
-    (drop (c .before .before .before .before .loop .at) (c .before .before .before .before .before .before .args .d .now)))
-    and beginsAfter (c .before .before .before .before .loop .k) (c .before .before .before .before .loop .out) (trackStart (drop
-    (c .before .before .before .before .loop .at) (c .before .before .before .before .before .before .args .d .now)) 0)) ≡ b
+told :
+    (c : tie.After-session-rises Inv-loop μ-loop) {b : Bool} → c .session-rises .result ≡ b
+    → (rises (drop (c .before .before .before .before .loop .at) (c .before .before .before .before .before .before .args .d .now))
+    (tracks (drop (c .before .before .before .before .loop .at) (c .before .before .before .before .before .before .args .d .now)))
+    and beginsAfter (c .before .before .before .before .loop .k) (c .before .before .before .before .loop .out)
+    (trackStart (drop (c .before .before .before .before .loop .at) (c .before .before .before .before .before .before .args .d .now)) 0)) ≡ b
 told c h = sym (rw (rest-all, c .before .wide .ensures .same) at (c .session-rises .ensures)) ∙ h
 
 loop-holds : tie.Need-loop-holds Inv-loop μ-loop
@@ -56,20 +59,22 @@ row-at-requires c κs = let l = long (c .before .before .before .before) in omeg
 loop-again : tie.Need-loop-again Inv-loop μ-loop
 loop-again c =
     risen-next (c .before .before .before .before .before .before .before .before .loop .inv)
-    (c .before .before .before .before .before .before .before .loop-test .taken) (here
-    (c .before .before .before .before .before .before .before)) (rw rest-all at (c .session-bytes .ensures)) (c .before .start-of .ensures
-    ∙ ap startOf (c .before .before .row-at .ensures) ∙ ap (λ (l : List ℕ). addressAt l 2) (rest-all
-    (c .before .before .before .before .before .before .before .before .loop .at)
-    (c .before .before .before .before .before .before .before .before .before .before .args .d .now))) (told
-    (c .before .before .before .before) (c .before .before .before .if1 .taken))
+    (c .before .before .before .before .before .before .before .loop-test .taken)
+    (here (c .before .before .before .before .before .before .before)) (rw rest-all at (c .session-bytes .ensures))
+    (c .before .start-of .ensures
+    ∙ ap startOf (c .before .before .row-at .ensures)
+    ∙ ap (λ (l : List ℕ). addressAt l 2)
+    (rest-all (c .before .before .before .before .before .before .before .before .loop .at)
+    (c .before .before .before .before .before .before .before .before .before .before .args .d .now)))
+    (told (c .before .before .before .before) (c .before .before .before .if1 .taken))
 
 add-at : tie.Need-add-at Inv-loop μ-loop
 add-at c = let r = loop-again c in search needs
 
 returns : tie.Need-returns Inv-loop μ-loop
 returns c =
-    risen-breaks (c .before .before .before .before .before .loop .inv) (c .before .before .before .before .loop-test .taken) (told
-    (c .before) (c .if1 .left))
+    risen-breaks (c .before .before .before .before .before .loop .inv) (c .before .before .before .before .loop-test .taken)
+    (told (c .before) (c .if1 .left))
 
 returns-2 : tie.Need-returns-2 Inv-loop μ-loop
 returns-2 c = risen-end (c .before .loop .inv) (c .loop-test .left)

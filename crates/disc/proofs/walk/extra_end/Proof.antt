@@ -14,18 +14,20 @@ use Rattle.disc.proofs.walk.extra_end.Tie as tie
 returns : tie.Need-returns
 unfolding extraEnd
 returns c = (
-  sym (when _ _ _ (eq-eqb _ _ (ap (λ (r : Row). r .point) (sym (c .before .before .before .before .row-from .ensures)) ∙
-      c .before .before .if2 .taken)) ∙ when _ _ _ (sym (rw (c .before .before .before .before .row-from .ensures) at
-      (c .before .extra-kept .ensures)) ∙ c .if3 .taken)),
+  sym
+      (when _ _ _
+      (eq-eqb _ _ (ap (λ (r : Row). r .point) (sym (c .before .before .before .before .row-from .ensures)) ∙ c .before .before .if2 .taken))
+      ∙ when _ _ _ (sym (rw (c .before .before .before .before .row-from .ensures) at (c .before .extra-kept .ensures)) ∙ c .if3 .taken)),
   (omega arith, omega arith),
 )
 
 returns-2 : tie.Need-returns-2
 unfolding extraEnd
 returns-2 c = (
-  sym (when _ _ _ (eq-eqb _ _ (ap (λ (r : Row). r .point) (sym (c .before .before .before .before .row-from .ensures)) ∙
-      c .before .before .if2 .taken)) ∙ unless _ _ _ (sym (rw (c .before .before .before .before .row-from .ensures) at
-      (c .before .extra-kept .ensures)) ∙ c .if3 .left)),
+  sym
+      (when _ _ _
+      (eq-eqb _ _ (ap (λ (r : Row). r .point) (sym (c .before .before .before .before .row-from .ensures)) ∙ c .before .before .if2 .taken))
+      ∙ unless _ _ _ (sym (rw (c .before .before .before .before .row-from .ensures) at (c .before .extra-kept .ensures)) ∙ c .if3 .left)),
   (omega arith, omega arith),
 )
 
@@ -33,19 +35,19 @@ returns-3 : tie.Need-returns-3
 unfolding extraEnd
 returns-3 c = (
   sym (unless _ _ _ (ne-eqb _ _ (λ e. c .if2 .left (ap (λ (r : Row). r .point) (c .before .before .row-from .ensures) ∙ e)))),
-  (
-    omega
-        arith,
-    omega arith,
-  ),
+  (omega arith, omega arith),
 )
 
 returns-4 : tie.Need-returns-4
 unfolding extraEnd
 returns-4 c = (
-  sym (unless _ _ _ (ne-eqb _ _ (λ e. let p = c .before .before .pre .3 in let z = List·getD-eq-default (c .before .before .args .d .now)
-      0 {n = c .before .before .args .at + 3} (omega arith) in let q : getD (c .before .before .args .d .now) (c .before .before .args .at +
-      3) 0 ≡ c .before .before .args .p = e in omega arith))),
+  sym
+      (unless _ _ _
+      (ne-eqb _ _
+      (λ e. let p = c .before .before .pre .3 in
+      let z = List·getD-eq-default (c .before .before .args .d .now) 0 {n = c .before .before .args .at + 3} (omega arith) in
+      let q : getD (c .before .before .args .d .now) (c .before .before .args .at + 3) 0 ≡ c .before .before .args .p = e in
+      omega arith))),
   (omega arith, omega arith),
 )
 

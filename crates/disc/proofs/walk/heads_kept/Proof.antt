@@ -9,10 +9,15 @@ use Rattle.disc.proofs.walk.heads_kept.Tie as tie
 returns : tie.Need-returns
 unfolding headsKept
 returns c =
-    and-on _ _ (sym (rw (c .before .before .before .before .before .before .before .row-at .ensures) at
-    (c .before .before .before .before .before .before .a0-kept .ensures)) ∙ c .before .before .before .before .before .if1 .taken) (and-on
-    _ _ (sym (rw (c .before .before .before .before .row-at2 .ensures) at (c .before .before .before .a1-kept .ensures)) ∙
-    c .before .before .if2 .taken) (rw (c .before .row-at3 .ensures) at (c .kept .ensures)))
+    and-on _ _
+    (sym
+    (rw (c .before .before .before .before .before .before .before .row-at .ensures) at
+    (c .before .before .before .before .before .before .a0-kept .ensures))
+    ∙ c .before .before .before .before .before .if1 .taken)
+    (and-on _ _
+    (sym (rw (c .before .before .before .before .row-at2 .ensures) at (c .before .before .before .a1-kept .ensures))
+    ∙ c .before .before .if2 .taken)
+    (rw (c .before .row-at3 .ensures) at (c .kept .ensures)))
 
 returns-2 : tie.Need-returns-2
 unfolding headsKept

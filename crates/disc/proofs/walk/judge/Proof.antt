@@ -29,16 +29,18 @@ part-walk-start c =
 
 walk-requires : tie.Need-walk-requires
 walk-requires c κs =
-    rw rest-all (let s = rule1-parts (sym (c .before .before .before .before .before .rule1 .ensures) ∙
-    c .before .before .before .before .if1 .taken) in let l = length-drop 4
-    (c .before .before .before .before .before .before .before .args .t .now) in omega arith)
+    rw rest-all
+    (let s =
+    rule1-parts (sym (c .before .before .before .before .before .rule1 .ensures) ∙ c .before .before .before .before .if1 .taken) in
+    let l = length-drop 4 (c .before .before .before .before .before .before .before .args .t .now) in omega arith)
 
 returns : tie.Need-returns
 returns c =
-    rw rest-all at (c .walk .ensures) ∙ ap (λ (b : Bool). verdict b (lastAt
-    (c .before .before .before .before .before .before .before .before .args .t .now))) (walk-fit _ (sym
-    (c .before .before .before .before .before .before .rule1 .ensures) ∙ c .before .before .before .before .before .if1 .taken) (sym
-    (c .before .before .before .before .rule2 .ensures) ∙ c .before .before .before .if2 .taken))
+    rw rest-all at (c .walk .ensures)
+    ∙ ap (λ (b : Bool). verdict b (lastAt (c .before .before .before .before .before .before .before .before .args .t .now)))
+    (walk-fit _
+    (sym (c .before .before .before .before .before .before .rule1 .ensures) ∙ c .before .before .before .before .before .if1 .taken)
+    (sym (c .before .before .before .before .rule2 .ensures) ∙ c .before .before .before .if2 .taken))
 
 returns-2 : tie.Need-returns-2
 returns-2 c = c .unfit .ensures ∙ verdict-no _ (unfit-rule2 _ (sym (c .before .before .rule2 .ensures) ∙ c .before .if2 .left))

@@ -11,8 +11,8 @@ use Rattle.disc.proofs.walk.session_end.Tie as tie
 
 returns : tie.Need-returns
 returns c =
-    sessionEnd-not _ _ _ _ (λ s n. let f = sessionKept-sound _ _ _ s .is .fits in let e = size-heads (c .before .before .args .d .now)
-    in omega arith)
+    sessionEnd-not _ _ _ _
+    (λ s n. let f = sessionKept-sound _ _ _ s .is .fits in let e = size-heads (c .before .before .args .d .now) in omega arith)
 
 returns-2 : tie.Need-returns-2
 returns-2 c = sessionEnd-not _ _ _ _ (λ s n. let i = sessionKept-sound _ _ _ s .is .low in omega arith)
@@ -28,16 +28,19 @@ returns-5 c = sessionEnd-not _ _ _ _ (λ s n. let i = sessionKept-sound _ _ _ s 
 
 returns-6 : tie.Need-returns-6
 returns-6 c =
-    sessionEnd-not _ _ _ _ (λ s n. false≢true (sym (tracksEnd-none _ _ _ _ _ (sym (c .before .tracks-end .ensures .0) ∙ c .if7 .taken)) ∙
-    sessionKept-tracks _ _ _ s))
+    sessionEnd-not _ _ _ _
+    (λ s n. false≢true
+    (sym (tracksEnd-none _ _ _ _ _ (sym (c .before .tracks-end .ensures .0) ∙ c .if7 .taken)) ∙ sessionKept-tracks _ _ _ s))
 
 returns-7 : tie.Need-returns-7
 returns-7 c =
-    c .extras-end .ensures ∙ sessionEnd-on _ _ _ _
-    (c .before .before .before .before .before .before .before .before .before .before .before .before .before .before .pre .0) (omega
-    arith) (sym (c .before .before .before .before .before .before .before .before .wide .ensures .same) ∙
-    c .before .before .before .before .before .before .before .if3 .left) (omega arith) (omega arith) (sym
-    (c .before .before .before .before .heads-kept .ensures) ∙ c .before .before .before .if6 .taken)
+    c .extras-end .ensures
+    ∙ sessionEnd-on _ _ _ _
+    (c .before .before .before .before .before .before .before .before .before .before .before .before .before .before .pre .0)
+    (omega arith)
+    (sym (c .before .before .before .before .before .before .before .before .wide .ensures .same)
+    ∙ c .before .before .before .before .before .before .before .if3 .left)
+    (omega arith) (omega arith) (sym (c .before .before .before .before .heads-kept .ensures) ∙ c .before .before .before .if6 .taken)
     (c .before .before .tracks-end .ensures .0) (c .before .if7 .left) (c .before .before .tracks-end .ensures .1 .1)
 
 returns-8 : tie.Need-returns-8

@@ -20,7 +20,9 @@ abbrev μ-loop : tie.MeasureT-loop
 -- where a descriptor begins before the end, it ends there too
 inside : (c : tie.Else1 Inv-loop μ-loop) → c .before .before .loop .at + row ≤ length (c .before .before .before .before .args .d .now)
 inside c =
-    let p = c .before .before .before .before .pre .0 in let q = c .before .before .loop .inv .place in let l = c .if1 .left in omega arith
+    let p = c .before .before .before .before .pre .0 in
+    let q = c .before .before .loop .inv .place in
+    let l = c .if1 .left in omega arith
 
 loop-holds : tie.Need-loop-holds Inv-loop μ-loop
 loop-holds c = let p = c .before .pre in climbed-none _ _ _ _ _ (p .3) (p .1)
@@ -37,10 +39,10 @@ row-from-requires c κs = inside c
 loop-again : tie.Need-loop-again Inv-loop μ-loop
 loop-again c =
     climbed-next (c .before .before .before .before .before .before .before .before .loop .inv)
-    (c .before .before .before .before .before .before .before .loop-test .taken) (inside
-    (c .before .before .before .before .before .before)) (c .before .before .before .before .before .row-from .ensures) (sym
-    (c .before .before .before .before .kept .ensures) ∙ c .before .before .before .if2 .taken) (sym (c .before .before .climbs .ensures) ∙
-    c .before .if3 .taken) (c .frames-of .ensures .0)
+    (c .before .before .before .before .before .before .before .loop-test .taken)
+    (inside (c .before .before .before .before .before .before)) (c .before .before .before .before .before .row-from .ensures)
+    (sym (c .before .before .before .before .kept .ensures) ∙ c .before .before .before .if2 .taken)
+    (sym (c .before .before .climbs .ensures) ∙ c .before .if3 .taken) (c .frames-of .ensures .0)
 
 add-at : tie.Need-add-at Inv-loop μ-loop
 add-at c = let r = inside (c .before .before .before .before .before .before) in search needs
@@ -48,8 +50,8 @@ add-at c = let r = inside (c .before .before .before .before .before .before) in
 returns-2 : tie.Need-returns-2 Inv-loop μ-loop
 returns-2 c = (
   climbed-out (c .before .before .before .before .before .before .before .loop .inv)
-      (c .before .before .before .before .before .before .loop-test .taken) (c .before .before .before .before .row-from .ensures) (sym
-      (c .before .climbs .ensures) ∙ c .if3 .left),
+      (c .before .before .before .before .before .before .loop-test .taken) (c .before .before .before .before .row-from .ensures)
+      (sym (c .before .climbs .ensures) ∙ c .if3 .left),
   (omega arith, omega arith),
 )
 
@@ -63,15 +65,16 @@ returns-3 c = (
 returns-4 : tie.Need-returns-4 Inv-loop μ-loop
 returns-4 c =
     let i = c .before .before .before .before .loop .inv in (
-      sym (when true _ _ refl) ∙ climbed-end i
-          (c .before .before .before .loop-test .left) (sym (rw (c .before .before .row-at .ensures) at (c .before .holds .ensures)) ∙
-          c .if4 .taken),
+      sym (when true _ _ refl)
+          ∙ climbed-end i (c .before .before .before .loop-test .left)
+          (sym (rw (c .before .before .row-at .ensures) at (c .before .holds .ensures)) ∙ c .if4 .taken),
       (let q = i .place in omega arith, i .within),
     )
 
 returns-5 : tie.Need-returns-5 Inv-loop μ-loop
 returns-5 c = (
-  sym (unless false _ _ refl) ∙ climbed-end (c .before .before .before .before .loop .inv) (c .before .before .before .loop-test .left)
+  sym (unless false _ _ refl)
+      ∙ climbed-end (c .before .before .before .before .loop .inv) (c .before .before .before .loop-test .left)
       (sym (rw (c .before .before .row-at .ensures) at (c .before .holds .ensures)) ∙ c .if4 .left),
   (omega arith, omega arith),
 )

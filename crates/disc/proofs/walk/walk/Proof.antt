@@ -23,15 +23,17 @@ abbrev μ-loop : tie.MeasureT-loop
 
 -- the session that begins here is one
 here :
-    (c : tie.Else1 Inv-loop μ-loop) → IsSession (c .before .before .before .before .loop .k + 1) (drop
-    (c .before .before .before .before .loop .at) (c .before .before .before .before .before .before .before .args .d .now))
+    (c : tie.Else1 Inv-loop μ-loop)
+    → IsSession (c .before .before .before .before .loop .k + 1)
+    (drop (c .before .before .before .before .loop .at) (c .before .before .before .before .before .before .before .args .d .now))
 here c = sessionKept-sound _ _ _ (sessionEnd-told _ _ _ _ (rw rest-all at (c .before .session-end .ensures)) (c .if1 .left) .0) .is
 
 -- it has four descriptors at least
 long :
-    (c : tie.Else1 Inv-loop μ-loop) → 44 ≤ length (take (length (c .before .before .before .before .before .before .before .args .d .now) -
-    c .before .before .before .before .loop .at) (drop (c .before .before .before .before .loop .at)
-    (c .before .before .before .before .before .before .before .args .d .now)))
+    (c : tie.Else1 Inv-loop μ-loop)
+    → 44 ≤ length
+    (take (length (c .before .before .before .before .before .before .before .args .d .now) - c .before .before .before .before .loop .at)
+    (drop (c .before .before .before .before .loop .at) (c .before .before .before .before .before .before .before .args .d .now)))
 long c = rw rest-all (let s = here c in let l = size-least s in let f = s .fits in omega arith)
 
 loop-holds : tie.Need-loop-holds Inv-loop μ-loop
@@ -39,15 +41,19 @@ loop-holds c = trod-none _ _ (c .byte-at .ensures .same)
 
 session-end-requires : tie.Need-session-end-requires Inv-loop μ-loop
 session-end-requires c κs =
-    rw rest-all (let p = c .before .before .before .before .before .pre in let w = c .before .before .loop .inv .walked in let e =
-    starts-rows (c .before .before .before .before .before .args .d .now) (c .before .before .loop .k) in let l = length-drop
-    (c .before .before .loop .at) (c .before .before .before .before .before .args .d .now) in (omega arith, omega arith))
+    rw rest-all
+    (let p = c .before .before .before .before .before .pre in
+    let w = c .before .before .loop .inv .walked in
+    let e = starts-rows (c .before .before .before .before .before .args .d .now) (c .before .before .loop .k) in
+    let l = length-drop (c .before .before .loop .at) (c .before .before .before .before .before .args .d .now) in
+    (omega arith, omega arith))
 
 returns : tie.Need-returns Inv-loop μ-loop
 returns c =
-    c .unfit .ensures ∙ verdict-no _ (trod-breaks (c .before .before .before .before .before .loop .inv)
-    (c .before .before .before .before .loop-test .taken) (sym (rw rest-all at (c .before .before .session-end .ensures)) ∙
-    c .before .if1 .taken))
+    c .unfit .ensures
+    ∙ verdict-no _
+    (trod-breaks (c .before .before .before .before .before .loop .inv) (c .before .before .before .before .loop-test .taken)
+    (sym (rw rest-all at (c .before .before .session-end .ensures)) ∙ c .before .if1 .taken))
 
 shared-slice-read-wide : tie.Need-shared-slice-read-wide Inv-loop μ-loop
 shared-slice-read-wide c = let l = long (c .before) in omega arith
@@ -58,13 +64,16 @@ row-at-requires c κs = let l = long (c .before .before) in omega arith
 loop-again : tie.Need-loop-again Inv-loop μ-loop
 loop-again c =
     trod-next (c .before .before .before .before .before .before .before .before .loop .inv)
-    (c .before .before .before .before .before .before .before .loop-test .taken) (rw rest-all at
-    (c .before .before .before .before .before .session-end .ensures)) (c .before .before .before .before .if1 .left)
-    (c .before .before .wide .ensures .same ∙ ap last (rest-all
-    (c .before .before .before .before .before .before .before .before .loop .at)
-    (c .before .before .before .before .before .before .before .before .before .before .before .args .d .now))) (c .frames-of .ensures .0 ∙
-    ap framesOf (c .before .row-at .ensures) ∙ ap (λ (l : List ℕ). framesAt l 2) (rest-all
-    (c .before .before .before .before .before .before .before .before .loop .at)
+    (c .before .before .before .before .before .before .before .loop-test .taken)
+    (rw rest-all at (c .before .before .before .before .before .session-end .ensures)) (c .before .before .before .before .if1 .left)
+    (c .before .before .wide .ensures .same
+    ∙ ap last
+    (rest-all (c .before .before .before .before .before .before .before .before .loop .at)
+    (c .before .before .before .before .before .before .before .before .before .before .before .args .d .now)))
+    (c .frames-of .ensures .0
+    ∙ ap framesOf (c .before .row-at .ensures)
+    ∙ ap (λ (l : List ℕ). framesAt l 2)
+    (rest-all (c .before .before .before .before .before .before .before .before .loop .at)
     (c .before .before .before .before .before .before .before .before .before .before .before .args .d .now)))
 
 add-at : tie.Need-add-at Inv-loop μ-loop
@@ -72,13 +81,14 @@ add-at c = let r = loop-again c in search needs
 
 returns-2 : tie.Need-returns-2 Inv-loop μ-loop
 returns-2 c =
-    verdict-yes (sym (trod-end (c .before .before .loop .inv) (c .before .loop-test .left)) ∙ eq-eqb _ _ (c .if2 .taken)) (trod-back
-    (c .before .before .loop .inv) (c .before .loop-test .left))
+    verdict-yes (sym (trod-end (c .before .before .loop .inv) (c .before .loop-test .left)) ∙ eq-eqb _ _ (c .if2 .taken))
+    (trod-back (c .before .before .loop .inv) (c .before .loop-test .left))
 
 returns-3 : tie.Need-returns-3 Inv-loop μ-loop
 returns-3 c =
-    c .unfit2 .ensures ∙ verdict-no _ (sym (ne-eqb _ _ (c .before .if2 .left)) ∙ trod-end (c .before .before .before .loop .inv)
-    (c .before .before .loop-test .left))
+    c .unfit2 .ensures
+    ∙ verdict-no _
+    (sym (ne-eqb _ _ (c .before .if2 .left)) ∙ trod-end (c .before .before .before .loop .inv) (c .before .before .loop-test .left))
 
 pub walk-spec : {M : Type 1} → statement M
 walk-spec =

@@ -10,8 +10,8 @@ use Rattle.sessions.proofs.session.named.Tie as tie
 returns : tie.Need-returns
 unfolding names
 returns c =
-    and-on _ _ (eq-eqb _ _ (sym (c .before .before .before .wide .ensures .same) ∙ c .before .before .if1 .taken)) (rw
-    (c .wide2 .ensures .same))
+    and-on _ _ (eq-eqb _ _ (sym (c .before .before .before .wide .ensures .same) ∙ c .before .before .if1 .taken))
+    (rw (c .wide2 .ensures .same))
 
 returns-2 : tie.Need-returns-2
 unfolding names

@@ -9,16 +9,24 @@ use Rattle.sessions.proofs.session.one_at.Tie as tie
 
 returns : tie.Need-returns
 returns c = (
-  sym (one-is (getD-drop (c .before .before .before .before .args .i) (c .before .before .before .before .args .d .now) 3 0 ∙ sym
-      (c .before .before .byte-at .ensures .same) ∙ c .if1 .taken ∙ c .before .wide .ensures .same)),
+  sym
+      (one-is
+      (getD-drop (c .before .before .before .before .args .i) (c .before .before .before .before .args .d .now) 3 0
+      ∙ sym (c .before .before .byte-at .ensures .same)
+      ∙ c .if1 .taken
+      ∙ c .before .wide .ensures .same)),
   omega arith,
 )
 
 returns-2 : tie.Need-returns-2
 returns-2 c = (
-  sym (one-not (λ e. c .if1 .left (c .before .before .byte-at .ensures .same ∙ sym (getD-drop
-      (c .before .before .before .before .args .i) (c .before .before .before .before .args .d .now) 3 0) ∙ e ∙ sym
-      (c .before .wide .ensures .same)))),
+  sym
+      (one-not
+      (λ e. c .if1 .left
+      (c .before .before .byte-at .ensures .same
+      ∙ sym (getD-drop (c .before .before .before .before .args .i) (c .before .before .before .before .args .d .now) 3 0)
+      ∙ e
+      ∙ sym (c .before .wide .ensures .same)))),
   omega arith,
 )
 

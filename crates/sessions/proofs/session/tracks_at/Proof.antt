@@ -7,13 +7,15 @@ use Rattle.sessions.proofs.session.tracks_at.Tie as tie
 
 returns : tie.Need-returns
 returns c =
-    (let e = tracks-drop (c .before .before .before .before .args .d .now) (c .before .before .before .before .args .at) in let f =
-    c .before .before .byte-at .ensures in let l = c .before .byte-at2 .ensures in (omega arith, omega arith))
+    (let e = tracks-drop (c .before .before .before .before .args .d .now) (c .before .before .before .before .args .at) in
+    let f = c .before .before .byte-at .ensures in
+    let l = c .before .byte-at2 .ensures in (omega arith, omega arith))
 
 returns-2 : tie.Need-returns-2
 returns-2 c =
-    (let e = tracks-drop (c .before .before .before .before .args .d .now) (c .before .before .before .before .args .at) in let f =
-    c .before .before .byte-at .ensures in let l = c .before .byte-at2 .ensures in (omega arith, omega arith))
+    (let e = tracks-drop (c .before .before .before .before .args .d .now) (c .before .before .before .before .args .at) in
+    let f = c .before .before .byte-at .ensures in
+    let l = c .before .byte-at2 .ensures in (omega arith, omega arith))
 
 pub tracks-at-spec : {M : Type 1} → statement M
 tracks-at-spec =

@@ -17,8 +17,8 @@ returns-2 c = and-late _ _ (and-off _ _ (lt-leb _ _ (c .if2 .taken)))
 returns-3 : tie.Need-returns-3
 unfolding climbs
 returns-3 c =
-    and-on _ _ (le-leb _ _ (c .before .before .before .if1 .left)) (and-on _ _ (le-leb _ _ (c .before .if2 .left)) (rw
-    (c .frames-of .ensures .0)))
+    and-on _ _ (le-leb _ _ (c .before .before .before .if1 .left))
+    (and-on _ _ (le-leb _ _ (c .before .if2 .left)) (rw (c .frames-of .ensures .0)))
 
 pub climbs-spec : {M : Type 1} → statement M
 climbs-spec = tie.close (tie.spec returns returns-2 (λ c κs. search needs) returns-3)

@@ -10,8 +10,8 @@ use Rattle.table.proofs.row.simple.Tie as tie
 returns : tie.Need-returns
 unfolding simple
 returns c =
-    and-on _ _ (rw (c .before .before .before .before .wide .ensures .same) at (eq-eqb _ _ (c .before .before .before .if1 .taken))) (and-on
-    _ _ (eq-eqb _ _ (c .before .if2 .taken)) refl)
+    and-on _ _ (rw (c .before .before .before .before .wide .ensures .same) at (eq-eqb _ _ (c .before .before .before .if1 .taken)))
+    (and-on _ _ (eq-eqb _ _ (c .before .if2 .taken)) refl)
 
 returns-2 : tie.Need-returns-2
 unfolding simple
