@@ -10,7 +10,8 @@ use Rattle.ground.specs.Tests.{_and_, _or_, if_then_else_}
 use Rattle.ground.specs.Memory.{fill-fits}
 use Rattle.drive.specs.declared.state.Mechanics.{Mechanics}
 use Rattle.drive.specs.declared.state.Drive.{Drive}
-use Rattle.drive.specs.Sense.{senseAt, sameSense, among, isKnown}
+use Rattle.drive.specs.Sense.{senseAt, isKnown}
+use Rattle.drive.specs.SenseLaws.{isKnown-at}
 use Rattle.drive.specs.State.{isLoaded}
 use Rattle.table.specs.Layout.{bound, lastSession, descriptors}
 use Rattle.disc.specs.Rules.{isFit}
@@ -63,18 +64,18 @@ abbrev pub wholeToc : List ℕ
 wholeToc = 0x43 ∷ 0x00 ∷ 0x02 ∷ 0x00 ∷ 0x00 ∷ 0x00 ∷ 0x01 ∷ 0x19 ∷ 0x8A ∷ 0x00 ∷ 0x00 ∷ 0x00 ∷ []
 
 -- of a drive "Loaded, nothing pending" the steps answer it whole
-steps-whole : (t : List ℕ) → isFit t ≡ true → stepsOf loadedE wholeToc t .full ≡ format2 (discOf t) 1 (descriptors t)
+stepsOf-whole : (t : List ℕ) → isFit t ≡ true → stepsOf loadedE wholeToc t .full ≡ format2 (discOf t) 1 (descriptors t)
 unfolding decode if_then_else_ gate pendingOf perform readToc tocBad tocBytes _and_
-steps-whole t f = rw (le-ltb (lastSession t) 1 (fit-numbered (isFit-true f) .low))
+stepsOf-whole t f = rw (le-ltb (lastSession t) 1 (fit-numbered (isFit-true f) .low))
 
-known : isKnown (loadedE .unit .sense) ≡ true
-unfolding isKnown among sameSense senseAt _and_ _or_
-known = refl
+loadedE-known : isKnown (loadedE .unit .sense) ≡ true
+unfolding senseAt
+loadedE-known = isKnown-at 0
 
 -- and so does the drive, into a memory that passes refusal 3: of any fit table the answer is as long as the table
 pub format2-as-long : (t m : List ℕ) → isFit t ≡ true → bound ≤ length m → length (answer (packet wholeToc t m) loadedE .full) ≡ length t
 format2-as-long t m f h =
-    ap (λ (r : Reply Mechanics). length (r .full)) (answer-steps loadedE wholeToc t (length m) refl known h (λ l. f)) ∙ ap length (steps-whole t f) ∙ format2-length t f
+    ap (λ (r : Reply Mechanics). length (r .full)) (answer-steps loadedE wholeToc t (length m) refl loadedE-known h (λ l. f)) ∙ ap length (stepsOf-whole t f) ∙ format2-length t f
 
 -- 99 sessions of one track with a B0h and a C0h each are 594 descriptors, and fit: their answer has 6,538 bytes
 pub bound-reached : (m : List ℕ) → bound ≤ length m → length (answer (packet wholeToc longest m) loadedE .full) ≡ bound

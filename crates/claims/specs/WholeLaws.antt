@@ -22,7 +22,7 @@ use Rattle.disc.specs.Disc.{discOf}
 use Rattle.gate.specs.declared.unit.Pending.{Pending}
 use Rattle.gate.specs.declared.unit.Pending.the-variants.{Power, Change, Nothing}
 use Rattle.gate.specs.Unit.{pendingOf}
-use Rattle.gate.specs.Gate.{Result, fails, goes, settle, pass, meet, gate}
+use Rattle.gate.specs.Gate.{Result, fails, goes, Reply, settle, pass, meet, gate}
 use Rattle.command.specs.declared.decode.Command.{Command}
 use Rattle.command.specs.declared.decode.Command.the-variants.{TestUnitReady, RequestSense, Inquiry, StartStop, Prevent, ReadCapacity, Read10, Seek, ReadToc, Read12, Unknown}
 use Rattle.command.specs.declared.decode.Kind.{Kind}
@@ -34,8 +34,8 @@ use Rattle.target.specs.ReadToc.{readToc, formatIn, msfIn, numberIn}
 use Rattle.target.specs.Perform.{L, inquiry, work, perform}
 use Rattle.target.specs.PerformLaws.{fullOf, startStop-quiet, seek-quiet, read-quiet}
 use Rattle.target.specs.Packet.{stepsBy, refusalOf, answer as replyTo}
-use Rattle.claims.specs.UnitLaws.{meets}
 use Rattle.target.specs.PacketLaws.{stepsOf}
+use Rattle.claims.specs.UnitLaws.{meets}
 use Rattle.claims.specs.PacketLaws.{kind, stepsOf-kind, reply-kind}
 use Rattle.claims.specs.RefusalLaws.{refusal-ordered}
 
@@ -112,11 +112,11 @@ meet-bounded Power u m r h = omega arith
 meet-bounded Change u m r h = omega arith
 meet-bounded Nothing u m r h = settle-bounded u m r h
 
-steps-by : (k : Kind) (c : Command) (u : Unit) (m : Mechanics) (p t : List ℕ) → Bounded (perform c p m t) → length (stepsBy k c u m p t .full) ≤ bound
+stepsBy-bounded : (k : Kind) (c : Command) (u : Unit) (m : Mechanics) (p t : List ℕ) → Bounded (perform c p m t) → length (stepsBy k c u m p t .full) ≤ bound
 unfolding gate
-steps-by Asks c u m p t h = omega arith
-steps-by Passes c u m p t h = pass-bounded u m (perform c p m t) h
-steps-by Gates c u m p t h = meet-bounded (pendingOf u) u m (perform c p m t) h
+stepsBy-bounded Asks c u m p t h = omega arith
+stepsBy-bounded Passes c u m p t h = pass-bounded u m (perform c p m t) h
+stepsBy-bounded Gates c u m p t h = meet-bounded (pendingOf u) u m (perform c p m t) h
 
 -- a fit table is no longer than the bound
 fit-short : (t : List ℕ) → isFit t ≡ true → Short t
@@ -125,16 +125,20 @@ fit-short t h = let s = fit-sized (isFit-true h) in let a = s .least in let b = 
 pub stepsOf-bounded : (d : Drive) (p t : List ℕ) → (isLoaded (d .mechanics) ≡ true → isFit t ≡ true) → length (stepsOf d p t .full) ≤ bound
 stepsOf-bounded d p t f =
     let c = decode (codeOf p) in
-    steps-by (kindOf c) c (d .unit) (d .mechanics) p t (perform-bounded c p (d .mechanics) t (λ l. fit-short t (f l)))
+    stepsBy-bounded (kindOf c) c (d .unit) (d .mechanics) p t (perform-bounded c p (d .mechanics) t (λ l. fit-short t (f l)))
 
 -- ---- an answer is no longer than the memory that was lent
 
--- a packet's answer, of a memory of n bytes: one that is refused has no bytes, and any other has passed refusal 3
-pub reply-held : (d : Drive) (p t : List ℕ) (n : ℕ) → (length (replyTo d p t n .full) ≤ bound) × (length (replyTo d p t n .full) ≤ n)
+-- the answer passes neither the bound nor a memory of n bytes
+abbrev pub Held : ℕ → Reply Mechanics → Type 0
+Held n r = (length (r .full) ≤ bound) × (length (r .full) ≤ n)
+
+-- one that is refused has no bytes, and any other has passed refusal 3
+pub reply-held : (d : Drive) (p t : List ℕ) (n : ℕ) → Held n (replyTo d p t n)
 reply-held d p t n = rw (reply-kind d p t n) (by-number (refusalOf d p t n) (refusal-ordered d p t n .zero))
   where
     by-number : (j : ℕ) → eqb j 0 ≡ eqb (length p) 12 and isKnown (d .unit .sense) and not (ltb n bound) and not (isLoaded (d .mechanics) and not (isFit t))
-        → (length (meets j (kind p (d .mechanics) t) (d .unit) (d .mechanics) .full) ≤ bound) × (length (meets j (kind p (d .mechanics) t) (d .unit) (d .mechanics) .full) ≤ n)
+        → Held n (meets j (kind p (d .mechanics) t) (d .unit) (d .mechanics))
     by-number zero e =
         let h = and-tail _ _ (and-tail _ _ (sym e)) in
         let m = ltb-false n bound (not-true _ (and-head _ _ h)) in

@@ -9,7 +9,7 @@ use native.Mathlib.Nat.{lt-of-not-le}
 use native.Mathlib.Decide.{decLe, ℕ-discrete}
 use borrow.Author.Tests.{ltb-true, eq-eqb, eqb-true, ne-eqb}
 use lib.Dec.{ltb}
-use Rattle.ground.specs.Tests.{_or_, and-head, and-tail, every-at, or-left, or-right, or-else}
+use Rattle.ground.specs.Tests.{and-head, and-tail, every-at, or-left, or-right, or-else}
 use Rattle.address.specs.Laws.{InRange, toBlock-range}
 use Rattle.table.specs.Layout.{row, lastSession, descriptors, rows, pointAt, pminAt, psecAt, pframeAt, A0, A1, A2, B0, C0, isTrack}
 use Rattle.table.specs.Row.{rowFrom, rowAt, startOf, addressAt, rowTest}
@@ -58,21 +58,6 @@ locate d (suc n) j h = elim (decLe (rowsBefore d n) j) [
   | no l ↦ (let p = locate d n j (lt-of-not-le l) in
       record { k = p .k; i = p .i; below = let b = p .below in omega arith; inside = p .inside; place = p .place })
 ]
-
--- it has one place only
-pub locate-once : {d : List ℕ} {n j : ℕ} (p q : Place d n j) → (p .k ≡ q .k) × (p .i ≡ q .i)
-locate-once {d} {n} {j} p q =
-    let a = p .place in let b = q .place in
-    elim (ℕ-discrete (p .k) (q .k)) [
-      | yes e ↦ (let u : rowsBefore d (p .k) ≡ rowsBefore d (q .k) = ap (rowsBefore d) e in (e, omega arith))
-      | no e ↦ absurd (apart e)
-    ]
-  where
-    apart : (p .k ≡ q .k → ⊥) → ⊥
-    apart e = elim (decLe (q .k) (p .k)) [
-      | yes l ↦ (let u = rowsBefore-up d (q .k) (p .k) (omega arith) in let a = p .place in let b = q .place in let c = q .inside in omega arith)
-      | no l ↦ (let u = rowsBefore-up d (p .k) (q .k) (lt-of-not-le l) in let a = p .place in let b = q .place in let c = p .inside in omega arith)
-    ]
 
 -- ---- which POINT each has
 
@@ -145,14 +130,6 @@ pub session-none : (d : List ℕ) → session d 0 ≡ d
 unfolding starts
 session-none d = refl
 
--- the place of track n among k sessions: it is the track after m others of one of them
-pub record TrackPlace (d : List ℕ) (k n : ℕ) : Type 0 where
-  pub at : ℕ
-  pub after : ℕ
-  pub below : at < k
-  pub inside : after < tracks (session d at)
-  pub number : n ≡ first (session d at) + after
-
 -- the first and the last track of the disc
 pub record Span (t : List ℕ) : Type 0 where
   pub low : 1 ≤ first (descriptors t)
@@ -195,44 +172,6 @@ module _ {t : List ℕ} (f : Fit t) where
       elim (ℕ-discrete k n) [
         | yes q ↦ rw q (omega arith)
         | no q ↦ (let r = fit-tracks-rise k n (omega arith) (omega arith) in let s = fit-session f {k = n} (omega arith) in let o = s .order in omega arith)
-      ]
-
-  -- each number from the first track to the last of session k + 1 is a track of one session
-  pub fit-track-below :
-      (k n : ℕ) → k < lastSession t → first (descriptors t) ≤ n → n ≤ last (session (descriptors t) k) → TrackPlace (descriptors t) (suc k) n
-  fit-track-below zero n h l g =
-      let e : first (session (descriptors t) 0) ≡ first (descriptors t) = ap first (session-none (descriptors t)) in
-      record { at = 0; after = n - first (session (descriptors t) 0); below = omega arith; inside = omega arith; number = omega arith }
-  fit-track-below (suc k) n h l g =
-      let e : first (session (descriptors t) (suc k)) ≡ last (session (descriptors t) k) + 1 = rw (add-one k) at (fit-next k (omega arith)) in
-      elim (decLe (first (session (descriptors t) (suc k))) n) [
-        | yes q ↦ record {
-          at = suc k;
-          after = n - first (session (descriptors t) (suc k));
-          below = omega arith;
-          inside = omega arith;
-          number = omega arith;
-        }
-        | no q ↦ (let p = fit-track-below k n (omega arith) l (omega arith) in
-            record { at = p .at; after = p .after; below = let b = p .below in omega arith; inside = p .inside; number = p .number })
-      ]
-
-  pub fit-track : (n : ℕ) → first (descriptors t) ≤ n → n ≤ last (lastPart t) → TrackPlace (descriptors t) (lastSession t) n
-  fit-track n l g =
-      let s = fit-numbered f in
-      let e : suc (lastSession t - 1) ≡ lastSession t = omega arith in
-      rw e at (fit-track-below (lastSession t - 1) n (omega arith) l g)
-
-  -- and of one only
-  pub fit-track-once : {n : ℕ} (p q : TrackPlace (descriptors t) (lastSession t) n) → (p .at ≡ q .at) × (p .after ≡ q .after)
-  fit-track-once {n} p q =
-      let a = p .number in let b = q .number in
-      elim (ℕ-discrete (p .at) (q .at)) [
-        | yes e ↦ (let u : first (session (descriptors t) (p .at)) ≡ first (session (descriptors t) (q .at)) = ap (λ (x : ℕ). first (session (descriptors t) x)) e in (e, omega arith))
-        | no e ↦ absurd (elim (decLe (q .at) (p .at)) [
-          | yes l ↦ (let u = fit-tracks-rise (q .at) (p .at) (omega arith) (p .below) in let c = q .inside in omega arith)
-          | no l ↦ (let u = fit-tracks-rise (p .at) (q .at) (lt-of-not-le l) (q .below) in let c = p .inside in omega arith)
-        ])
       ]
 
   -- 1 ≤ the first track ≤ the last ≤ 99
