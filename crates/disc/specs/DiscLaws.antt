@@ -20,12 +20,13 @@ reading-fit t disc h = decided (isFit t) refl
         let k = sym (unless _ (Fit (discOf t)) (Unfit (fault t)) e) ∙ h in
         let z : _≡_ {A = ℕ} 0 1 = cc in absurd (omega arith)
 
-pub reading-unfit : (t : List ℕ) (n : ℕ) → reading t ≡ Unfit n → isFit t ≡ false
+-- that it is not, and the first broken rule
+pub reading-unfit : (t : List ℕ) (n : ℕ) → reading t ≡ Unfit n → (isFit t ≡ false) × (n ≡ fault t)
 unfolding reading
 reading-unfit t n h = decided (isFit t) refl
   where
-    decided : (b : Bool) → isFit t ≡ b → isFit t ≡ false
+    decided : (b : Bool) → isFit t ≡ b → (isFit t ≡ false) × (n ≡ fault t)
     decided true e =
         let k = sym (when _ (Fit (discOf t)) (Unfit (fault t)) e) ∙ h in
         let z : _≡_ {A = ℕ} 0 1 = cc in absurd (omega arith)
-    decided false e = e
+    decided false e = let k = sym (unless _ (Fit (discOf t)) (Unfit (fault t)) e) ∙ h in (e, cc)

@@ -8,7 +8,8 @@ use denote.Ref.{RefT, ptr, now}
 use Rattle.ground.specs.Tests.{_and_, if_then_else_}
 use Rattle.table.specs.Layout.{header, descriptors, lastSession}
 use Rattle.sessions.specs.Session.{size, starts, session}
-use Rattle.disc.specs.Rules.{isFit}
+use Rattle.disc.specs.Rules.{fault, isFit}
+use Rattle.disc.specs.declared.part.Refusal.{Refusal}
 
 abbrev pub unfit : ℕ
 unfit = 4
@@ -19,6 +20,18 @@ noSession = 10
 -- "The session part tests fitness (4, empty part) before 10": 10 where "a session asked for is 0 or over S"
 unfoldable pub partRefusal : List ℕ → ℕ → ℕ
 partRefusal t k = if isFit t then (if leb 1 k and leb k (lastSession t) then 0 else noSession) else unfit
+
+-- K6: "Refusal 4 carries that number": the first broken rule of the table beside 4, and 0 beside every other number
+unfoldable pub ruleWith : ℕ → List ℕ → ℕ
+ruleWith number t = if eqb number unfit then fault t else 0
+
+-- a number and the rule beside it
+abbrev pub refusalWith : ℕ → ℕ → Refusal
+refusalWith number rule = record { number = number; rule = rule }
+
+-- what the caller is told who asks for it apart
+unfoldable pub partRefused : List ℕ → ℕ → Refusal
+partRefused t k = refusalWith (partRefusal t k) (ruleWith (partRefusal t k) t)
 
 -- where the part begins and how long it is: exactly the session's descriptors, or empty at 0
 unfoldable pub partStart : List ℕ → ℕ → ℕ

@@ -1,5 +1,5 @@
 -- The laws of a session's part: when it is given, and that it is never empty then.
-use mathlib.Core.Path.{_≡_, refl, sym, _∙_}
+use mathlib.Core.Path.{_≡_, refl, sym, ap, _∙_}
 use mathlib.Core.Bool.{Bool, true, false}
 use mathlib.Core.List.{List}
 use Prim.Native.Nat.{ℕ, _+_, _-_, _≤_}
@@ -11,9 +11,10 @@ use Rattle.ground.specs.Memory.{rest-all}
 use Rattle.ground.specs.Tests.{_and_, and-head, and-tail, and-both, when, unless}
 use Rattle.table.specs.Layout.{header, descriptors, lastSession}
 use Rattle.sessions.specs.Session.{size, starts, session}
-use Rattle.disc.specs.Rules.{isFit}
+use Rattle.disc.specs.Rules.{fault, isFit}
 use Rattle.disc.specs.RulesLaws.{Fit, isFit-true, fit-isFit, fit-least}
-use Rattle.disc.specs.Part.{unfit, noSession, partRefusal, partStart, partSize}
+use Rattle.disc.specs.Part.{unfit, noSession, partRefusal, ruleWith, refusalWith, partRefused, partStart, partSize}
+use Rattle.disc.specs.declared.part.Refusal.{Refusal}
 
 -- the part of session k is given: the table is fit, and it has the session
 pub record Given (t : List ℕ) (k : ℕ) : Type 0 where
@@ -33,6 +34,40 @@ partRefusal-given t k h = decided (isFit t) (leb 1 k and leb k (lastSession t)) 
 pub given-partRefusal : {t : List ℕ} {k : ℕ} → Given t k → 0 ≡ partRefusal t k
 unfolding partRefusal
 given-partRefusal g = sym (when _ _ _ (fit-isFit (g .fit)) ∙ when _ _ _ (and-both _ _ (le-leb _ _ (g .low)) (le-leb _ _ (g .high))))
+
+-- ---- the rule beside the number
+
+-- beside any other number than 4 stands 0
+pub ruleWith-none : (number : ℕ) (t : List ℕ) → (number ≡ unfit → ⊥) → 0 ≡ ruleWith number t
+unfolding ruleWith
+ruleWith-none number t n = sym (unless _ _ _ (ne-eqb _ _ n))
+
+-- and beside 4 the first broken rule
+pub ruleWith-fault : (t : List ℕ) → fault t ≡ ruleWith unfit t
+unfolding ruleWith
+ruleWith-fault t = sym (when _ _ _ (eq-eqb unfit unfit refl))
+
+-- how the part of a session is refused: not, by 10, or by 4 with the rule
+partRefused-by : (t : List ℕ) (k : ℕ) {n r : ℕ} → partRefusal t k ≡ n → r ≡ ruleWith n t → refusalWith n r ≡ partRefused t k
+unfolding partRefused
+partRefused-by t k e h = rw (h, e)
+
+pub partRefused-not : {t : List ℕ} {k : ℕ} → Given t k → refusalWith 0 0 ≡ partRefused t k
+partRefused-not {t} {k} g = partRefused-by t k (sym (given-partRefusal g)) (ruleWith-none 0 t (λ e. omega arith))
+
+pub partRefused-10 : (t : List ℕ) (k : ℕ) → isFit t ≡ true → leb 1 k and leb k (lastSession t) ≡ false → refusalWith noSession 0 ≡ partRefused t k
+unfolding partRefusal
+partRefused-10 t k h n = partRefused-by t k (when _ _ _ h ∙ unless _ _ _ n) (ruleWith-none noSession t (λ e. omega arith))
+
+pub partRefused-4 : (t : List ℕ) (k : ℕ) → isFit t ≡ false → refusalWith unfit (fault t) ≡ partRefused t k
+unfolding partRefusal
+partRefused-4 t k h = partRefused-by t k (unless _ _ _ h) (ruleWith-fault t)
+
+pub partRefused-number : (t : List ℕ) (k : ℕ) {r : Refusal} → r ≡ partRefused t k → r .number ≡ partRefusal t k
+unfolding partRefused
+partRefused-number t k e = ap (λ (x : Refusal). x .number) e
+
+-- ---- the part
 
 -- where the part stands that is given, and where it is refused
 pub partStart-given : (t : List ℕ) (k : ℕ) → partRefusal t k ≡ 0 → header + starts (descriptors t) (k - 1) ≡ partStart t k

@@ -1,11 +1,12 @@
 -- The laws of the seven rules, and what a fit table has.
 use mathlib.Core.Path.{_≡_, refl, sym, ap, _∙_}
-use mathlib.Core.Bool.{Bool, true, false}
+use mathlib.Core.Bool.{Bool, true, false, not}
 use mathlib.Core.List.{List, [], _∷_}
 use Prim.Native.Nat.{ℕ, suc, _+_, _-_, _*_, _%_, _≤_, _<_}
 use native.Mathlib.Omega.{arith}
 use native.Mathlib.Numerals.{add-one}
 use borrow.Author.Tests.{leb-true, eq-eqb, eqb-true}
+use lib.Dec.{eqb}
 use lib.ListN.{length, drop, length-drop}
 use Rattle.ground.specs.Tests.{_and_, every, if_then_else_, when, unless, and-head, and-tail, every-none, every-step, every-more, every-breaks}
 use Rattle.table.specs.Row.{rowAt, rowTest}
@@ -33,6 +34,29 @@ firstBroken-off n true tests h = absurd (let z : _≡_ {A = ℕ} 0 1 = cc in ome
 pub firstBroken-none : (n : ℕ) → 0 ≡ firstBroken n []
 unfolding firstBroken
 firstBroken-none n = refl
+
+-- n is the first broken of seven rules: each is it exactly when those before it are kept and it is not
+pub record FirstOf (a b c d e f g : Bool) (n : ℕ) : Type 0 where
+  pub zero : eqb n 0 ≡ a and b and c and d and e and f and g
+  pub one : eqb n 1 ≡ not a
+  pub two : eqb n 2 ≡ a and not b
+  pub three : eqb n 3 ≡ a and b and not c
+  pub four : eqb n 4 ≡ a and b and c and not d
+  pub five : eqb n 5 ≡ a and b and c and d and not e
+  pub six : eqb n 6 ≡ a and b and c and d and e and not f
+  pub seven : eqb n 7 ≡ a and b and c and d and e and f and not g
+  pub most : n ≤ 7
+
+pub firstBroken-first : (a b c d e f g : Bool) → FirstOf a b c d e f g (firstBroken 1 (a ∷ b ∷ c ∷ d ∷ e ∷ f ∷ g ∷ []))
+unfolding firstBroken _and_
+firstBroken-first false b c d e f g = record { zero = refl; one = refl; two = refl; three = refl; four = refl; five = refl; six = refl; seven = refl; most = omega arith }
+firstBroken-first true false c d e f g = record { zero = refl; one = refl; two = refl; three = refl; four = refl; five = refl; six = refl; seven = refl; most = omega arith }
+firstBroken-first true true false d e f g = record { zero = refl; one = refl; two = refl; three = refl; four = refl; five = refl; six = refl; seven = refl; most = omega arith }
+firstBroken-first true true true false e f g = record { zero = refl; one = refl; two = refl; three = refl; four = refl; five = refl; six = refl; seven = refl; most = omega arith }
+firstBroken-first true true true true false f g = record { zero = refl; one = refl; two = refl; three = refl; four = refl; five = refl; six = refl; seven = refl; most = omega arith }
+firstBroken-first true true true true true false g = record { zero = refl; one = refl; two = refl; three = refl; four = refl; five = refl; six = refl; seven = refl; most = omega arith }
+firstBroken-first true true true true true true false = record { zero = refl; one = refl; two = refl; three = refl; four = refl; five = refl; six = refl; seven = refl; most = omega arith }
+firstBroken-first true true true true true true true = record { zero = refl; one = refl; two = refl; three = refl; four = refl; five = refl; six = refl; seven = refl; most = omega arith }
 
 -- ---- two tests
 
@@ -195,6 +219,14 @@ pub firstBroken-kept :
 unfolding firstBroken
 firstBroken-kept n true tests h = (refl, rw (add-one (suc n)) at h)
 firstBroken-kept n false tests h = absurd (omega arith)
+
+-- which of the seven it is
+pub fault-first :
+    (t : List ℕ)
+    → FirstOf (rule1 t) (rule2 t) (eachRow 3 (descriptors t)) (inOrder (lastSession t) (descriptors t)) (eachRow 5 (descriptors t))
+    (eachRow 6 (descriptors t)) (rule7 (lastSession t) (descriptors t)) (fault t)
+unfolding fault rowRules lateRules
+fault-first t = firstBroken-first _ _ _ _ _ _ _
 
 pub fault-fit : {t : List ℕ} → fault t ≡ 0 → Fit t
 unfolding fault rowRules lateRules

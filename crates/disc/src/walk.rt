@@ -199,10 +199,3 @@ pub(crate) fn judge(t: &[u8]) -> Verdict
     }
     unfit()
 }
-
-// The table keeps all seven rules.
-pub(crate) fn is_fit(t: &[u8]) -> bool
-    ensures { λ r. ⌜ r ≡ isFit (now (t .entry)) ⌝ }
-{
-    judge(t).fit
-}

@@ -10,54 +10,54 @@ use Rattle.sessions.specs.Session.{size, starts}
 use Rattle.sessions.specs.SessionLaws.{IsSession, size-within}
 use Rattle.disc.specs.RulesLaws.{fit-sized, fit-starts, fit-session}
 use Rattle.disc.specs.Part.{partRefusal}
-use Rattle.disc.specs.PartLaws.{Given, partRefusal-given, partStart-given, partSize-given, partStart-refused, partSize-refused, rest-rest}
+use Rattle.disc.specs.PartLaws.{Given, partRefusal-given, partRefused-number, partStart-given, partSize-given, partStart-refused, partSize-refused, rest-rest}
 use borrow.Author.Needs.{needs}
 use Rattle.disc.proofs.part.session_part.Statement.{statement}
 use Rattle.disc.proofs.part.session_part.Tie as tie
 
-given : (c : tie.Then1) → Given (c .before .before .before .args .t .now) (c .before .before .before .args .k)
-given c = partRefusal-given _ _ (sym (c .before .session-refusal .ensures) ∙ c .if1 .taken)
+given : (c : tie.Then1) → Given (c .before .before .before .before .args .t .now) (c .before .before .before .before .args .k)
+given c = partRefusal-given _ _ (sym (partRefused-number _ _ (c .before .before .session-refusal .ensures)) ∙ c .if1 .taken)
 
 -- where the session begins, and that it is one
 from :
     (c : tie.After-starts-after)
-    → c .starts-after .result ≡ starts (descriptors (c .before .before .before .before .before .args .t .now))
-    (c .before .before .before .before .before .args .k - 1)
+    → c .starts-after .result ≡ starts (descriptors (c .before .before .before .before .before .before .args .t .now))
+    (c .before .before .before .before .before .before .args .k - 1)
 from c = rw rest-all at (c .starts-after .ensures)
 
 within :
     (c : tie.After-starts-after)
     → c .starts-after .result ≤ length
-    (take (length (c .before .before .before .before .before .args .t .now) - 4)
-    (drop 4 (c .before .before .before .before .before .args .t .now)))
+    (take (length (c .before .before .before .before .before .before .args .t .now) - 4)
+    (drop 4 (c .before .before .before .before .before .before .args .t .now)))
 within c = rw (rest-all, from c) (let g = given (c .before .before) in fit-starts (g .fit) _ (omega arith))
 
 here :
     (c : tie.After-starts-after)
-    → IsSession (c .before .before .before .before .before .args .k - 1 + 1)
-    (drop (c .starts-after .result) (drop 4 (c .before .before .before .before .before .args .t .now)))
+    → IsSession (c .before .before .before .before .before .before .args .k - 1 + 1)
+    (drop (c .starts-after .result) (drop 4 (c .before .before .before .before .before .before .args .t .now)))
 here c = rw (from c) (let g = given (c .before .before) in fit-session (g .fit) (omega arith))
 
 -- how long it is
 bytes :
     (c : tie.After-session-bytes)
     → c .session-bytes .result ≡ size
-    (drop (c .before .before .starts-after .result) (drop 4 (c .before .before .before .before .before .before .before .args .t .now)))
+    (drop (c .before .before .starts-after .result) (drop 4 (c .before .before .before .before .before .before .before .before .args .t .now)))
 bytes c = rw rest-rest at (c .session-bytes .ensures)
 
 ends :
     (c : tie.After-session-bytes)
     → 4 + c .before .before .starts-after .result + c .session-bytes .result ≤ length
-    (c .before .before .before .before .before .before .before .args .t .now)
+    (c .before .before .before .before .before .before .before .before .args .t .now)
 ends c =
     let w : c .before .before .starts-after .result ≤ length
-    (drop 4 (c .before .before .before .before .before .before .before .args .t .now)) =
+    (drop 4 (c .before .before .before .before .before .before .before .before .args .t .now)) =
     rw rest-all at (within (c .before .before)) in
     let e =
     size-within (c .before .before .starts-after .result)
-    (drop 4 (c .before .before .before .before .before .before .before .args .t .now)) w (here (c .before .before)) in
+    (drop 4 (c .before .before .before .before .before .before .before .before .args .t .now)) w (here (c .before .before)) in
     let b = bytes c in
-    let l = length-drop 4 (c .before .before .before .before .before .before .before .args .t .now) in
+    let l = length-drop 4 (c .before .before .before .before .before .before .before .before .args .t .now) in
     let s = fit-sized (given (c .before .before .before .before) .fit) in omega arith
 
 sub-d : tie.Need-sub-d
@@ -86,16 +86,16 @@ part-result-end c = let e = ends c in search needs
 
 returns : tie.Need-returns
 returns c =
-    let n = sym (c .before .before .before .before .before .before .session-refusal .ensures) ∙
+    let n = sym (partRefused-number _ _ (c .before .before .before .before .before .before .before .session-refusal .ensures)) ∙
     c .before .before .before .before .before .if1 .taken in let a = ap (λ (x : ℕ). 4 + x) (from (c .before .before .before)) ∙
     partStart-given _ _ n in let b = bytes (c .before) ∙ ap (λ (x : ℕ). size (drop x (drop 4
-    (c .before .before .before .before .before .before .before .before .args .t .now)))) (from (c .before .before .before)) ∙ partSize-given
+    (c .before .before .before .before .before .before .before .before .before .args .t .now)))) (from (c .before .before .before)) ∙ partSize-given
     _ _ n in rw (sym a, sym b) (record { block = refl; offset = refl; shows = rw add-sub-cancel-left })
 
 returns-2 : tie.Need-returns-2
 returns-2 c =
-    let n : partRefusal (c .before .before .before .before .args .t .now) (c .before .before .before .before .args .k) ≡ 0 → ⊥ = λ e.
-    c .before .if1 .left (c .before .before .session-refusal .ensures ∙ e) in rw (
+    let n : partRefusal (c .before .before .before .before .before .args .t .now) (c .before .before .before .before .before .args .k) ≡ 0 → ⊥ = λ e.
+    c .before .if1 .left (partRefused-number _ _ (c .before .before .before .session-refusal .ensures) ∙ e) in rw (
       sym (partStart-refused _ _ n),
       sym (partSize-refused _ _
           n),
