@@ -1,7 +1,7 @@
 //! An independent second program for the packet target of the build
-//! definition (called "01" in the comments; K1 and K9 are the change requests
-//! built on it). It shares no code with the target: the two meet through files
-//! only.
+//! definition (called "01" in the comments; K1, K6 and K9 are the change
+//! requests built on it). It shares no code with the target: the two meet
+//! through files only.
 
 pub mod address;
 pub mod adler;
@@ -19,4 +19,5 @@ pub mod rng;
 pub mod sense;
 pub mod stored;
 pub mod table;
+pub mod tally;
 pub mod toc;

@@ -23,7 +23,8 @@ pub fn print(table_file: &[u8], packet_file: &[u8]) -> String {
         let reply = packet::perform(state, table, packet, &mut memory);
         state = reply.next;
         match reply.refusal {
-            Some(refusal) => writeln!(out, "{n} refused {}", refusal.number()),
+            // K6: "the listing program prints it after the 4"
+            Some(refusal) => writeln!(out, "{n} refused {}", refusal.text(' ')),
             None => writeln!(
                 out,
                 "{n} {:02X} {} {} {} {} {}",

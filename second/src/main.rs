@@ -7,9 +7,10 @@ use std::path::Path;
 use std::process::ExitCode;
 
 use second::cases::{bad, made, pairs};
-use second::{examples, files, listing, replay, stored};
+use second::{examples, files, listing, replay, stored, tally};
 
 const USAGE: &str = "usage: second replay
+       second tally
        second listing TABLE PACKETS
        second make-replay SEED CALLS
        second make-listing SEED COUNT DIR
@@ -33,11 +34,8 @@ fn main() -> ExitCode {
 
 fn run(words: &[&str]) -> io::Result<ExitCode> {
     match *words {
-        ["replay"] => {
-            let mut input = Vec::new();
-            io::stdin().lock().read_to_end(&mut input)?;
-            print(replay::run(&input).as_bytes())?;
-        }
+        ["replay"] => print(replay::run(&input()?).as_bytes())?,
+        ["tally"] => print(tally::print(&input()?).as_bytes())?,
         ["listing", table, packets] => {
             let (table, packets) = (fs::read(table)?, fs::read(packets)?);
             print(listing::print(&table, &packets).as_bytes())?;
@@ -84,6 +82,12 @@ fn run(words: &[&str]) -> io::Result<ExitCode> {
     Ok(ExitCode::SUCCESS)
 }
 
+fn input() -> io::Result<Vec<u8>> {
+    let mut bytes = Vec::new();
+    io::stdin().lock().read_to_end(&mut bytes)?;
+    Ok(bytes)
+}
+
 fn print(bytes: &[u8]) -> io::Result<()> {
     let mut out = io::stdout().lock();
     out.write_all(bytes)?;
@@ -101,14 +105,7 @@ fn number(word: &str) -> io::Result<u64> {
 /// Writes DIR/NNNN.table, DIR/NNNN.packets and DIR/NNNN.expected.
 fn make_listing(seed: u64, count: u64, dir: &Path) -> io::Result<()> {
     for i in 0..count {
-        let pair = pairs::pair(seed, i);
-        let expected = listing::print(&pair.table, &pair.packets);
-        let files = [
-            (format!("{i:04}.table"), pair.table),
-            (format!("{i:04}.packets"), pair.packets),
-            (format!("{i:04}.expected"), expected.into_bytes()),
-        ];
-        files::write(dir, &files)?;
+        files::write(dir, &pairs::pair(seed, i).listed(&format!("{i:04}")))?;
     }
     Ok(())
 }

@@ -77,7 +77,8 @@ pub fn perform(state: State, table: &[u8], packet: &[u8], memory: &mut [u8]) -> 
     }
 }
 
-/// Refusals 1 to 4. "When not loaded, the table isn't looked at."
+/// Refusals 1 to 4, the last with its rule (K6). "When not loaded, the table
+/// isn't looked at."
 fn tests(
     state: State,
     table: &[u8],
@@ -92,7 +93,7 @@ fn tests(
         return Err(Refusal::SmallMemory);
     }
     let disc = if state.loaded() {
-        Some(table::read(table).map_err(|_| Refusal::UnfitTable)?)
+        Some(table::read(table).map_err(Refusal::UnfitTable)?)
     } else {
         None
     };

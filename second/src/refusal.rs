@@ -8,8 +8,9 @@ pub enum Refusal {
     UnknownSense,
     /// "response memory is under 6,538 bytes" (K1's bound)
     SmallMemory,
-    /// "loaded, or asked for a session's part, and the table is not fit"
-    UnfitTable,
+    /// "loaded, or asked for a session's part, and the table is not fit"; K6:
+    /// it "carries that number", the first broken rule of 1 to 7
+    UnfitTable(u8),
     /// "a closed one opens, unless locked (5)"
     Locked,
     /// "Laying a disc needs an open tray without one (6)"
@@ -29,7 +30,7 @@ impl Refusal {
             Refusal::PacketLength => 1,
             Refusal::UnknownSense => 2,
             Refusal::SmallMemory => 3,
-            Refusal::UnfitTable => 4,
+            Refusal::UnfitTable(_) => 4,
             Refusal::Locked => 5,
             Refusal::CannotLay => 6,
             Refusal::CannotLift => 7,
@@ -37,12 +38,20 @@ impl Refusal {
             Refusal::NoSession => 10,
         }
     }
-}
 
-/// The number printed for a result: the refusal's, or 0.
-pub fn number_of<T>(result: &Result<T, Refusal>) -> u8 {
-    match result {
-        Ok(_) => 0,
-        Err(refusal) => refusal.number(),
+    /// The broken rule that 4 carries (K6), 0 with every other number.
+    pub fn rule(self) -> u8 {
+        match self {
+            Refusal::UnfitTable(rule) => rule,
+            _ => 0,
+        }
+    }
+
+    /// The number as it is printed, "after the 4" the rule (K6).
+    pub fn text(self, between: char) -> String {
+        match self {
+            Refusal::UnfitTable(rule) => format!("{}{between}{rule}", self.number()),
+            _ => self.number().to_string(),
+        }
     }
 }

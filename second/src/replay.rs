@@ -8,7 +8,7 @@ use crate::adler::adler32;
 use crate::drive::State;
 use crate::limits::REPLAY_BODY;
 use crate::packet;
-use crate::refusal::{number_of, Refusal};
+use crate::refusal::Refusal;
 use crate::sense::Sense;
 use crate::table;
 
@@ -25,7 +25,7 @@ pub const TO_ADDRESS: u8 = 9;
 pub const PART: u8 = 10;
 
 /// Anything that ends the run with the line `bad record`.
-struct BadRecord;
+pub struct BadRecord;
 
 /// "At the start: state all zero, no table, no memory."
 struct Bench {
@@ -59,8 +59,9 @@ pub fn run(input: &[u8]) -> String {
     bench.lines
 }
 
-/// "A longer or cut record" is bad.
-fn take_record(bytes: &[u8]) -> Result<(u8, &[u8], &[u8]), BadRecord> {
+/// Kind and body of the first record, and what stands behind it. "A longer or
+/// cut record" is bad.
+pub fn take_record(bytes: &[u8]) -> Result<(u8, &[u8], &[u8]), BadRecord> {
     let [kind, high, low, rest @ ..] = bytes else {
         return Err(BadRecord);
     };
@@ -78,6 +79,12 @@ fn flag(byte: u8) -> Result<bool, BadRecord> {
         1 => Ok(true),
         _ => Err(BadRecord),
     }
+}
+
+/// N of a line: the refusal's number, K6: "where N is 4 .. it is written `4.R`",
+/// or 0.
+fn number(refusal: Option<Refusal>) -> String {
+    refusal.map_or("0".to_string(), |refusal| refusal.text('.'))
 }
 
 /// Five digits and three hex bytes: `01010 06 29 00`.
@@ -138,17 +145,17 @@ impl Bench {
                 let result = address::to_msf(u32::from_be_bytes([a, b, c, d]));
                 // "zeros" where refused
                 let Msf { m, s, f } = result.unwrap_or(Msf::new(0, 0, 0));
-                let number = number_of(&result);
+                let number = number(result.err());
                 self.line(format!("a {number} {m} {s} {f}"));
             }
             (TO_ADDRESS, &[m, s, f]) => {
                 let result = Msf::new(m, s, f).address();
-                let number = number_of(&result);
+                let number = number(result.err());
                 self.line(format!("c {number} {}", result.unwrap_or(0)));
             }
             (PART, &[session]) => {
                 let result = table::session_part(&self.table, session);
-                let number = number_of(&result);
+                let number = number(result.err());
                 let part = result.unwrap_or(&[]);
                 let line = format!("s {number} {} {:08X}", part.len(), adler32(part));
                 self.line(line);
@@ -165,7 +172,7 @@ impl Bench {
 
     /// A tray call or power-on: "state as handed in" where refused.
     fn moved(&mut self, letter: char, result: Result<State, Refusal>) {
-        let number = number_of(&result);
+        let number = number(result.err());
         self.state = result.unwrap_or(self.state);
         self.line(format!("{letter} {number} {}", state_text(self.state)));
     }
@@ -175,7 +182,7 @@ impl Bench {
         self.state = reply.next;
         self.line(format!(
             "p {} {:02X} {} {} {} {} {} {:08X}",
-            reply.refusal.map_or(0, Refusal::number),
+            number(reply.refusal),
             reply.status,
             reply.length,
             reply.start,

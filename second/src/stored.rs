@@ -4,7 +4,7 @@ use std::fs;
 use std::path::Path;
 
 use crate::cases::bad;
-use crate::cases::pairs::stored_pair;
+use crate::cases::pairs::{each_rule, stored_pair};
 use crate::cases::picked;
 use crate::cases::random;
 use crate::cases::stream::Stream;
@@ -29,20 +29,25 @@ pub fn stored_stream() -> Stream {
     stream
 }
 
-/// Every stored file, made again.
+/// Every stored file, made again. The crates keep one run each; a listing for
+/// each broken rule stands beside this program.
 pub fn files() -> Vec<File> {
     let stream = stored_stream().bytes;
     let pair = stored_pair(SEED);
     let printed = listing::print(&pair.table, &pair.packets);
     let expected = replay::run(&stream);
-    vec![
+    let mut files = vec![
         ("crates/replay/stdin".into(), stream),
         ("crates/replay/stdout".into(), expected.into()),
         ("crates/listing/args".into(), "table\npackets\n".into()),
         ("crates/listing/data/table".into(), pair.table),
         ("crates/listing/data/packets".into(), pair.packets),
         ("crates/listing/stdout".into(), printed.into()),
-    ]
+    ];
+    for (pair, rule) in each_rule().into_iter().zip(1..) {
+        files.extend(pair.listed(&format!("second/listings/rule-{rule}")));
+    }
+    files
 }
 
 /// One line for each file that is missing or differs; the number looked at.

@@ -75,7 +75,16 @@ pub struct Disc {
     pub sessions: Vec<Session>,
 }
 
-/// Reads a table: the disc, or the first of the rules 1 to 7 it breaks.
+/// K6: "The fitness test should report the first broken rule of 1 to 7, tested
+/// in that order, or 0 for fit."
+pub fn broken_rule(bytes: &[u8]) -> u8 {
+    read(bytes).err().unwrap_or(0)
+}
+
+/// Reads a table: the disc, or the first of the rules 1 to 7 it breaks. Each
+/// rule is tested over the whole table before the next, so a rule is asked only
+/// of what keeps those before it: 3 of whole rows, 5 and 6 of sessions in order,
+/// 7 of addresses.
 pub fn read(bytes: &[u8]) -> Result<Disc, u8> {
     if !rule_1(bytes) {
         return Err(1);
@@ -285,9 +294,10 @@ impl Disc {
 }
 
 /// "A caller may ask for a session": exactly its descriptors, from its A0 to
-/// its last track and K1's B0h and C0h. "The session part tests fitness (4, empty part) before 10".
+/// its last track and K1's B0h and C0h. "The session part tests fitness (4,
+/// empty part) before 10"; the 4 has its rule (K6).
 pub fn session_part(table: &[u8], number: u8) -> Result<&[u8], Refusal> {
-    let disc = read(table).map_err(|_| Refusal::UnfitTable)?;
+    let disc = read(table).map_err(Refusal::UnfitTable)?;
     let session = disc
         .sessions
         .iter()

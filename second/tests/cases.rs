@@ -7,9 +7,12 @@ use second::cases::made;
 use second::cases::packets::{
     capacity, prevent, request_sense, start_stop, test_ready, Packet, EJECT, LOAD,
 };
-use second::cases::pairs::pair;
+use second::cases::pairs::{each_rule, pair};
+use second::cases::several::alone;
 use second::cases::sheet::{disc_e, fullest};
+use second::cases::stream::Stream;
 use second::table::{self, Row};
+use second::tally::{self, Met};
 use second::{examples, listing, replay, sense, stored};
 
 /// The kinds of line: letter and number, and the triples told.
@@ -29,9 +32,14 @@ fn covers_all(lines: &str) {
     let (kinds, told) = seen(lines);
     for kind in [
         "o 0", "b 0", "b 2", "b 5", "d 0", "d 2", "d 6", "u 0", "u 2", "u 7", "p 0", "p 1", "p 2",
-        "p 3", "p 4", "a 0", "a 8", "c 0", "c 8", "s 0", "s 4", "s 10",
+        "p 3", "a 0", "a 8", "c 0", "c 8", "s 0", "s 10",
     ] {
         assert!(kinds.contains(kind), "{kind}");
+    }
+    for rule in 1..=7 {
+        for kind in [format!("p 4.{rule}"), format!("s 4.{rule}")] {
+            assert!(kinds.contains(&kind), "{kind}");
+        }
     }
     for triple in &sense::TEN[1..] {
         assert!(told.contains(&triple.text()), "{}", triple.text());
@@ -150,7 +158,7 @@ fn listing_edges() {
     let mut over = fullest().bytes();
     assert!(!listing::print(&over, &[0; 12]).contains("refused"));
     over.push(0);
-    let unfit = format!("{header}1 refused 4\n2 refused 1\n");
+    let unfit = format!("{header}1 refused 4 1\n2 refused 1\n");
     assert_eq!(listing::print(&over, &[0; 13]), unfit);
     assert_eq!(listing::print(&[], &[0; 13]), unfit);
     // "a GOOD INQUIRY shows the sense held before"
@@ -169,9 +177,83 @@ fn listing_pairs_take_their_turns() {
         assert!(outs[1].ends_with("refused 1\n"));
         assert_eq!(outs[2].lines().count(), 4_097);
         assert_eq!(outs[3], "too long\n");
-        assert!(outs[4].contains("1 refused 4\n"));
-        assert!(outs[5].contains("1 refused 4\n"));
+        assert!(outs[4].contains("\n1 refused 4 "));
+        assert!(outs[5].contains("\n1 refused 4 1\n"));
     }
+}
+
+/// The drawn pairs have tables that break each rule, and some that none.
+#[test]
+fn listing_pairs_break_each_rule() {
+    let spoilt = (0..800).filter(|number| [6, 7].contains(&(number % 10)));
+    let rules = spoilt.map(|number| table::broken_rule(&pair(1, number).table));
+    assert_eq!(rules.collect::<BTreeSet<u8>>(), (0..=7).collect());
+}
+
+/// K6: "the listing program prints it after the 4", and nothing after a 1.
+#[test]
+fn listing_prints_the_rule() {
+    for (pair, rule) in each_rule().iter().zip(1..) {
+        let lines = listing::print(&pair.table, &pair.packets);
+        let [one, two, three] = [1, 2, 3].map(|n| format!("{n} refused 4 {rule}\n"));
+        let header = "n st key asc ascq len data start count\n";
+        assert_eq!(lines, format!("{header}{one}{two}{three}4 refused 1\n"));
+    }
+}
+
+/// A table, packets and listing for each rule are kept.
+#[test]
+fn stored_listings_show_each_rule() {
+    let files = stored::files();
+    for rule in 1..=7 {
+        let name = format!("second/listings/rule-{rule}");
+        let kept = |end: &str| files.iter().find(|(one, _)| *one == name.clone() + end);
+        let [table, packets, expected] =
+            [".table", ".packets", ".expected"].map(|end| &kept(end).expect("it is kept").1);
+        assert_eq!(table::broken_rule(table), rule);
+        assert_eq!(listing::print(table, packets).as_bytes(), expected);
+        let line = format!("\n1 refused 4 {rule}\n");
+        assert!(String::from_utf8_lossy(expected).contains(&line));
+    }
+}
+
+/// Broken tables are many, of every rule, and met by packets and by parts.
+#[test]
+fn streams_meet_each_rule_often() {
+    for stream in [stored::stored_stream(), random_stream(32, 16_000)] {
+        for (met, rule) in tally::of(&stream.bytes).iter().zip(1..) {
+            let Met {
+                tables,
+                packets,
+                parts,
+            } = *met;
+            assert!(tables.min(packets).min(parts) > 100, "{rule} {met:?}");
+        }
+    }
+}
+
+/// A table counts once, each call that it refuses for itself.
+#[test]
+fn tally_counts() {
+    let mut stream = Stream::new();
+    let [one, three] = [1, 3].map(alone);
+    for table in [&one, &three, &disc_e().bytes(), &three] {
+        stream.table(table);
+        stream.part(1);
+        stream.part(2);
+    }
+    let tally = tally::of(&stream.bytes);
+    let met = |tables, parts| Met {
+        tables,
+        packets: 0,
+        parts,
+    };
+    assert_eq!(
+        [tally[0], tally[1], tally[2]],
+        [met(1, 2), met(0, 0), met(2, 4)]
+    );
+    let head = "rule tables packets parts\n1 1 0 2\n2 0 0 0\n3 2 0 4\n";
+    assert!(tally::print(&stream.bytes).starts_with(head));
 }
 
 #[test]

@@ -3,6 +3,7 @@
 use second::adler::adler32;
 use second::cases::bad::{bad_records, random_stream};
 use second::cases::packets::{capacity, test_ready};
+use second::cases::several::alone;
 use second::cases::sheet::disc_e;
 use second::cases::stream::Stream;
 use second::drive::State;
@@ -53,7 +54,7 @@ fn line_forms() {
     memory[..8].copy_from_slice(&[0, 0, 1, 0x2B, 0, 0, 8, 0]);
     let expected = [
         "p 3 00 0 0 0 00000 00 00 00 - 00000001".to_string(),
-        "s 4 0 00000001".to_string(),
+        "s 4.1 0 00000001".to_string(),
         "o 0 01010 00 00 00".to_string(),
         format!("p 0 02 0 0 0 01000 06 29 00 - {blank:08X}"),
         format!(
@@ -72,6 +73,27 @@ fn line_forms() {
         "s 10 0 00000001".to_string(),
     ];
     assert_eq!(lines, expected.join("\n") + "\n");
+}
+
+/// K6: "where N is 4, in `p` and `s` lines, it is written `4.R`".
+#[test]
+fn lines_with_a_rule() {
+    let mut stream = Stream::new();
+    stream.memory(6_538, 0);
+    let mut expected = String::new();
+    for rule in (1..=7).rev() {
+        stream.table(&alone(rule));
+        stream.part(0);
+        stream.packet_from(State::READY, &test_ready());
+        stream.packet(&[]);
+        stream.table(&disc_e().bytes());
+        stream.part(0);
+        let rest = "00 0 0 0 01000 00 00 00 - 198A0001";
+        expected += &format!("s 4.{rule} 0 00000001\np 4.{rule} {rest}\np 1 {rest}\n");
+        expected += "s 10 0 00000001\n";
+    }
+    assert_eq!(adler32(&[0; 6_538]), 0x198A_0001);
+    assert_eq!(run(&stream.bytes), expected);
 }
 
 #[test]

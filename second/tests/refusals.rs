@@ -1,10 +1,11 @@
-//! Every refusal number, the order of the tests, and what K9 says of the bound.
+//! Every refusal number and the rule that 4 carries (K6), the order of the
+//! tests, and what K9 says of the bound.
 
 mod common;
 
 use std::collections::BTreeSet;
 
-use common::{good_on, number};
+use common::{both, good_on, number, number_of, told};
 use second::cases::bad::random_stream;
 use second::cases::breaks::breaks;
 use second::cases::fits::fits;
@@ -12,13 +13,14 @@ use second::cases::packets::{
     inquiry, one_of_each, request_sense, start_stop, test_ready, toc, Packet,
 };
 use second::cases::picked_state::strangers;
+use second::cases::several::alone;
 use second::cases::sheet::{any_fit, disc_e, fullest, longest, most_tracks, Sheet};
 use second::drive::State;
 use second::packet::perform;
-use second::refusal::{number_of, Refusal};
+use second::refusal::Refusal;
 use second::rng::Rng;
 use second::sense::{self, Sense, TEN};
-use second::table::read;
+use second::table::{broken_rule, read, session_part};
 use second::toc::{full_answer, TocRequest};
 use second::{replay, stored};
 
@@ -95,6 +97,64 @@ fn four_unfit_table_only_while_loaded() {
     }
 }
 
+/// K6: "Refusal 4 carries that number to every caller": to each packet and to
+/// the session part, whatever the number asked for.
+#[test]
+fn four_carries_the_rule() {
+    for broken in breaks() {
+        let due = (4, broken.rule);
+        for packet in one_of_each() {
+            assert_eq!(told(READY, &broken.table, &packet), due, "{}", broken.name);
+        }
+        for session in [0, 1, 2, 99, 255] {
+            let refused = session_part(&broken.table, session).err();
+            assert_eq!(both(refused), due, "{}", broken.name);
+        }
+        assert_eq!(broken_rule(&broken.table), broken.rule);
+    }
+}
+
+/// K6: "or 0 for fit", and no rule with 1, 2, 3, 10 or where nothing is refused,
+/// though the table breaks one.
+#[test]
+fn only_four_carries_a_rule() {
+    let stranger = State {
+        sense: Sense::new(0, 0, 1),
+        ..READY
+    };
+    let packet = test_ready();
+    for rule in 1..=7 {
+        let table = alone(rule);
+        assert_eq!(told(READY, &table, &packet), (4, rule));
+        assert_eq!(told(READY, &table, &packet[..11]), (1, 0));
+        assert_eq!(told(stranger, &table, &packet), (2, 0));
+        let short = perform(READY, &table, &packet, &mut [0; 6_537]);
+        assert_eq!(both(short.refusal), (3, 0));
+        assert_eq!(told(State::ZERO, &table, &packet), (0, 0));
+    }
+    let fit = disc_e().bytes();
+    assert_eq!(broken_rule(&fit), 0);
+    assert_eq!(told(READY, &fit, &packet), (0, 0));
+    assert_eq!(both(session_part(&fit, 1).err()), (0, 0));
+    assert_eq!(both(session_part(&fit, 0).err()), (10, 0));
+}
+
+/// K6: the rule is that of the table of this call, not of an earlier one.
+#[test]
+fn each_call_tells_its_own_rule() {
+    let fit = disc_e().bytes();
+    let tables: Vec<Vec<u8>> = [fit].into_iter().chain((1..=7).map(alone)).collect();
+    for before in &tables {
+        for (after, rule) in tables.iter().zip(0..) {
+            let due = if rule == 0 { (0, 0) } else { (4, rule) };
+            told(READY, before, &test_ready());
+            assert_eq!(told(READY, after, &test_ready()), due);
+            let _ = session_part(before, 1);
+            assert_eq!(both(session_part(after, 1).err()), due);
+        }
+    }
+}
+
 #[test]
 fn one_to_four_in_order() {
     let (fit, unfit) = (disc_e().bytes(), vec![0; 4]);
@@ -148,7 +208,7 @@ fn numbers_in_use() {
         Refusal::PacketLength,
         Refusal::UnknownSense,
         Refusal::SmallMemory,
-        Refusal::UnfitTable,
+        Refusal::UnfitTable(1),
         Refusal::Locked,
         Refusal::CannotLay,
         Refusal::CannotLift,
@@ -169,7 +229,7 @@ fn packets_give_0_to_4() {
 }
 
 /// The numbers given in the stored stream and a drawn one, each with the letter
-/// of its line.
+/// of its line; K6: behind a 4, and only there, stands a rule of 1 to 7.
 fn given() -> BTreeSet<(String, u8)> {
     let streams = [stored::stored_stream(), random_stream(9, 20_000)];
     let mut given = BTreeSet::new();
@@ -177,8 +237,12 @@ fn given() -> BTreeSet<(String, u8)> {
         for line in lines.lines().filter(|&line| line != "bad record") {
             let mut words = line.split(' ');
             let letter = words.next().expect("a letter").to_string();
-            let number = words.next().and_then(|word| word.parse().ok());
-            given.insert((letter, number.expect("a number")));
+            let word = words.next().expect("a number");
+            let (number, rule) = word.split_once('.').unwrap_or((word, "0"));
+            let number: u8 = number.parse().expect("digits");
+            let rules = if number == 4 { 1..=7 } else { 0..=0 };
+            assert!(rules.contains(&rule.parse().expect("digits")), "{line}");
+            given.insert((letter, number));
         }
     }
     given

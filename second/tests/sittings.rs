@@ -8,7 +8,7 @@ use second::cases::mode_five::TAILS;
 use second::cases::packets::{capacity, test_ready, toc};
 use second::cases::sheet::{fullest, most_sessions, three_sessions, two_sessions, Sheet};
 use second::drive::State;
-use second::table::{read, session_part};
+use second::table::{broken_rule as rule, read, session_part};
 use second::{examples, listing, sense};
 
 const READY: State = State::READY;
@@ -40,10 +40,6 @@ fn with_byte(at: usize, value: u8) -> Vec<Vec<u8>> {
         }
     }
     tables
-}
-
-fn rule(table: &[u8]) -> u8 {
-    read(table).err().unwrap_or(0)
 }
 
 /// "ADR 5".
@@ -339,7 +335,7 @@ fn the_longest_table() {
     let mut file = full.bytes();
     assert!(!listing::print(&file, &test_ready()).contains("refused"));
     file.push(0);
-    assert!(listing::print(&file, &test_ready()).ends_with("\n1 refused 4\n"));
+    assert!(listing::print(&file, &test_ready()).ends_with("\n1 refused 4 1\n"));
 }
 
 /// 004's Tables 134 and 135: LBA 63,725 is 14:11:50, and L is 82,901.

@@ -1,6 +1,7 @@
-//! Tables picked by hand that break one rule, each with the first rule broken.
+//! Tables picked by hand that break a rule, each with the first rule broken.
 
 use crate::cases::mode_five;
+use crate::cases::several;
 use crate::cases::sheet::{disc_e, fullest, most_sessions, two_sessions, Sheet};
 use crate::limits::BOUND;
 
@@ -35,6 +36,8 @@ pub fn breaks() -> Vec<Break> {
     mode_five::rule_3(&mut list);
     mode_five::rule_4(&mut list);
     mode_five::rules_5_to_7(&mut list);
+    several::two_rules(&mut list);
+    several::three_rules(&mut list);
     list
 }
 

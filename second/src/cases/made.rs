@@ -7,15 +7,17 @@ use crate::cases::packets::Packet;
 use crate::cases::pairs::{self, Pair};
 use crate::cases::sheet::{disc_e, two_sessions, Sheet};
 use crate::cases::stream::Stream;
-use crate::cases::{mode_five, picked, picked_fields, picked_state, picked_tables, random};
+use crate::cases::{
+    mode_five, picked, picked_fields, picked_state, picked_tables, random, several,
+};
 use crate::examples;
 use crate::files::File;
 use crate::rng::Rng;
 use crate::stored::SEED;
 
-/// Calls drawn by `random::fill`, and scenes by `random::trace_scene`.
+/// Calls drawn by `random::fill`, and scenes of one kind.
 const DRAWN_CALLS: usize = 6_000;
-const DRAWN_TRACES: usize = 60;
+const DRAWN_SCENES: usize = 60;
 
 /// Pairs of files: two turns of the ten shapes.
 const PAIRS: u64 = 20;
@@ -47,7 +49,7 @@ macro_rules! named {
     };
 }
 
-const MAKERS: [(&str, Maker); 38] = [
+const MAKERS: [(&str, Maker); 44] = [
     named!(Start, picked_state::from_nothing),
     named!(Calls, picked_state::attentions),
     named!(Calls, picked_state::senses),
@@ -65,11 +67,20 @@ const MAKERS: [(&str, Maker); 38] = [
     named!(Calls, picked_fields::reads),
     named!(Calls, picked_fields::long_reads),
     named!(Calls, picked_tables::broken),
+    named!(Calls, picked_tables::rules_in_turn),
+    named!(Calls, picked_tables::other_numbers),
     named!(Calls, picked_tables::fit),
     named!(Calls, picked_tables::parts),
     named!(Calls, picked_tables::t134),
     named!(random::fill, Calls(drawn)),
-    named!(random::trace_scene, Calls(traces)),
+    named!(
+        random::trace_scene,
+        Calls(|stream| scenes(stream, random::trace_scene))
+    ),
+    named!(
+        random::broken_scene,
+        Calls(|stream| scenes(stream, random::broken_scene))
+    ),
     named!(Tables, breaks::rule_1),
     named!(Tables, breaks::rule_2),
     named!(Tables, breaks::rule_3),
@@ -80,8 +91,11 @@ const MAKERS: [(&str, Maker); 38] = [
     named!(Tables, mode_five::rule_3),
     named!(Tables, mode_five::rule_4),
     named!(Tables, mode_five::rules_5_to_7),
+    named!(Tables, several::two_rules),
+    named!(Tables, several::three_rules),
     named!(pairs::pair, Pairs(twenty)),
     named!(pairs::stored_pair, Pairs(|| vec![pairs::stored_pair(SEED)])),
+    named!(Pairs, pairs::each_rule),
     named!(examples::four, Packets(disc_e, examples::four)),
     named!(examples::marked, Packets(disc_e, examples::marked)),
     named!(
@@ -95,10 +109,10 @@ fn drawn(stream: &mut Stream) {
     random::fill(stream, &mut Rng::new(SEED), DRAWN_CALLS);
 }
 
-fn traces(stream: &mut Stream) {
+fn scenes(stream: &mut Stream, scene: fn(&mut Stream, &mut Rng)) {
     let mut rng = Rng::new(SEED);
-    for _ in 0..DRAWN_TRACES {
-        random::trace_scene(stream, &mut rng);
+    for _ in 0..DRAWN_SCENES {
+        scene(stream, &mut rng);
     }
 }
 

@@ -13,6 +13,7 @@ pub mod picked_fields;
 pub mod picked_state;
 pub mod picked_tables;
 pub mod random;
+pub mod several;
 pub mod sheet;
 pub mod spoil;
 pub mod stream;

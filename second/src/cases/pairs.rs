@@ -1,18 +1,33 @@
 //! Pairs of a table file and a packet file for the listing program.
 
 use crate::cases::packets::{
-    any_packet, one_of_each, prevent, request_sense, start_stop, test_ready, toc, with_junk, Marks,
-    EJECT, LOAD,
+    any_packet, inquiry, one_of_each, prevent, request_sense, start_stop, test_ready, toc,
+    with_junk, Marks, EJECT, LOAD,
 };
+use crate::cases::several;
 use crate::cases::sheet::{any_fit, fullest, most_sessions, three_sittings};
-use crate::cases::spoil::spoil;
+use crate::cases::spoil::{any_broken, spoil};
+use crate::files::File;
 use crate::limits::LISTING_PACKETS;
+use crate::listing;
 use crate::rng::Rng;
 use crate::table;
 
 pub struct Pair {
     pub table: Vec<u8>,
     pub packets: Vec<u8>,
+}
+
+impl Pair {
+    /// Both under this name, and what the listing program must print.
+    pub fn listed(self, name: &str) -> [File; 3] {
+        let expected = listing::print(&self.table, &self.packets);
+        [
+            (format!("{name}.table"), self.table),
+            (format!("{name}.packets"), self.packets),
+            (format!("{name}.expected"), expected.into()),
+        ]
+    }
 }
 
 /// The pair with this number; each tenth takes its turn at a special shape.
@@ -23,11 +38,12 @@ pub fn pair(seed: u64, number: u64) -> Pair {
     let table = match number % 10 {
         4 => empty_or_short(rng),
         5 => over_the_bound(rng),
-        6 | 7 => {
+        6 => {
             let sheet = any_fit(rng);
             let rule = rng.range(1, 9);
-            spoil(rng, &sheet, rule)
+            spoil(rng, &sheet, &[rule])
         }
+        7 => any_broken(rng),
         8 => at_the_bound(rng, fit),
         _ => fit,
     };
@@ -145,4 +161,16 @@ pub fn stored_pair(seed: u64) -> Pair {
     packets.extend(run_of_packets(&mut rng, &marks, 700));
     packets.extend([0x12, 0, 0, 0, 36]);
     Pair { table, packets }
+}
+
+/// K6: for each rule from 1 on a table that breaks it alone, three packets that
+/// 4 refuses, and a short one that 1 does.
+pub fn each_rule() -> Vec<Pair> {
+    let mut packets = [test_ready(), request_sense(18), inquiry(36)].concat();
+    packets.extend([0; 11]);
+    let pair = |rule| Pair {
+        table: several::alone(rule),
+        packets: packets.clone(),
+    };
+    (1..=7).map(pair).collect()
 }

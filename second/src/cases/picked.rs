@@ -22,6 +22,8 @@ pub fn all(stream: &mut Stream) {
     picked_fields::reads(stream);
     picked_fields::long_reads(stream);
     picked_tables::broken(stream);
+    picked_tables::rules_in_turn(stream);
+    picked_tables::other_numbers(stream);
     picked_tables::fit(stream);
     picked_tables::parts(stream);
     picked_tables::t134(stream);

@@ -7,10 +7,12 @@ use crate::cases::packets::{
     capacity, read10, read12, request_sense, seek, start_stop, test_ready, toc,
 };
 use crate::cases::picked_state::MEMORY;
-use crate::cases::sheet::{fullest, three_sessions, three_sittings};
+use crate::cases::several;
+use crate::cases::sheet::{disc_e, fullest, three_sessions, three_sittings};
 use crate::cases::stream::Stream;
 use crate::drive::State;
 use crate::examples;
+use crate::sense::Sense;
 
 /// Every break picked by hand.
 pub fn broken(stream: &mut Stream) {
@@ -32,6 +34,54 @@ pub fn meet(stream: &mut Stream, list: &[Break]) {
             _ => stream.packet_from(State::READY.opened(), &test_ready()),
         }
     }
+}
+
+/// A table for each rule from 1 on, that rule alone broken, then a fit one.
+fn one_for_each_rule() -> Vec<Vec<u8>> {
+    let mut tables: Vec<Vec<u8>> = (1..=7).map(several::alone).collect();
+    tables.push(disc_e().bytes());
+    tables
+}
+
+/// K6: each rule, and a fit table, behind each other: a call tells the rule of
+/// the table lent to it, whatever an earlier call met.
+pub fn rules_in_turn(stream: &mut Stream) {
+    let tables = one_for_each_rule();
+    stream.memory(MEMORY, 0x46);
+    for before in &tables {
+        for after in &tables {
+            stream.table(before);
+            stream.packet_from(State::READY, &test_ready());
+            stream.part(1);
+            stream.table(after);
+            stream.part(1);
+            stream.packet_from(State::READY, &test_ready());
+        }
+    }
+}
+
+/// K6: 1, 2, 3 and 10, and a call that is not refused, carry no rule, though a
+/// broken table is lent and the call before told its rule.
+pub fn other_numbers(stream: &mut Stream) {
+    let stranger = State {
+        sense: Sense::new(5, 0x24, 1),
+        ..State::READY
+    };
+    for table in one_for_each_rule() {
+        stream.table(&table);
+        stream.memory(MEMORY, 0x46);
+        for (state, length) in [(State::READY, 11), (stranger, 12), (State::ZERO, 12)] {
+            stream.packet_from(State::READY, &test_ready());
+            stream.packet_from(state, &test_ready()[..length]);
+        }
+        stream.part(1);
+        stream.memory(MEMORY - 1, 0x46);
+        stream.packet_from(State::READY, &test_ready());
+        stream.part(1);
+        stream.table(&disc_e().bytes());
+        stream.part(0);
+    }
+    stream.memory(MEMORY, 0x46);
 }
 
 /// Each fit table: parts, capacity, its ends, and the three formats.

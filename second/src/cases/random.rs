@@ -5,8 +5,8 @@ use crate::cases::packets::{
     any_packet, capacity, one_of_each, start_stop, test_ready, toc, with_junk, Marks, EJECT, LOAD,
 };
 use crate::cases::picked_state::{strangers, MEMORY};
-use crate::cases::sheet::{any_fit, fit, longest, Sheet};
-use crate::cases::spoil::spoil;
+use crate::cases::sheet::{any_fit, fit, longest, small_fit, Sheet};
+use crate::cases::spoil::{any_broken, spoil};
 use crate::cases::stream::Stream;
 use crate::drive::State;
 use crate::rng::Rng;
@@ -21,7 +21,7 @@ pub fn fill(stream: &mut Stream, rng: &mut Rng, calls: usize) {
 }
 
 fn scene(stream: &mut Stream, rng: &mut Rng) {
-    match rng.below(40) {
+    match rng.below(50) {
         0..=11 => disc_scene(stream, rng),
         12..=18 => trace_scene(stream, rng),
         19..=27 => spoilt_scene(stream, rng),
@@ -31,7 +31,8 @@ fn scene(stream: &mut Stream, rng: &mut Rng) {
         35 => length_scene(stream, rng),
         36 | 37 => part_scene(stream, rng),
         38 if rng.one_in(3) => full_scene(stream, rng),
-        _ => chaos_scene(stream, rng),
+        38 | 39 => chaos_scene(stream, rng),
+        _ => broken_scene(stream, rng),
     }
 }
 
@@ -138,7 +139,7 @@ fn spoilt_scene(stream: &mut Stream, rng: &mut Rng) {
     for _ in 0..rng.range(1, 6) {
         let sheet = any_fit(rng);
         let rule = rng.range(1, 9);
-        let table = spoil(rng, &sheet, rule);
+        let table = spoil(rng, &sheet, &[rule]);
         stream.table(&table);
         let last = sheet.last;
         for _ in 0..rng.range(1, 3) {
@@ -154,6 +155,33 @@ fn spoilt_scene(stream: &mut Stream, rng: &mut Rng) {
             stream.packet(&any_packet(rng, &marks));
             stream.button();
             stream.packet(&any_packet(rng, &marks));
+        }
+    }
+}
+
+/// Many tables with one rule broken or several, each met by a part and a packet
+/// in either order; a few are fit, and a few calls are refused by less than 4.
+pub fn broken_scene(stream: &mut Stream, rng: &mut Rng) {
+    let marks = Marks::of(None);
+    for _ in 0..rng.range(5, 15) {
+        let table = if rng.one_in(10) {
+            small_fit(rng).bytes()
+        } else {
+            any_broken(rng)
+        };
+        stream.table(&table);
+        stream.state(loaded_state(rng));
+        let (session, packet) = (rng.pick(&[0, 1, 2, 255]), any_packet(rng, &marks));
+        if rng.one_in(2) {
+            stream.part(session);
+            stream.packet(&packet);
+        } else {
+            stream.packet(&packet);
+            stream.part(session);
+        }
+        if rng.one_in(6) {
+            stream.state(any_state(rng));
+            stream.packet(&packet[..rng.range(11, 12)]);
         }
     }
 }
@@ -285,7 +313,7 @@ fn full_scene(stream: &mut Stream, rng: &mut Rng) {
         stream.part(session);
     }
     let rule = rng.range(1, 9);
-    stream.table(&spoil(rng, &sheet, rule));
+    stream.table(&spoil(rng, &sheet, &[rule]));
     stream.part(sheet.last);
     stream.state(State::READY);
     stream.packet(&test_ready());
@@ -300,7 +328,7 @@ fn chaos_scene(stream: &mut Stream, rng: &mut Rng) {
             1 => {
                 let sheet = any_fit(rng);
                 let rule = rng.range(1, 9);
-                stream.table(&spoil(rng, &sheet, rule));
+                stream.table(&spoil(rng, &sheet, &[rule]));
             }
             2 | 3 => stream.state(any_state(rng)),
             4 => stream.state(loaded_state(rng)),

@@ -334,11 +334,18 @@ pub fn any_fit(rng: &mut Rng) -> Sheet {
             let sessions = rng.range(1, 99);
             (sessions, rng.range(sessions, 99))
         }
-        3..=20 => (1, rng.range(1, 6)),
-        _ => {
-            let sessions = rng.range(1, 4);
-            (sessions, sessions + rng.below(4))
-        }
+        _ => return small_fit(rng),
+    };
+    fit(rng, sessions, tracks)
+}
+
+/// A fit table of one to four sessions and at most seven tracks.
+pub fn small_fit(rng: &mut Rng) -> Sheet {
+    let (sessions, tracks) = if rng.one_in(3) {
+        (1, rng.range(1, 6))
+    } else {
+        let sessions = rng.range(1, 4);
+        (sessions, sessions + rng.below(4))
     };
     fit(rng, sessions, tracks)
 }

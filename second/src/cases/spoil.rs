@@ -2,16 +2,46 @@
 
 use crate::cases::breaks::OUTSIDE;
 use crate::cases::mode_five::NEAR;
-use crate::cases::sheet::{any_mode_5, fullest, Sheet, MODE_5};
+use crate::cases::sheet::{any_mode_5, fullest, small_fit, Sheet, MODE_5};
 use crate::limits::{BOUND, ROWS_MAX};
 use crate::rng::Rng;
 
-/// Breaks the rule in one of many ways, 9 being what K1 says of B0h and C0h; a
-/// few ways leave the table fit.
-pub fn spoil(rng: &mut Rng, sheet: &Sheet, rule: usize) -> Vec<u8> {
+/// A small table with one to three rules broken, each rule as often the lowest.
+pub fn any_broken(rng: &mut Rng) -> Vec<u8> {
+    let sheet = small_fit(rng);
+    let lowest = rng.range(1, 7);
+    let mut rules = vec![lowest];
+    for _ in 0..rng.below(3) {
+        rules.push(rng.range(lowest, 7));
+    }
+    spoil(rng, &sheet, &rules)
+}
+
+/// Breaks each of these rules in one of many ways; 9, alone, is what K1 says of
+/// B0h and C0h, 8 any byte. A few ways leave the table as fit as it was.
+pub fn spoil(rng: &mut Rng, sheet: &Sheet, rules: &[usize]) -> Vec<u8> {
     let mut sheet = sheet.clone();
+    // The highest first: it looks for rows that a lower one may take away.
+    let mut rules = rules.to_vec();
+    rules.sort_unstable();
+    rules.dedup();
+    for &rule in rules.iter().rev() {
+        change(rng, &mut sheet, rule);
+    }
+    if rules[0] == 1 {
+        return rule_1(rng, &sheet);
+    }
+    // Now and then the data length is left behind too.
+    if rng.one_in(40) {
+        return sheet.bytes_with(rng.word() as u16);
+    }
+    sheet.bytes()
+}
+
+/// Breaks a rule from 2 on; 1 is of the bytes written.
+fn change(rng: &mut Rng, sheet: &mut Sheet, rule: usize) {
     match rule {
-        1 => return rule_1(rng, &sheet),
+        1 => {}
         2 => match rng.below(3) {
             0 => sheet.first = rng.pick(&[0, 2, 3, 99, 128, 255]),
             1 => sheet.last = rng.pick(&[0, 100, 127, 128, 255]),
@@ -25,11 +55,10 @@ pub fn spoil(rng: &mut Rng, sheet: &Sheet, rule: usize) -> Vec<u8> {
                 _ => sheet.rows[row][7] = rng.pick(&[1, 2, 0x80, 0xFF]),
             }
         }
-        4 => rule_4(rng, &mut sheet),
+        4 => rule_4(rng, sheet),
         5 => {
             let point = rng.pick(&[0xA0, 0xA1]);
-            let rows = sheet.points(point);
-            let row = rng.pick(&rows);
+            let row = rng.pick(&sheet.points(point));
             if rng.one_in(3) {
                 sheet.rows[row][10] = rng.pick(&[1, 75, 0x80, 0xFF]);
             } else {
@@ -40,8 +69,7 @@ pub fn spoil(rng: &mut Rng, sheet: &Sheet, rule: usize) -> Vec<u8> {
             }
         }
         6 => {
-            let rows = sheet.placed();
-            let row = rng.pick(&rows);
+            let row = rng.pick(&sheet.placed());
             let (m, s, f) = rng.pick(&OUTSIDE);
             match rng.below(5) {
                 0 => sheet.rows[row][9] = rng.pick(&[60, 61, 99, 128, 255]),
@@ -50,15 +78,10 @@ pub fn spoil(rng: &mut Rng, sheet: &Sheet, rule: usize) -> Vec<u8> {
                 _ => sheet.set_address(row, m, s, f),
             }
         }
-        7 => rule_7(rng, &mut sheet),
-        9 => mode_five(rng, &mut sheet),
-        _ => anything(rng, &mut sheet),
+        7 => rule_7(rng, sheet),
+        9 => mode_five(rng, sheet),
+        _ => anything(rng, sheet),
     }
-    // Now and then the data length is left behind too.
-    if rng.one_in(40) {
-        return sheet.bytes_with(rng.word() as u16);
-    }
-    sheet.bytes()
 }
 
 fn rule_1(rng: &mut Rng, sheet: &Sheet) -> Vec<u8> {
@@ -88,7 +111,8 @@ fn rule_1(rng: &mut Rng, sheet: &Sheet) -> Vec<u8> {
             odd[..2].copy_from_slice(&length.to_be_bytes());
             odd
         }
-        _ => over_the_bound(rng),
+        _ if rng.one_in(3) => over_the_bound(rng),
+        _ => sheet.bytes_with(rng.word() as u16),
     }
 }
 

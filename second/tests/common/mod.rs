@@ -5,6 +5,7 @@ use second::cases::sheet::disc_e;
 use second::drive::State;
 use second::limits::BOUND;
 use second::packet::{perform, Reply};
+use second::refusal::Refusal;
 use second::sense::Sense;
 
 /// A packet on Table E with a memory of the bound's size, filled with EEh.
@@ -42,9 +43,23 @@ pub fn check(state: State, packet: &[u8]) -> Sense {
 }
 
 pub fn number(state: State, table: &[u8], packet: &[u8]) -> u8 {
+    told(state, table, packet).0
+}
+
+/// The number of a packet's refusal and the rule that it carries.
+pub fn told(state: State, table: &[u8], packet: &[u8]) -> (u8, u8) {
     let (reply, _) = on(state, table, packet);
     if reply.refusal.is_some() {
         assert_eq!((reply.status, reply.next), (0, state));
     }
-    reply.refusal.map_or(0, |refusal| refusal.number())
+    both(reply.refusal)
+}
+
+/// A refusal's number and rule, or zeros.
+pub fn both(refusal: Option<Refusal>) -> (u8, u8) {
+    refusal.map_or((0, 0), |refusal| (refusal.number(), refusal.rule()))
+}
+
+pub fn number_of<T>(result: &Result<T, Refusal>) -> u8 {
+    result.as_ref().err().map_or(0, |refusal| refusal.number())
 }
