@@ -35,9 +35,9 @@ memoryOf laying = []
 memoryOf lifting = []
 memoryOf (packet p t m) = m
 
--- the answer of a call that is no packet
+-- the answer of a call that is no packet: no rule stands beside its number
 abbrev pub numbered : ℕ → Answer
-numbered n = record { number = n; status = 0; full = []; limit = 0; start = 0; count = 0; memory = [] }
+numbered n = record { number = n; rule = 0; status = 0; full = []; limit = 0; start = 0; count = 0; memory = [] }
 
 -- what the call answers
 abbrev pub answer : Call → Drive → Answer

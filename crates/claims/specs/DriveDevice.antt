@@ -16,7 +16,7 @@ use Rattle.target.specs.Packet.{refusalOf}
 use Rattle.claims.specs.Telling.{Attention, power, change, Answer, answerOf, isGood, tellsTo}
 use Rattle.claims.specs.UnitLaws.{Turn, only, unmoved, attended, meets-turn, orders-blocks, any-pending}
 use Rattle.claims.specs.Call.{Call, powering, pressing, laying, lifting, packet, answer, next, event, isPending, isAttending, isPowering, isPowerOn, closed, isLoading, isCause, causes, tells, isNeeding, isSuccess, Alike, same, tables, lend, left}
-use Rattle.claims.specs.PacketLaws.{kind, reply-kind, closed-still, packet-fair, packet-request, packet-orders, packet-blind}
+use Rattle.claims.specs.PacketLaws.{kind, ruleOf, reply-kind, closed-still, packet-fair, packet-request, packet-orders, packet-blind}
 use Rattle.claims.specs.Device.{Device, or-cases, cause-lives}
 
 -- ---- how a call turns an attention
@@ -63,7 +63,8 @@ packet-turn k p t m d =
     let T : Bool → Reply Mechanics → Type 0 =
     λ a r. Turn k (d .unit) (tellsTo k a (d .unit) (answerOf m r) (r .unit)) (closed (d .mechanics) (r .mechanics)) (r .unit) in
     subst₂ T (packet-request p (d .mechanics) t) (sym (reply-kind d p t (length m)))
-    (meets-turn closed k m (d .mechanics) (refusalOf d p t (length m)) (kind p (d .mechanics) t) (d .unit) (packet-fair p (d .mechanics) t))
+    (meets-turn closed k m (d .mechanics) (refusalOf d p t (length m)) (ruleOf d p t (length m)) (kind p (d .mechanics) t) (d .unit)
+    (packet-fair p (d .mechanics) t))
 
 -- every call but power-on
 call-turn : (k : Attention) (c : Call) (d : Drive) → isPowering c ≡ false → Turn k (d .unit) (tells k (event c d)) (isLoading (event c d)) (next c d .unit)
@@ -105,7 +106,8 @@ drive-turns k (packet p t m) d = call-turns k (packet p t m) d refl
 pub packet-blocked : (k : Attention) (d : Drive) (p t m : List ℕ) → isPending k d ≡ true → isNeeding p ≡ true → isGood (answer (packet p t m) d) ≡ false
 packet-blocked k d p t m h n =
     let o = packet-orders p (d .mechanics) t n in
-    rw (reply-kind d p t (length m), o .1) (orders-blocks (refusalOf d p t (length m)) (o .0) (d .unit) (d .mechanics) m (any-pending k (d .unit) h))
+    rw (reply-kind d p t (length m), o .1)
+    (orders-blocks (refusalOf d p t (length m)) (ruleOf d p t (length m)) (o .0) (d .unit) (d .mechanics) m (any-pending k (d .unit) h))
 
 pub drive-blocks : (k : Attention) (c : Call) (d : Drive) → isPending k d ≡ true → isSuccess (event c d) ≡ false
 unfolding _and_

@@ -49,9 +49,11 @@ pub data Question : Type 0 where
   addressFor : (m s f : ℕ) → Question
   msfFor : (a : ℕ) → Question
 
--- what comes of it: the refusal's number or 0, the status, the sense held afterwards, the bytes or the numbers asked for, start and count
+-- what comes of it: the refusal's number or 0, beside 4 the first broken rule, the status, the sense held afterwards, the bytes or the
+-- numbers asked for, start and count
 pub record Outcome : Type 0 where
   pub number : ℕ
+  pub rule : ℕ
   pub status : ℕ
   pub sense : Sense
   pub shown : List ℕ
@@ -60,31 +62,47 @@ pub record Outcome : Type 0 where
 
 -- GOOD with these bytes, or a conversion to these numbers
 abbrev pub gives : List ℕ → Outcome
-gives b = record { number = 0; status = 0x00; sense = triple 0x00 0x00 0x00; shown = b; start = 0; count = 0 }
+gives b = record { number = 0; rule = 0; status = 0x00; sense = triple 0x00 0x00 0x00; shown = b; start = 0; count = 0 }
 
 -- GOOD, naming blocks
 abbrev pub reads : ℕ → ℕ → Outcome
-reads a n = record { number = 0; status = 0x00; sense = triple 0x00 0x00 0x00; shown = []; start = a; count = n }
+reads a n = record { number = 0; rule = 0; status = 0x00; sense = triple 0x00 0x00 0x00; shown = []; start = a; count = n }
 
 -- CHECK CONDITION with a triple
 abbrev pub fails : ℕ → ℕ → ℕ → Outcome
-fails k a q = record { number = 0; status = 0x02; sense = triple k a q; shown = []; start = 0; count = 0 }
+fails k a q = record { number = 0; rule = 0; status = 0x02; sense = triple k a q; shown = []; start = 0; count = 0 }
 
 -- refused by number, with zeros
 abbrev pub refuses : ℕ → List ℕ → Outcome
-refuses n b = record { number = n; status = 0x00; sense = triple 0x00 0x00 0x00; shown = b; start = 0; count = 0 }
+refuses n b = record { number = n; rule = 0; status = 0x00; sense = triple 0x00 0x00 0x00; shown = b; start = 0; count = 0 }
 
 -- what the definitions give
 unfoldable pub asked : Question → Outcome
 asked (packet p) =
     let a = answer loadedE p tableE bound in
-    record { number = a .number; status = a .status; sense = stateOf a .unit .sense; shown = bytesOf a; start = a .start; count = a .count }
+    record {
+      number = a .number;
+      rule = a .rule;
+      status = a .status;
+      sense = stateOf a .unit .sense;
+      shown = bytesOf a;
+      start = a .start;
+      count = a .count;
+    }
 asked (addressFor m s f) =
     let a = toBlock m s f in
-    record { number = a .number; status = 0x00; sense = triple 0x00 0x00 0x00; shown = a .address ∷ []; start = 0; count = 0 }
+    record { number = a .number; rule = 0; status = 0x00; sense = triple 0x00 0x00 0x00; shown = a .address ∷ []; start = 0; count = 0 }
 asked (msfFor b) =
     let a = toMsf b in
-    record { number = a .number; status = 0x00; sense = triple 0x00 0x00 0x00; shown = a .minute ∷ a .second ∷ a .frame ∷ []; start = 0; count = 0 }
+    record {
+      number = a .number;
+      rule = 0;
+      status = 0x00;
+      sense = triple 0x00 0x00 0x00;
+      shown = a .minute ∷ a .second ∷ a .frame ∷ [];
+      start = 0;
+      count = 0;
+    }
 
 unfoldable pub sameBytes : List ℕ → List ℕ → Bool
 unfolding _and_
@@ -95,7 +113,7 @@ sameBytes (x ∷ xs) (y ∷ ys) = eqb x y and sameBytes xs ys
 
 unfoldable pub sameOutcome : Outcome → Outcome → Bool
 sameOutcome a b =
-    eqb (a .number) (b .number) and eqb (a .status) (b .status) and sameSense (a .sense) (b .sense)
+    eqb (a .number) (b .number) and eqb (a .rule) (b .rule) and eqb (a .status) (b .status) and sameSense (a .sense) (b .sense)
     and sameBytes (a .shown) (b .shown) and eqb (a .start) (b .start) and eqb (a .count) (b .count)
 
 -- a question and its marked result

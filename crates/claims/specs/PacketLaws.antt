@@ -10,6 +10,7 @@ use Rattle.drive.specs.declared.state.Unit.{Unit}
 use Rattle.drive.specs.declared.state.Mechanics.{Mechanics}
 use Rattle.drive.specs.declared.state.Drive.{Drive}
 use Rattle.disc.specs.Rules.{isFit}
+use Rattle.disc.specs.Part.{unfit, ruleWith}
 use Rattle.gate.specs.Gate.{Result, refuse, gate}
 use Rattle.command.specs.declared.decode.Command.{Command}
 use Rattle.command.specs.declared.decode.Command.the-variants.{TestUnitReady, RequestSense, Inquiry, StartStop, Prevent, ReadCapacity, Read10, Seek, ReadToc, Read12, Unknown}
@@ -96,12 +97,19 @@ steps-blind c u m p t t′ l =
 pub stepsOf-kind : (d : Drive) (p t : List ℕ) → stepsOf d p t ≡ reply (kind p (d .mechanics) t) (d .unit) (d .mechanics)
 stepsOf-kind d p t = kind-steps (seen (decode (codeOf p))) (d .unit) (d .mechanics) p t
 
+-- the rule beside a packet's number
+abbrev pub ruleOf : Drive → List ℕ → List ℕ → ℕ → ℕ
+ruleOf d p t n = ruleWith (refusalOf d p t n) t
+
 -- the answer is that of the packet's kind, or the refusal
-pub reply-kind : (d : Drive) (p t : List ℕ) (n : ℕ) → replyTo d p t n ≡ meets (refusalOf d p t n) (kind p (d .mechanics) t) (d .unit) (d .mechanics)
+pub reply-kind : (d : Drive) (p t : List ℕ) (n : ℕ)
+    → replyTo d p t n ≡ meets (refusalOf d p t n) (ruleOf d p t n) (kind p (d .mechanics) t) (d .unit) (d .mechanics)
 unfolding replyTo
 reply-kind d p t n = by-number (refusalOf d p t n)
   where
-    by-number : (j : ℕ) → (if eqb j 0 then stepsOf d p t else refuse j (d .unit) (d .mechanics)) ≡ meets j (kind p (d .mechanics) t) (d .unit) (d .mechanics)
+    by-number : (j : ℕ)
+        → (if eqb j 0 then stepsOf d p t else refuse j (ruleWith j t) (d .unit) (d .mechanics))
+        ≡ meets j (ruleWith j t) (kind p (d .mechanics) t) (d .unit) (d .mechanics)
     by-number zero = when _ _ _ refl ∙ stepsOf-kind d p t
     by-number (suc j) = unless _ _ _ (eqb·suc-zero j)
 
@@ -197,7 +205,13 @@ packet-orders p m t h = (_, kind-needs (seen (decode (codeOf p))) p _ (sym (pack
 
 -- ---- the lent table
 
+-- beside any number a fit table's rule is 0
+ruleWith-fit : (n : ℕ) (t : List ℕ) → isFit t ≡ true → ruleWith n t ≡ 0
+unfolding ruleWith isFit
+ruleWith-fit n t f = either (λ x. x ≡ 0) (eqb n unfit) (λ h. eqb-true _ _ f) (λ h. refl)
+
 -- while an attention is pending two fit tables give one answer
 pub packet-blind : (d : Drive) (p t t′ : List ℕ) (n : ℕ) → isFit t ≡ true → isFit t′ ≡ true → anyPending (d .unit) ≡ true → replyTo d p t n ≡ replyTo d p t′ n
 unfolding replyTo refusalOf
-packet-blind d p t t′ n f g l = rw (f, g, steps-blind (decode (codeOf p)) (d .unit) (d .mechanics) p t t′ l)
+packet-blind d p t t′ n f g l =
+    rw (ruleWith-fit _ t f, ruleWith-fit _ t′ g, f, g, steps-blind (decode (codeOf p)) (d .unit) (d .mechanics) p t t′ l)

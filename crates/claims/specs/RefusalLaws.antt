@@ -1,15 +1,15 @@
--- Which number a call gives, and what a refused call leaves.
+-- Which number a call gives, which rule stands beside it, and what a refused call leaves.
 use mathlib.Core.Path.{_≡_, refl, sym, ap, _∙_}
-use mathlib.Core.Bool.{Bool, true, false, not}
+use mathlib.Core.Bool.{Bool, true, false, not, false≢true}
 use mathlib.Core.List.{List, []}
 use Prim.Native.Nat.{ℕ, zero, suc, _≤_, _<_}
 use native.Mathlib.Omega.{arith}
 use native.Mathlib.Nat.{lt-of-not-le}
 use native.Mathlib.Decide.{decLe}
-use borrow.Author.Tests.{eq-eqb, ne-eqb, le-ltb, lt-ltb}
+use borrow.Author.Tests.{eq-eqb, ne-eqb, le-leb, le-ltb, lt-ltb}
 use lib.ListN.{length}
-use lib.Dec.{eqb, ltb, leb}
-use Rattle.ground.specs.Tests.{_and_, _or_, if_then_else_}
+use lib.Dec.{eqb, ltb, leb, eqb·suc-zero}
+use Rattle.ground.specs.Tests.{_and_, _or_, if_then_else_, and-tail, and-both, and-assoc}
 use Rattle.ground.specs.Memory.{fill-none}
 use Rattle.drive.specs.declared.state.Unit.{Unit}
 use Rattle.drive.specs.declared.state.Mechanics.{Mechanics}
@@ -20,8 +20,10 @@ use Rattle.drive.specs.Sense.{isKnown}
 use Rattle.drive.specs.State.{isLoaded, button, lay, lift}
 use Rattle.drive.specs.StateLaws.{button-unknown, button-closes, button-locked, button-opens, button-refused, lay-unknown, lay-closed, lay-full, lay-lays, lay-refused, lift-unknown, lift-closed, lift-empty, lift-lifts, lift-refused}
 use Rattle.table.specs.Layout.{bound, lastSession}
-use Rattle.disc.specs.Rules.{isFit}
-use Rattle.disc.specs.Part.{partRefusal}
+use Rattle.disc.specs.Rules.{fault, isFit}
+use Rattle.disc.specs.RulesLaws.{fault-first}
+use Rattle.disc.specs.Part.{partRefusal, ruleWith, partRefused}
+use Rattle.disc.specs.PartLaws.{ruleWith-none}
 use Rattle.address.specs.Address.{MsfAnswer, BlockAnswer, last, addressOf, isMsf, blockAt, blockRefused, toMsf, toBlock}
 use Rattle.address.specs.Laws.{toMsf-at, toMsf-refused}
 use Rattle.gate.specs.Unit.{pendingOf}
@@ -31,50 +33,57 @@ use Rattle.target.specs.Packet.{refusalOf, answer as replyTo}
 use Rattle.claims.specs.Telling.{Attention, power, change, Answer, answerOf, tellsTo}
 use Rattle.claims.specs.UnitLaws.{Kind, asks, frees, orders, reply, meets}
 use Rattle.claims.specs.Call.{Call, powering, pressing, laying, lifting, packet, memoryOf, answer, next, event, isPowering, closed, isLoading, causes, isRequestSense, tells}
-use Rattle.claims.specs.PacketLaws.{closed-still, kind, reply-kind}
+use Rattle.claims.specs.PacketLaws.{closed-still, kind, ruleOf, reply-kind}
 
--- ---- what is not refused has the number 0
+-- ---- what is not refused has the number 0, and no rule beside it
 
-gate-number : {M : Type 0} (p c : Bool) (h : Sense) (m : M) (r : Result M) →
+abbrev Numbered : {M : Type 0} → ℕ → ℕ → Reply M → Type 0
+Numbered n rule r = (r .number ≡ n) × (r .rule ≡ rule)
+
+gate-numbered : {M : Type 0} (p c : Bool) (h : Sense) (m : M) (r : Result M) →
     let u : Unit = record { power = p; change = c; sense = h } in
-    gate u m r .number ≡ 0
+    Numbered 0 0 (gate u m r)
 unfolding gate pendingOf if_then_else_
-gate-number true c h m r = refl
-gate-number false true h m r = refl
-gate-number false false h m (fails f) = refl
-gate-number false false h m (goes next loading full limit start count) = refl
+gate-numbered true c h m r = (refl, refl)
+gate-numbered false true h m r = (refl, refl)
+gate-numbered false false h m (fails f) = (refl, refl)
+gate-numbered false false h m (goes next loading full limit start count) = (refl, refl)
 
-reply-number : {M : Type 0} (k : Kind M) (u : Unit) (m : M) → reply k u m .number ≡ 0
-reply-number (asks limit) u m = refl
-reply-number (frees (fails f)) u m = refl
-reply-number (frees (goes next loading full limit start count)) u m = refl
-reply-number (orders r) u m = gate-number (u .power) (u .change) (u .sense) m r
+reply-numbered : {M : Type 0} (k : Kind M) (u : Unit) (m : M) → Numbered 0 0 (reply k u m)
+reply-numbered (asks limit) u m = (refl, refl)
+reply-numbered (frees (fails f)) u m = (refl, refl)
+reply-numbered (frees (goes next loading full limit start count)) u m = (refl, refl)
+reply-numbered (orders r) u m = gate-numbered (u .power) (u .change) (u .sense) m r
 
-meets-number : {M : Type 0} (j : ℕ) (k : Kind M) (u : Unit) (m : M) → meets j k u m .number ≡ j
-meets-number zero k u m = reply-number k u m
-meets-number (suc j) k u m = refl
+meets-numbered : {M : Type 0} (j : ℕ) (t : List ℕ) (k : Kind M) (u : Unit) (m : M)
+    → Numbered j (ruleWith j t) (meets j (ruleWith j t) k u m)
+meets-numbered zero t k u m =
+    let r = reply-numbered k u m in
+    (r .0, r .1 ∙ ruleWith-none 0 t (λ e. omega arith))
+meets-numbered (suc j) t k u m = (refl, refl)
 
 -- ---- a refused call
 
--- a refusal's answer: the number alone, and the memory as it was
-abbrev pub refusing : ℕ → List ℕ → Answer
-refusing n m = record { number = n; status = 0; full = []; limit = 0; start = 0; count = 0; memory = m }
+-- a refusal's answer: the number and the rule alone, and the memory as it was
+abbrev pub refusing : ℕ → ℕ → List ℕ → Answer
+refusing n rule m = record { number = n; rule = rule; status = 0; full = []; limit = 0; start = 0; count = 0; memory = m }
 
 abbrev Unchanged : Drive → List ℕ → Reply Mechanics → Type 0
-Unchanged d m r = (r .number ≡ 0 → ⊥) → (stateOf r ≡ d) × (answerOf m r ≡ refusing (r .number) m)
+Unchanged d m r = (r .number ≡ 0 → ⊥) → (stateOf r ≡ d) × (answerOf m r ≡ refusing (r .number) (r .rule) m)
 
-meets-unchanged : (j : ℕ) (k : Kind Mechanics) (d : Drive) (m : List ℕ) → Unchanged d m (meets j k (d .unit) (d .mechanics))
-meets-unchanged zero k d m n = absurd (n (reply-number k (d .unit) (d .mechanics)))
-meets-unchanged (suc j) k d m n = (refl, ap (λ (l : List ℕ). refusing (suc j) l) (fill-none m))
+meets-unchanged : (j rule : ℕ) (k : Kind Mechanics) (d : Drive) (m : List ℕ) → Unchanged d m (meets j rule k (d .unit) (d .mechanics))
+meets-unchanged zero rule k d m n = absurd (n (reply-numbered k (d .unit) (d .mechanics) .0))
+meets-unchanged (suc j) rule k d m n = (refl, ap (λ (l : List ℕ). refusing (suc j) rule l) (fill-none m))
 
-pub call-unchanged : (c : Call) (d : Drive) → (answer c d .number ≡ 0 → ⊥) → (next c d ≡ d) × (answer c d ≡ refusing (answer c d .number) (memoryOf c))
+pub call-unchanged : (c : Call) (d : Drive) → (answer c d .number ≡ 0 → ⊥)
+    → (next c d ≡ d) × (answer c d ≡ refusing (answer c d .number) (answer c d .rule) (memoryOf c))
 call-unchanged powering d n = absurd (n refl)
 call-unchanged pressing d n = (button-refused d n, refl)
 call-unchanged laying d n = (lay-refused d n, refl)
 call-unchanged lifting d n = (lift-refused d n, refl)
 call-unchanged (packet p t m) d n =
-    let u : Unchanged d m (replyTo d p t (length m)) =
-    rw (reply-kind d p t (length m)) (meets-unchanged (refusalOf d p t (length m)) (kind p (d .mechanics) t) d m) in
+    let e = meets-unchanged (refusalOf d p t (length m)) (ruleOf d p t (length m)) (kind p (d .mechanics) t) d m in
+    let u : Unchanged d m (replyTo d p t (length m)) = rw (reply-kind d p t (length m)) e in
     u n
 
 -- a refused call is no cause and tells nothing
@@ -113,6 +122,43 @@ refused-tells k (packet p t m) d n =
 pub refused-silent : (k : Attention) (c : Call) (d : Drive) → (answer c d .number ≡ 0 → ⊥) → (causes k (event c d) ≡ false) × (tells k (event c d) ≡ false)
 refused-silent k c d n = (refused-causes k c d n, refused-tells k c d n)
 
+-- ---- the rule beside the number
+
+-- the rule is one of 1 to 7 where `four` says that the number is 4, and else 0
+pub record Beside (four : Bool) (rule : ℕ) : Type 0 where
+  pub one : leb 1 rule and leb rule 7 ≡ four
+  pub none : eqb rule 0 ≡ not four
+
+beside-none : (four : Bool) → four ≡ false → Beside four 0
+unfolding _and_
+beside-none four h = record { one = sym h; none = ap not (sym h) }
+
+-- the number n is 4 where `a` holds and the table is not fit, and the rule is what stands beside n
+module _ (n : ℕ) (t : List ℕ) (a : Bool) (four : eqb n 4 ≡ a and not (isFit t)) where
+  ruleWith-beside : Beside (eqb n 4) (ruleWith n t)
+  unfolding ruleWith isFit if_then_else_ _and_
+  ruleWith-beside = go (eqb n 4) (fault t) four (fault-first t .most)
+    where
+      go : (b : Bool) (f : ℕ) → b ≡ a and not (eqb f 0) → f ≤ 7 → Beside b (if b then f else 0)
+      go false f e l = record { one = refl; none = refl }
+      go true zero e l = absurd (false≢true (and-tail a false (sym e)))
+      go true (suc f) e l = record {
+        one = and-both (leb 1 (suc f)) (leb (suc f) 7) (le-leb 1 (suc f) (omega arith)) (le-leb (suc f) 7 (omega arith));
+        none = eqb·suc-zero f;
+      }
+
+  -- it is i, one of 1 to 7, where the first broken rule is
+  ruleWith-broken : (i : ℕ) {b : Bool} → eqb 0 i ≡ false → eqb (fault t) i ≡ b → eqb n 4 and eqb (ruleWith n t) i ≡ a and b
+  unfolding ruleWith isFit if_then_else_ _and_
+  ruleWith-broken i z e = go (eqb n 4) a (fault t) four ∙ ap (λ (x : Bool). a and x) e
+    where
+      go : (b a : Bool) (f : ℕ) → b ≡ a and not (eqb f 0) → b and eqb (if b then f else 0) i ≡ a and eqb f i
+      go false false f h = refl
+      go false true zero h = sym z
+      go false true (suc f) h = absurd (false≢true (h ∙ ap not (eqb·suc-zero f)))
+      go true false f h = absurd (false≢true (sym h))
+      go true true f h = refl
+
 -- ---- the numbers, in the order of their tests
 
 -- n is the number of a packet with those tests
@@ -137,32 +183,51 @@ module _ (d : Drive) (p t : List ℕ) (n : ℕ) where
       by-tests true true false true = record { zero = refl; one = refl; two = refl; three = refl; four = refl; most = omega arith }
       by-tests true true false false = record { zero = refl; one = refl; two = refl; three = refl; four = refl; most = omega arith }
 
-  -- the answer's number is that of the refusal
-  reply-refusal : replyTo d p t n .number ≡ refusalOf d p t n
-  reply-refusal = rw (reply-kind d p t n) (meets-number (refusalOf d p t n) (kind p (d .mechanics) t) (d .unit) (d .mechanics))
+  -- the answer's number is that of the refusal, and the rule that beside it
+  reply-refusal : Numbered (refusalOf d p t n) (ruleOf d p t n) (replyTo d p t n)
+  reply-refusal = rw (reply-kind d p t n) (meets-numbered (refusalOf d p t n) t (kind p (d .mechanics) t) (d .unit) (d .mechanics))
 
   pub reply-ordered : Ordered (eqb (length p) 12) (isKnown (d .unit .sense)) (ltb n bound) (isLoaded (d .mechanics) and not (isFit t)) (replyTo d p t n .number)
-  reply-ordered = rw reply-refusal refusal-ordered
+  reply-ordered = rw (reply-refusal .0) refusal-ordered
+
+  -- the packet's table is looked at
+  abbrev looked : Bool
+  looked = eqb (length p) 12 and isKnown (d .unit .sense) and not (ltb n bound) and isLoaded (d .mechanics)
+
+  refusal-unfit : eqb (refusalOf d p t n) 4 ≡ looked and not (isFit t)
+  refusal-unfit = refusal-ordered .four ∙ sym (simp and-assoc)
+
+  pub reply-beside : Beside (eqb (replyTo d p t n .number) 4) (replyTo d p t n .rule)
+  reply-beside = rw (reply-refusal .0, reply-refusal .1) (ruleWith-beside (refusalOf d p t n) t looked refusal-unfit)
+
+  pub reply-broken : (i : ℕ) {b : Bool} → eqb 0 i ≡ false → eqb (fault t) i ≡ b
+      → eqb (replyTo d p t n .number) 4 and eqb (replyTo d p t n .rule) i ≡ looked and b
+  reply-broken i z e = rw (reply-refusal .0, reply-refusal .1) (ruleWith-broken (refusalOf d p t n) t looked refusal-unfit i z e)
 
 -- ---- the other calls
 
--- n is the number of a call that tests 2 and then whether it can be done
+-- n is the number of a call that tests 2 and then whether it can be done: 2, its own or 0, and so never 4
 pub record Tested (known able : Bool) (own n : ℕ) : Type 0 where
   pub zero : eqb n 0 ≡ known and able
   pub two : eqb n 2 ≡ not known
   pub next : eqb n own ≡ known and not able
+  pub four : eqb n 4 ≡ false
 
 abbrev numberFor : Bool → Bool → ℕ → ℕ
 numberFor false able own = 2
 numberFor true true own = 0
 numberFor true false own = own
 
-number-tested : (known able : Bool) (own : ℕ) → 2 < own → Tested known able own (numberFor known able own)
+number-tested : (known able : Bool) (own : ℕ) → 4 < own → Tested known able own (numberFor known able own)
 unfolding _and_
-number-tested false able own h = record { zero = refl; two = refl; next = ne-eqb 2 own (λ e. omega arith) }
-number-tested true true own h = record { zero = refl; two = refl; next = ne-eqb 0 own (λ e. omega arith) }
-number-tested true false own h =
-    record { zero = ne-eqb own 0 (λ e. omega arith); two = ne-eqb own 2 (λ e. omega arith); next = eq-eqb own own refl }
+number-tested false able own h = record { zero = refl; two = refl; next = ne-eqb 2 own (λ e. omega arith); four = refl }
+number-tested true true own h = record { zero = refl; two = refl; next = ne-eqb 0 own (λ e. omega arith); four = refl }
+number-tested true false own h = record {
+  zero = ne-eqb own 0 (λ e. omega arith);
+  two = ne-eqb own 2 (λ e. omega arith);
+  next = eq-eqb own own refl;
+  four = ne-eqb own 4 (λ e. omega arith);
+}
 
 abbrev numberIn : Moved → ℕ
 numberIn r = r .number
@@ -214,6 +279,14 @@ module _ (d : Drive) where
   pub lift-tested : Tested (isKnown (d .unit .sense)) (d .mechanics .«tray_open» and d .mechanics .«disc_in») 7 (lift d .number)
   lift-tested = rw (lift-number _ _ _ refl refl refl) (number-tested _ _ 7 (omega arith))
 
+-- the rule of every call
+pub call-beside : (c : Call) (d : Drive) → Beside (eqb (answer c d .number) 4) (answer c d .rule)
+call-beside powering d = beside-none _ refl
+call-beside pressing d = beside-none _ (press-tested d .four)
+call-beside laying d = beside-none _ (lay-tested d .four)
+call-beside lifting d = beside-none _ (lift-tested d .four)
+call-beside (packet p t m) d = reply-beside d p t (length m)
+
 -- ---- the session part and the addresses
 
 -- n is the number of a session part: 4 before 10
@@ -222,14 +295,23 @@ pub record Parted (fit there : Bool) (n : ℕ) : Type 0 where
   pub four : eqb n 4 ≡ not fit
   pub ten : eqb n 10 ≡ fit and not there
 
-pub part-parted : (t : List ℕ) (k : ℕ) → Parted (isFit t) (leb 1 k and leb k (lastSession t)) (partRefusal t k)
-unfolding partRefusal if_then_else_ _and_
+pub part-parted : (t : List ℕ) (k : ℕ) → Parted (isFit t) (leb 1 k and leb k (lastSession t)) (partRefused t k .number)
+unfolding partRefused partRefusal if_then_else_ _and_
 part-parted t k = go (isFit t) (leb 1 k and leb k (lastSession t))
   where
     go : (fit there : Bool) → Parted fit there (if fit then (if there then 0 else 10) else 4)
     go false there = record { zero = refl; four = refl; ten = refl }
     go true true = record { zero = refl; four = refl; ten = refl }
     go true false = record { zero = refl; four = refl; ten = refl }
+
+pub part-beside : (t : List ℕ) (k : ℕ) → Beside (eqb (partRefused t k .number) 4) (partRefused t k .rule)
+unfolding partRefused _and_
+part-beside t k = ruleWith-beside (partRefusal t k) t true (part-parted t k .four)
+
+pub part-broken : (t : List ℕ) (k i : ℕ) {b : Bool} → eqb 0 i ≡ false → eqb (fault t) i ≡ b
+    → eqb (partRefused t k .number) 4 and eqb (partRefused t k .rule) i ≡ b
+unfolding partRefused _and_
+part-broken t k i z e = ruleWith-broken (partRefusal t k) t true (part-parted t k .four) i z e
 
 pub toMsf-number : (a : ℕ) → eqb (toMsf a .number) 8 ≡ ltb last a
 toMsf-number a = elim (decLe a last) [

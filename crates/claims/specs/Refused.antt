@@ -1,4 +1,5 @@
--- "Unfit ones are refused by number; a refused call leaves state and memory as they were." Each number "given exactly when".
+-- "Unfit ones are refused by number; a refused call leaves state and memory as they were." Each number "given exactly when";
+-- K6: "Refusal 4 carries that number to every caller", the first broken rule.
 use mathlib.Core.Path.{_≡_, refl}
 use mathlib.Core.Bool.{Bool, true, false, not}
 use mathlib.Core.List.{List, []}
@@ -11,21 +12,72 @@ use Rattle.address.specs.Address.{toMsf, toBlock, isMsf}
 use Rattle.drive.specs.declared.state.Drive.{Drive}
 use Rattle.drive.specs.Sense.{triple, senseAt, isKnown}
 use Rattle.drive.specs.State.{isLoaded, powerOn}
-use Rattle.table.specs.Layout.{bound, lastSession}
-use Rattle.disc.specs.Rules.{isFit}
-use Rattle.disc.specs.Part.{partRefusal}
+use Rattle.table.specs.Layout.{bound, lastSession, descriptors}
+use Rattle.sessions.specs.Session.{inOrder}
+use Rattle.disc.specs.Rules.{rule1, rule2, eachRow, rule7, isFit}
+use Rattle.disc.specs.RulesLaws.{fault-first}
+use Rattle.disc.specs.Part.{partRefused}
 use Rattle.claims.specs.Call.{Call, powering, pressing, laying, lifting, packet, memoryOf, answer, next}
-use Rattle.claims.specs.RefusalLaws.{call-unchanged, reply-ordered, press-tested, press-locked, lay-tested, lift-tested, part-parted, toMsf-number, toBlock-number}
+use Rattle.claims.specs.RefusalLaws.{call-unchanged, call-beside, reply-ordered, reply-broken, press-tested, press-locked, lay-tested, lift-tested, part-parted, part-beside, part-broken, toMsf-number, toBlock-number}
 
 -- a call with a number other than 0 leaves the state as it was, and answers "status 0, 0 bytes, start 0, count 0" with the memory as it was
 pub refused-unchanged : (c : Call) (d : Drive) → (answer c d .number ≡ 0 → ⊥)
-    → (next c d ≡ d) × (answer c d ≡ record { number = answer c d .number; status = 0; full = []; limit = 0; start = 0; count = 0; memory = memoryOf c })
+    → (next c d ≡ d)
+    × (answer c d ≡ record {
+      number = answer c d .number;
+      rule = answer c d .rule;
+      status = 0;
+      full = [];
+      limit = 0;
+      start = 0;
+      count = 0;
+      memory = memoryOf c;
+    })
 refused-unchanged = call-unchanged
+
+-- ---- K6: "the first broken rule of 1 to 7, tested in that order"
+
+-- a rule is it where it is not kept and those before it are, each over the whole table
+module _ (t : List ℕ) where
+  abbrev isFirst1 : Bool
+  isFirst1 = not (rule1 t)
+
+  abbrev isFirst2 : Bool
+  isFirst2 = rule1 t and not (rule2 t)
+
+  abbrev isFirst3 : Bool
+  isFirst3 = rule1 t and rule2 t and not (eachRow 3 (descriptors t))
+
+  abbrev isFirst4 : Bool
+  isFirst4 = rule1 t and rule2 t and eachRow 3 (descriptors t) and not (inOrder (lastSession t) (descriptors t))
+
+  abbrev isFirst5 : Bool
+  isFirst5 =
+      rule1 t and rule2 t and eachRow 3 (descriptors t) and inOrder (lastSession t) (descriptors t) and not (eachRow 5 (descriptors t))
+
+  abbrev isFirst6 : Bool
+  isFirst6 =
+      rule1 t and rule2 t and eachRow 3 (descriptors t) and inOrder (lastSession t) (descriptors t) and eachRow 5 (descriptors t)
+      and not (eachRow 6 (descriptors t))
+
+  abbrev isFirst7 : Bool
+  isFirst7 =
+      rule1 t and rule2 t and eachRow 3 (descriptors t) and inOrder (lastSession t) (descriptors t) and eachRow 5 (descriptors t)
+      and eachRow 6 (descriptors t) and not (rule7 (lastSession t) (descriptors t))
 
 module _ (d : Drive) where
   -- the call gives the number
   abbrev gives : Call → ℕ → Bool
   gives c n = eqb (answer c d .number) n
+
+  -- K6: it gives 4 and the rule
+  abbrev breaks : Call → ℕ → Bool
+  breaks c i = gives c 4 and eqb (answer c d .rule) i
+
+  -- of every call: the rule is one of 1 to 7 exactly with 4, and 0 exactly with every other number and with success
+  pub refused-rule : (c : Call)
+      → (leb 1 (answer c d .rule) and leb (answer c d .rule) 7 ≡ gives c 4) × (eqb (answer c d .rule) 0 ≡ not (gives c 4))
+  refused-rule c = let b = call-beside c d in (b .one, b .none)
 
   -- the held sense is one of the ten
   abbrev isOfTen : Bool
@@ -57,6 +109,31 @@ module _ (d : Drive) where
 
     pub refused-4 : gives (packet p t m) 4 ≡ isTwelve and isOfTen and not isUnder and isUnfit
     refused-4 = reply-ordered d p t (length m) .four
+
+    -- K6: with the broken rule beside it, where the table is looked at
+    abbrev isLooked : Bool
+    isLooked = isTwelve and isOfTen and not isUnder and isLoaded (d .mechanics)
+
+    pub refused-4-rule1 : breaks (packet p t m) 1 ≡ isLooked and isFirst1 t
+    refused-4-rule1 = reply-broken d p t (length m) 1 refl (fault-first t .one)
+
+    pub refused-4-rule2 : breaks (packet p t m) 2 ≡ isLooked and isFirst2 t
+    refused-4-rule2 = reply-broken d p t (length m) 2 refl (fault-first t .two)
+
+    pub refused-4-rule3 : breaks (packet p t m) 3 ≡ isLooked and isFirst3 t
+    refused-4-rule3 = reply-broken d p t (length m) 3 refl (fault-first t .three)
+
+    pub refused-4-rule4 : breaks (packet p t m) 4 ≡ isLooked and isFirst4 t
+    refused-4-rule4 = reply-broken d p t (length m) 4 refl (fault-first t .four)
+
+    pub refused-4-rule5 : breaks (packet p t m) 5 ≡ isLooked and isFirst5 t
+    refused-4-rule5 = reply-broken d p t (length m) 5 refl (fault-first t .five)
+
+    pub refused-4-rule6 : breaks (packet p t m) 6 ≡ isLooked and isFirst6 t
+    refused-4-rule6 = reply-broken d p t (length m) 6 refl (fault-first t .six)
+
+    pub refused-4-rule7 : breaks (packet p t m) 7 ≡ isLooked and isFirst7 t
+    refused-4-rule7 = reply-broken d p t (length m) 7 refl (fault-first t .seven)
 
     pub refused-not : gives (packet p t m) 0 ≡ isTwelve and isOfTen and not isUnder and not isUnfit
     refused-not = reply-ordered d p t (length m) .zero
@@ -112,14 +189,49 @@ module _ (d : Drive) where
 
 -- ---- "The session part tests fitness (4, empty part) before 10": "a session asked for is 0 or over S"
 
-pub refused-part-4 : (t : List ℕ) (k : ℕ) → eqb (partRefusal t k) 4 ≡ not (isFit t)
-refused-part-4 t k = part-parted t k .four
+module _ (t : List ℕ) (k : ℕ) where
+  -- it is told the number, and K6: 4 with the rule
+  abbrev partGives : ℕ → Bool
+  partGives n = eqb (partRefused t k .number) n
 
-pub refused-10 : (t : List ℕ) (k : ℕ) → eqb (partRefusal t k) 10 ≡ isFit t and not (leb 1 k and leb k (lastSession t))
-refused-10 t k = part-parted t k .ten
+  abbrev partBreaks : ℕ → Bool
+  partBreaks i = partGives 4 and eqb (partRefused t k .rule) i
 
-pub refused-part-not : (t : List ℕ) (k : ℕ) → eqb (partRefusal t k) 0 ≡ isFit t and leb 1 k and leb k (lastSession t)
-refused-part-not t k = part-parted t k .zero
+  pub refused-part-4 : partGives 4 ≡ not (isFit t)
+  refused-part-4 = part-parted t k .four
+
+  pub refused-10 : partGives 10 ≡ isFit t and not (leb 1 k and leb k (lastSession t))
+  refused-10 = part-parted t k .ten
+
+  pub refused-part-not : partGives 0 ≡ isFit t and leb 1 k and leb k (lastSession t)
+  refused-part-not = part-parted t k .zero
+
+  -- the rule is one of 1 to 7 exactly with 4, and 0 exactly with 10 and with success
+  pub refused-part-rule :
+      (leb 1 (partRefused t k .rule) and leb (partRefused t k .rule) 7 ≡ partGives 4)
+      × (eqb (partRefused t k .rule) 0 ≡ not (partGives 4))
+  refused-part-rule = let b = part-beside t k in (b .one, b .none)
+
+  pub refused-part-rule1 : partBreaks 1 ≡ isFirst1 t
+  refused-part-rule1 = part-broken t k 1 refl (fault-first t .one)
+
+  pub refused-part-rule2 : partBreaks 2 ≡ isFirst2 t
+  refused-part-rule2 = part-broken t k 2 refl (fault-first t .two)
+
+  pub refused-part-rule3 : partBreaks 3 ≡ isFirst3 t
+  refused-part-rule3 = part-broken t k 3 refl (fault-first t .three)
+
+  pub refused-part-rule4 : partBreaks 4 ≡ isFirst4 t
+  refused-part-rule4 = part-broken t k 4 refl (fault-first t .four)
+
+  pub refused-part-rule5 : partBreaks 5 ≡ isFirst5 t
+  refused-part-rule5 = part-broken t k 5 refl (fault-first t .five)
+
+  pub refused-part-rule6 : partBreaks 6 ≡ isFirst6 t
+  refused-part-rule6 = part-broken t k 6 refl (fault-first t .six)
+
+  pub refused-part-rule7 : partBreaks 7 ≡ isFirst7 t
+  refused-part-rule7 = part-broken t k 7 refl (fault-first t .seven)
 
 -- ---- 8: "address over 449,849, or M:S:F outside rule 6"
 

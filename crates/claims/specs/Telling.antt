@@ -30,10 +30,11 @@ abbrev pub tripleOf : Attention → Sense
 tripleOf power = triple 0x06 0x29 0x00
 tripleOf change = triple 0x06 0x28 0x00
 
--- what a call answers: the refusal's number or 0, status, the full bytes before cutting, how many of them are asked for,
--- start, count, and what the response memory holds afterwards
+-- what a call answers: the refusal's number or 0, beside 4 the first broken rule, status, the full bytes before cutting, how many of
+-- them are asked for, start, count, and what the response memory holds afterwards
 pub record Answer : Type 0 where
   pub number : ℕ
+  pub rule : ℕ
   pub status : ℕ
   pub full : List ℕ
   pub limit : ℕ
@@ -45,6 +46,7 @@ pub record Answer : Type 0 where
 abbrev pub answerOf : {M : Type 0} → List ℕ → Reply M → Answer
 answerOf memory r = record {
   number = r .number;
+  rule = r .rule;
   status = r .status;
   full = r .full;
   limit = r .limit;

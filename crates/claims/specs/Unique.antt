@@ -33,13 +33,14 @@ use Rattle.gate.specs.Unit.{hold, clear, pendingOf, told, attentionSense, give}
 use Rattle.tracks.specs.declared.track.Track.{Track}
 use Rattle.disc.specs.declared.disc.Disc.{Disc}
 use Rattle.disc.specs.declared.disc.Reading.{Reading}
+use Rattle.disc.specs.declared.part.Refusal.{Refusal}
 use Rattle.table.specs.declared.row.Row.{Row}
 use Rattle.table.specs.Layout.{descriptors, isTrack, isExtra}
 use Rattle.table.specs.Row.{rowOf, framesOf, startOf, rowTest}
 use Rattle.table.specs.Asked.{kept, a0Kept, a1Kept, extraKept, climbs, holds}
 use Rattle.sessions.specs.Session.{size, inOrder, starts}
 use Rattle.disc.specs.Rules.{fault}
-use Rattle.disc.specs.Part.{PartOf, partRefusal, partStart, partSize}
+use Rattle.disc.specs.Part.{PartOf, partRefused, partStart, partSize}
 use Rattle.tracks.specs.Track.{isData, trackOf, trackNumbered, runIsData}
 use Rattle.disc.specs.Disc.{reading}
 use Rattle.command.specs.declared.decode.Command.{Command}
@@ -259,7 +260,7 @@ unique-starts-after d n r s = value-once
 pub unique-fault : (t : List ℕ) (r s : ℕ) → r ≡ fault t → s ≡ fault t → r ≡ s
 unique-fault t r s = value-once
 
-pub unique-session-refusal : (t : List ℕ) (k r s : ℕ) → r ≡ partRefusal t k → s ≡ partRefusal t k → r ≡ s
+pub unique-session-refusal : (t : List ℕ) (k : ℕ) (r s : Refusal) → r ≡ partRefused t k → s ≡ partRefused t k → r ≡ s
 unique-session-refusal t k r s = value-once
 
 pub unique-session-part :
@@ -315,8 +316,8 @@ unique-no-medium m r s = value-once
 
 -- ---- outcome
 
-pub unique-refuse : (n : ℕ) (d : Drive) (r s : Outcome) → r ≡ refused n d → s ≡ refused n d → r ≡ s
-unique-refuse n d r s = value-once
+pub unique-refuse : (n rule : ℕ) (d : Drive) (r s : Outcome) → r ≡ refused n rule d → s ≡ refused n rule d → r ≡ s
+unique-refuse n rule d r s = value-once
 
 pub unique-check : (a : Sense) (u : Unit) (m : Mechanics) (r s : Outcome) → r ≡ checked a u m → s ≡ checked a u m → r ≡ s
 unique-check a u m r s = value-once

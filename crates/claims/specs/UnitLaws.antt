@@ -38,10 +38,10 @@ module _ {M : Type 0} where
   reply (frees r) u m = pass u m r
   reply (orders r) u m = gate u m r
 
-  -- the reply, or a refusal where the number is not 0
-  abbrev pub meets : ℕ → Kind M → Unit → M → Reply M
-  meets zero k u m = reply k u m
-  meets (suc n) k u m = refuse (suc n) u m
+  -- the reply, or a refusal with its rule where the number is not 0
+  abbrev pub meets : ℕ → ℕ → Kind M → Unit → M → Reply M
+  meets zero rule k u m = reply k u m
+  meets (suc n) rule k u m = refuse (suc n) rule u m
 
   -- the mechanics after a result, and whether it was a loading
   abbrev pub nextOf : M → Result M → M
@@ -153,15 +153,16 @@ module _ {M : Type 0} (loads : M → M → Bool) (a : Attention) (memory : List 
   meet-turn false false h (goes next loading full limit start count) q z = goes-turn noSense _ next loading full limit start count q
 
   -- each kind of packet, refused or not
-  pub meets-turn : (n : ℕ) (k : Kind M) (u : Unit) → Honest loads m k → Turns (isAsking k) u (meets n k u m)
+  pub meets-turn : (n rule : ℕ) (k : Kind M) (u : Unit) → Honest loads m k → Turns (isAsking k) u (meets n rule k u m)
   unfolding _and_ _or_
-  meets-turn zero (asks limit) u q = asks-turn limit u q
-  meets-turn zero (frees (fails f)) u q = fails-turn f u (q .1)
-  meets-turn zero (frees (goes next loading full limit start count)) u q = goes-turn (u .sense) u next loading full limit start count (q .0)
-  meets-turn zero (orders r) u q = meet-turn (u .power) (u .change) (u .sense) r (q .0) (q .1)
-  meets-turn (suc n) (asks limit) u q = rw (q, eqb·suc-zero n) (unmoved a u (u .sense))
-  meets-turn (suc n) (frees r) u q = rw (q .1, eqb·suc-zero n) (unmoved a u (u .sense))
-  meets-turn (suc n) (orders r) u q = rw (q .1, eqb·suc-zero n) (unmoved a u (u .sense))
+  meets-turn zero rule (asks limit) u q = asks-turn limit u q
+  meets-turn zero rule (frees (fails f)) u q = fails-turn f u (q .1)
+  meets-turn zero rule (frees (goes next loading full limit start count)) u q =
+      goes-turn (u .sense) u next loading full limit start count (q .0)
+  meets-turn zero rule (orders r) u q = meet-turn (u .power) (u .change) (u .sense) r (q .0) (q .1)
+  meets-turn (suc n) rule (asks limit) u q = rw (q, eqb·suc-zero n) (unmoved a u (u .sense))
+  meets-turn (suc n) rule (frees r) u q = rw (q .1, eqb·suc-zero n) (unmoved a u (u .sense))
+  meets-turn (suc n) rule (orders r) u q = rw (q .1, eqb·suc-zero n) (unmoved a u (u .sense))
 
 -- ---- while an attention is pending
 
@@ -187,11 +188,11 @@ module _ {M : Type 0} where
   meet-blocks false true h m r memory l = refl
   meet-blocks false false h m r memory l = absurd (false≢true l)
 
-  pub orders-blocks : (n : ℕ) (r : Result M) (u : Unit) (m : M) (memory : List ℕ) → anyPending u ≡ true
-      → isGood (answerOf memory (meets n (orders r) u m)) ≡ false
+  pub orders-blocks : (n rule : ℕ) (r : Result M) (u : Unit) (m : M) (memory : List ℕ) → anyPending u ≡ true
+      → isGood (answerOf memory (meets n rule (orders r) u m)) ≡ false
   unfolding _and_
-  orders-blocks zero r u m memory l = meet-blocks (u .power) (u .change) (u .sense) m r memory l
-  orders-blocks (suc n) r u m memory l = rw (eqb·suc-zero n)
+  orders-blocks zero rule r u m memory l = meet-blocks (u .power) (u .change) (u .sense) m r memory l
+  orders-blocks (suc n) rule r u m memory l = rw (eqb·suc-zero n)
 
 -- one of the two is pending where one of them is
 pub any-pending : (a : Attention) (u : Unit) → pending a u ≡ true → anyPending u ≡ true

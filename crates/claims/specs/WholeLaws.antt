@@ -36,7 +36,7 @@ use Rattle.target.specs.PerformLaws.{fullOf, startStop-quiet, seek-quiet, read-
 use Rattle.target.specs.Packet.{stepsBy, refusalOf, answer as replyTo}
 use Rattle.target.specs.PacketLaws.{stepsOf}
 use Rattle.claims.specs.UnitLaws.{meets}
-use Rattle.claims.specs.PacketLaws.{kind, stepsOf-kind, reply-kind}
+use Rattle.claims.specs.PacketLaws.{kind, ruleOf, stepsOf-kind, reply-kind}
 use Rattle.claims.specs.RefusalLaws.{refusal-ordered}
 
 -- ---- tests
@@ -138,7 +138,7 @@ pub reply-held : (d : Drive) (p t : List ℕ) (n : ℕ) → Held n (replyTo d p 
 reply-held d p t n = rw (reply-kind d p t n) (by-number (refusalOf d p t n) (refusal-ordered d p t n .zero))
   where
     by-number : (j : ℕ) → eqb j 0 ≡ eqb (length p) 12 and isKnown (d .unit .sense) and not (ltb n bound) and not (isLoaded (d .mechanics) and not (isFit t))
-        → Held n (meets j (kind p (d .mechanics) t) (d .unit) (d .mechanics))
+        → Held n (meets j (ruleOf d p t n) (kind p (d .mechanics) t) (d .unit) (d .mechanics))
     by-number zero e =
         let h = and-tail _ _ (and-tail _ _ (sym e)) in
         let m = ltb-false n bound (not-true _ (and-head _ _ h)) in

@@ -17,9 +17,10 @@ pub data Result (M : Type 0) : Type 0 where
   fails : Fault → Result M
   goes : (next : M) (loading : Bool) (full : List ℕ) (limit start count : ℕ) → Result M
 
--- a packet's answer, with the full bytes before cutting
+-- a packet's answer, with the full bytes before cutting; K6: beside refusal 4 the first broken rule, else 0
 pub record Reply (M : Type 0) : Type 0 where
   pub number : ℕ
+  pub rule : ℕ
   pub status : ℕ
   pub full : List ℕ
   pub limit : ℕ
@@ -35,17 +36,17 @@ senseBytes s =
 
 module _ {M : Type 0} where
   -- a refusal: "status 0, 0 bytes, start 0, count 0", and the state unchanged
-  abbrev pub refuse : ℕ → Unit → M → Reply M
-  refuse n u m = record { number = n; status = 0; full = []; limit = 0; start = 0; count = 0; unit = u; mechanics = m }
+  abbrev pub refuse : ℕ → ℕ → Unit → M → Reply M
+  refuse n r u m = record { number = n; rule = r; status = 0; full = []; limit = 0; start = 0; count = 0; unit = u; mechanics = m }
 
   -- "CHECK CONDITION is status 02h, no bytes, .., the triple held as sense and, save for the attention in step 2, nothing else changed."
   abbrev pub check : Sense → Unit → M → Reply M
-  check s u m = record { number = 0; status = 0x02; full = []; limit = 0; start = 0; count = 0; unit = hold s u; mechanics = m }
+  check s u m = record { number = 0; rule = 0; status = 0x02; full = []; limit = 0; start = 0; count = 0; unit = hold s u; mechanics = m }
 
   -- "GOOD is status 00h"
   abbrev pub good : List ℕ → ℕ → ℕ → ℕ → Unit → M → Reply M
   good full limit start count u m =
-      record { number = 0; status = 0x00; full = full; limit = limit; start = start; count = count; unit = u; mechanics = m }
+      record { number = 0; rule = 0; status = 0x00; full = full; limit = limit; start = start; count = count; unit = u; mechanics = m }
 
   -- a command's result becomes the answer: GOOD clears the sense, and a loading makes the change attention pending
   abbrev pub settle : Unit → M → Result M → Reply M

@@ -9,6 +9,7 @@ use Rattle.print.specs.Joined.{_next_, spaced}
 use Rattle.print.specs.Hex.{hexByte, shown, shown-length}
 use Rattle.print.specs.Decimal.{decimal, decimal-length}
 use Rattle.table.specs.Layout.{bound}
+use Rattle.disc.specs.Part.{unfit}
 use Rattle.drive.specs.declared.sense.Sense.{Sense}
 use Rattle.outcome.specs.declared.Outcome.{Outcome}
 
@@ -38,16 +39,20 @@ started n o = decimal n next spaced (hexByte (o .status)) next triple (o .state 
 unfoldable pub answered : ℕ → Outcome → List ℕ → List ℕ
 answered n o bytes = started n o next yielded o bytes next lineEnd
 
-unfoldable pub refusal : ℕ → List ℕ
-refusal number = refusedWord next spaced (decimal number)
+-- K6: "the listing program prints it after the 4": the broken rule, and nothing after another number
+unfoldable pub ruleShown : ℕ → ℕ → List ℕ
+ruleShown number rule = if eqb number unfit then spaced (decimal rule) else []
+
+unfoldable pub refusal : ℕ → ℕ → List ℕ
+refusal number rule = refusedWord next spaced (decimal number) next ruleShown number rule
 
 -- "A call refusal prints the number, "refused" and the refusal's number"
-unfoldable pub refused : ℕ → ℕ → List ℕ
-refused n number = decimal n next refusal number next lineEnd
+unfoldable pub refused : ℕ → ℕ → ℕ → List ℕ
+refused n number rule = decimal n next refusal number rule next lineEnd
 
 -- packet n's line, of its outcome and the bytes that it wrote
 unfoldable pub lineOf : ℕ → Outcome → List ℕ → List ℕ
-lineOf n o bytes = if eqb (o .number) 0 then answered n o bytes else refused n (o .number)
+lineOf n o bytes = if eqb (o .number) 0 then answered n o bytes else refused n (o .number) (o .rule)
 
 -- ---- no line is longer than the memory that the program lends for it
 
@@ -75,9 +80,18 @@ answered-length n o bytes =
     let b = yielded-length o bytes in
     simp length-append (omega arith)
 
-refused-length : (n number : ℕ) → length (refused n number) ≤ 50
+ruleShown-length : (number rule : ℕ) → length (ruleShown number rule) ≤ 21
+unfolding ruleShown
+ruleShown-length number rule =
+    either (λ (x : List ℕ). length x ≤ 21) (eqb number unfit) (λ _. let a = decimal-length rule in omega arith) (λ _. omega arith)
+
+refused-length : (n number rule : ℕ) → length (refused n number rule) ≤ 71
 unfolding refused refusal
-refused-length n number = let a = decimal-length n in let b = decimal-length number in simp length-append (omega arith)
+refused-length n number rule =
+    let a = decimal-length n in
+    let b = decimal-length number in
+    let c = ruleShown-length number rule in
+    simp length-append (omega arith)
 
 pub line-fits : (n : ℕ) (o : Outcome) (bytes : List ℕ) → length bytes ≤ bound → length (lineOf n o bytes) ≤ 14000
 unfolding lineOf
@@ -86,4 +100,4 @@ line-fits n o bytes h =
     (λ (x : List ℕ). length x ≤ 14000)
     (eqb (o .number) 0)
     (λ _. let k = answered-length n o bytes in omega arith)
-    (λ _. let k = refused-length n (o .number) in omega arith)
+    (λ _. let k = refused-length n (o .number) (o .rule) in omega arith)

@@ -1,4 +1,5 @@
 // A packet's line.
+use disc::part::UNFIT;
 use ground::memory::copy_front;
 use ground::number::wide;
 use outcome::Outcome;
@@ -8,7 +9,7 @@ use print::hex::next_hex;
 use print::hex::next_shown;
 use print::hex::next_three;
 ghost use Rattle.ground.specs.Memory.{Laid};
-ghost use Rattle.listing.specs.Line.{blocks, yielded, started, answered, refusal, refused, lineOf};
+ghost use Rattle.listing.specs.Line.{blocks, yielded, started, answered, ruleShown, refusal, refused, lineOf};
 
 // The blocks that an answer names: start and count.
 fn next_blocks(o: Outcome, out: &mut [u8]) -> usize
@@ -50,21 +51,32 @@ fn put_answered(n: usize, o: Outcome, bytes: &[u8], out: &mut [u8]) -> usize
     at
 }
 
-// That the packet was refused, and by which number.
-fn next_refusal(number: u8, out: &mut [u8]) -> usize
-    ensures { λ r. ⌜ Laid (now (out .entry)) (refusal number) r (now (out .exit)) ⌝ }
+// The broken rule, after a 4 alone.
+fn next_rule(number: u8, rule: u8, out: &mut [u8]) -> usize
+    ensures { λ r. ⌜ Laid (now (out .entry)) (ruleShown number rule) r (now (out .exit)) ⌝ }
+{
+    if number == UNFIT {
+        return next_decimal(wide(rule), out);
+    }
+    0
+}
+
+// That the packet was refused, by which number, and with which rule.
+fn next_refusal(number: u8, rule: u8, out: &mut [u8]) -> usize
+    ensures { λ r. ⌜ Laid (now (out .entry)) (refusal number rule) r (now (out .exit)) ⌝ }
 {
     let mut at = copy_front(b" refused", out);
     at += next_decimal(wide(number), &mut out[at..]);
+    at += next_rule(number, rule, &mut out[at..]);
     at
 }
 
 // Packet n's refusal.
-fn put_refused(n: usize, number: u8, out: &mut [u8]) -> usize
-    ensures { λ r. ⌜ Laid (now (out .entry)) (refused n number) r (now (out .exit)) ⌝ }
+fn put_refused(n: usize, number: u8, rule: u8, out: &mut [u8]) -> usize
+    ensures { λ r. ⌜ Laid (now (out .entry)) (refused n number rule) r (now (out .exit)) ⌝ }
 {
     let mut at = put_decimal(n, out);
-    at += next_refusal(number, &mut out[at..]);
+    at += next_refusal(number, rule, &mut out[at..]);
     at += copy_front(b"\n", &mut out[at..]);
     at
 }
@@ -76,5 +88,5 @@ pub(crate) fn put_line(n: usize, o: Outcome, bytes: &[u8], out: &mut [u8]) -> us
     if o.number == 0 {
         return put_answered(n, o, bytes, out);
     }
-    put_refused(n, o.number, out)
+    put_refused(n, o.number, o.rule, out)
 }

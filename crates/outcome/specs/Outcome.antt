@@ -24,10 +24,11 @@ stateOf a = record { unit = a .unit; mechanics = a .mechanics }
 abbrev pub bytesOf : Reply Mechanics → List ℕ
 bytesOf a = take (a .limit) (a .full)
 
--- what is handed back of an answer: its number, status, how many bytes, start, count, and the state
+-- what is handed back of an answer: its number and rule, status, how many bytes, start, count, and the state
 abbrev pub outcomeOf : Reply Mechanics → Outcome
 outcomeOf a = record {
   number = a .number;
+  rule = a .rule;
   status = a .status;
   len = min (a .limit) (length (a .full));
   start = a .start;
@@ -43,17 +44,18 @@ pub record Answered (a : Reply Mechanics) (m : List ℕ) (r : Outcome) (m′ : L
 -- ---- what each way out hands back
 
 -- a refusal: "status 0, 0 bytes, start 0, count 0", the state unchanged
-abbrev pub refused : ℕ → Drive → Outcome
-refused n d = record { number = n; status = 0; len = 0; start = 0; count = 0; state = d }
+abbrev pub refused : ℕ → ℕ → Drive → Outcome
+refused n r d = record { number = n; rule = r; status = 0; len = 0; start = 0; count = 0; state = d }
 
 -- "CHECK CONDITION is status 02h, no bytes, .., the triple held as sense"
 abbrev pub checked : Sense → Unit → Mechanics → Outcome
-checked s u m = record { number = 0; status = 0x02; len = 0; start = 0; count = 0; state = record { unit = hold s u; mechanics = m } }
+checked s u m =
+    record { number = 0; rule = 0; status = 0x02; len = 0; start = 0; count = 0; state = record { unit = hold s u; mechanics = m } }
 
 -- "GOOD is status 00h"
 abbrev pub granted : ℕ → ℕ → ℕ → Unit → Mechanics → Outcome
 granted len start count u m =
-    record { number = 0; status = 0x00; len = len; start = start; count = count; state = record { unit = u; mechanics = m } }
+    record { number = 0; rule = 0; status = 0x00; len = len; start = start; count = count; state = record { unit = u; mechanics = m } }
 
 -- a command's end: CHECK CONDITION over the unit u, or GOOD over the unit v, a loading attended to
 abbrev pub finished : Unit → Unit → Mechanics → Done → Outcome

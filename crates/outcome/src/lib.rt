@@ -13,9 +13,11 @@ ghost use mathlib.Core.Path.{_≡_};
 ghost use Rattle.gate.specs.Unit.{attentionSense, told};
 ghost use Rattle.outcome.specs.Outcome.{refused, checked, granted, finished};
 
-// The refusal's number or 0, the status, how many bytes were written, the blocks that a READ names, and the next state.
+// The refusal's number or 0, beside 4 the table's first broken rule, the status, how many bytes were written, the blocks that a READ
+// names, and the next state.
 pub struct Outcome {
     pub number: u8,
+    pub rule: u8,
     pub status: u8,
     pub len: usize,
     pub start: usize,
@@ -24,11 +26,12 @@ pub struct Outcome {
 }
 
 // A refusal: nothing done, the state as it was handed in.
-pub fn refuse(number: u8, state: Drive) -> Outcome
-    ensures { λ r. ⌜ r ≡ refused number state ⌝ }
+pub fn refuse(number: u8, rule: u8, state: Drive) -> Outcome
+    ensures { λ r. ⌜ r ≡ refused number rule state ⌝ }
 {
     Outcome {
         number,
+        rule,
         status: 0,
         len: 0,
         start: 0,
@@ -43,6 +46,7 @@ pub fn check(sense: Sense, unit: Unit, mechanics: Mechanics) -> Outcome
 {
     Outcome {
         number: 0,
+        rule: 0,
         status: 0x02,
         len: 0,
         start: 0,
@@ -60,6 +64,7 @@ pub fn good(len: usize, start: usize, count: usize, unit: Unit, mechanics: Mecha
 {
     Outcome {
         number: 0,
+        rule: 0,
         status: 0x00,
         len,
         start,

@@ -2,6 +2,7 @@
 use Prim.Native.Nat.{ℕ}
 use mathlib.Core.Bool.{Bool}
 use mathlib.Core.List.{List, [], _∷_}
+use lib.Dec.{eqb}
 use lib.ListN.{length, take}
 use Rattle.ground.specs.Tests.{if_then_else_}
 use Rattle.ground.specs.Number.{bytes32}
@@ -11,6 +12,7 @@ use Rattle.print.specs.Decimal.{decimal}
 use Rattle.print.specs.Sum.{adler32}
 use Rattle.drive.specs.declared.sense.Sense.{Sense}
 use Rattle.drive.specs.declared.state.Drive.{Drive}
+use Rattle.disc.specs.Part.{unfit}
 use Rattle.outcome.specs.declared.Outcome.{Outcome}
 
 abbrev pub lineEnd : List ℕ
@@ -42,6 +44,13 @@ stateText d = spaced (flags d) next triple (d .unit .sense)
 unfoldable pub call : ℕ → ℕ → List ℕ
 call letter number = (letter ∷ []) next spaced (decimal number)
 
+-- K6: "where N is 4, in `p` and `s` lines, it is written `4.R`, R the broken rule"
+unfoldable pub ruleText : ℕ → ℕ → List ℕ
+ruleText number rule = if eqb number unfit then 46 ∷ decimal rule else []
+
+unfoldable pub ruledCall : ℕ → ℕ → ℕ → List ℕ
+ruledCall letter number rule = call letter number next ruleText number rule
+
 -- "SUM the Adler-32 .., as eight capital hex digits"
 abbrev pub sumText : List ℕ → List ℕ
 sumText s = spaced (shown (bytes32 (adler32 s)))
@@ -55,7 +64,7 @@ movedLine letter number d = call letter number next stateText d next lineEnd
 
 -- `p N ST LEN START COUNT`
 unfoldable pub outcomeText : Outcome → List ℕ
-outcomeText o = call 112 (o .number) next spaced (hexByte (o .status)) next decimals (o .len) (o .start) (o .count)
+outcomeText o = ruledCall 112 (o .number) (o .rule) next spaced (hexByte (o .status)) next decimals (o .len) (o .start) (o .count)
 
 -- `DATA SUM`
 unfoldable pub memoryText : List ℕ → List ℕ → List ℕ
@@ -78,5 +87,5 @@ unfoldable pub partText : List ℕ → List ℕ
 partText part = spaced (decimal (length part)) next sumText part
 
 -- `s N LEN SUM`
-unfoldable pub partLine : ℕ → List ℕ → List ℕ
-partLine number part = call 115 number next partText part next lineEnd
+unfoldable pub partLine : ℕ → ℕ → List ℕ → List ℕ
+partLine number rule part = ruledCall 115 number rule next partText part next lineEnd

@@ -282,7 +282,8 @@ fn call_part(body: &[u8], bench: Bench, table: &[u8], line: &mut [u8]) -> Turn {
     if body.len() == 1 {
         let k = body[0];
         let t = front(table, bench.table);
-        let len = put_part(session_refusal(t, k), session_part(t, k), line);
+        let refusal = session_refusal(t, k);
+        let len = put_part(refusal.number, refusal.rule, session_part(t, k), line);
         return printed(len, bench);
     }
     bad(bench, line)

@@ -1,10 +1,12 @@
 // The lines that a call prints.
+use disc::part::UNFIT;
 use drive::state::Drive;
 use ground::memory::copy_front;
 use ground::number::bytes32;
 use ground::number::wide;
 use outcome::Outcome;
 use print::decimal::next_decimal;
+use print::decimal::put_decimal;
 use print::front::front;
 use print::hex::next_hex;
 use print::hex::next_shown;
@@ -13,7 +15,7 @@ use print::sum::adler32;
 ghost use mathlib.Core.Path.{_≡_};
 ghost use Rattle.ground.specs.Memory.{Laid};
 ghost use Rattle.replay.specs.Line.{digit as Line·digit};
-ghost use Rattle.replay.specs.Line.{stateText, call, sumText, decimals, movedLine, outcomeText, memoryText, packetLine, msfLine, addressLine, partText, partLine};
+ghost use Rattle.replay.specs.Line.{stateText, call, ruleText, ruledCall, sumText, decimals, movedLine, outcomeText, memoryText, packetLine, msfLine, addressLine, partText, partLine};
 
 // A flag as '0' or '1'.
 fn digit(b: bool) -> u8
@@ -55,6 +57,27 @@ fn put_call(letter: u8, number: u8, out: &mut [u8]) -> usize
     at
 }
 
+// The broken rule after a dot, where the number is 4.
+fn put_rule(number: u8, rule: u8, out: &mut [u8]) -> usize
+    ensures { λ r. ⌜ Laid (now (out .entry)) (ruleText number rule) r (now (out .exit)) ⌝ }
+{
+    if number == UNFIT {
+        let mut at = copy_front(b".", out);
+        at += put_decimal(wide(rule), &mut out[at..]);
+        return at;
+    }
+    0
+}
+
+// The letter and number of a call that a table's rule can stand beside, and the rule.
+fn put_ruled(letter: u8, number: u8, rule: u8, out: &mut [u8]) -> usize
+    ensures { λ r. ⌜ Laid (now (out .entry)) (ruledCall letter number rule) r (now (out .exit)) ⌝ }
+{
+    let mut at = put_call(letter, number, out);
+    at += put_rule(number, rule, &mut out[at..]);
+    at
+}
+
 // The Adler-32 of the bytes.
 fn next_sum(s: &[u8], out: &mut [u8]) -> usize
     ensures { λ r. ⌜ Laid (now (out .entry)) (sumText (now (s .entry))) r (now (out .exit)) ⌝ }
@@ -87,7 +110,7 @@ pub(crate) fn put_moved(letter: u8, number: u8, d: Drive, out: &mut [u8]) -> usi
 fn put_outcome(o: Outcome, out: &mut [u8]) -> usize
     ensures { λ r. ⌜ Laid (now (out .entry)) (outcomeText o) r (now (out .exit)) ⌝ }
 {
-    let mut at = put_call(b'p', o.number, out);
+    let mut at = put_ruled(b'p', o.number, o.rule, out);
     at += next_hex(o.status, &mut out[at..]);
     at += next_decimals(o.len, o.start, o.count, &mut out[at..]);
     at
@@ -144,10 +167,10 @@ fn next_part(part: &[u8], out: &mut [u8]) -> usize
 }
 
 // The line of a session's part.
-pub(crate) fn put_part(number: u8, part: &[u8], out: &mut [u8]) -> usize
-    ensures { λ r. ⌜ Laid (now (out .entry)) (partLine number (now (part .entry))) r (now (out .exit)) ⌝ }
+pub(crate) fn put_part(number: u8, rule: u8, part: &[u8], out: &mut [u8]) -> usize
+    ensures { λ r. ⌜ Laid (now (out .entry)) (partLine number rule (now (part .entry))) r (now (out .exit)) ⌝ }
 {
-    let mut at = put_call(b's', number, out);
+    let mut at = put_ruled(b's', number, rule, out);
     at += next_part(part, &mut out[at..]);
     at += copy_front(b"\n", &mut out[at..]);
     at

@@ -12,7 +12,7 @@ use Rattle.drive.specs.Sense.{isKnown}
 use Rattle.drive.specs.State.{isLoaded, unknownSense}
 use Rattle.table.specs.Layout.{bound}
 use Rattle.disc.specs.Rules.{isFit}
-use Rattle.disc.specs.Part.{unfit}
+use Rattle.disc.specs.Part.{unfit, ruleWith}
 use Rattle.gate.specs.Gate.{Reply, refuse, gate, pass, requestSense}
 use Rattle.command.specs.declared.decode.Command.{Command}
 use Rattle.command.specs.declared.decode.Kind.{Kind}
@@ -44,8 +44,8 @@ refusalOf d p t n =
     else (if ltb n bound then shortMemory
     else (if isLoaded (d .mechanics) and not (isFit t) then unfit else 0)))
 
--- K9: no number is tested after the steps (claims' Whole: no full answer passes the bound)
+-- K6: "Refusal 4 carries that number"; K9: no number is tested after the steps (claims' Whole: no full answer passes the bound)
 unfoldable pub answer : Drive → List ℕ → List ℕ → ℕ → Reply Mechanics
 answer d p t n =
     if eqb (refusalOf d p t n) 0 then steps (decode (codeOf p)) (d .unit) (d .mechanics) p t
-    else refuse (refusalOf d p t n) (d .unit) (d .mechanics)
+    else refuse (refusalOf d p t n) (ruleWith (refusalOf d p t n) t) (d .unit) (d .mechanics)

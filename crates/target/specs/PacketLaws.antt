@@ -15,8 +15,9 @@ use Rattle.drive.specs.declared.state.Drive.{Drive}
 use Rattle.drive.specs.Sense.{isKnown}
 use Rattle.drive.specs.State.{isLoaded, unknownSense}
 use Rattle.table.specs.Layout.{bound}
-use Rattle.disc.specs.Rules.{isFit}
-use Rattle.disc.specs.Part.{unfit}
+use Rattle.disc.specs.Rules.{fault, isFit}
+use Rattle.disc.specs.Part.{unfit, ruleWith}
+use Rattle.disc.specs.PartLaws.{ruleWith-none, ruleWith-fault}
 use Rattle.disc.specs.declared.disc.Disc.{Disc}
 use Rattle.gate.specs.declared.unit.Pending.{Pending}
 use Rattle.gate.specs.declared.unit.Pending.the-variants.{Power, Change, Nothing}
@@ -58,8 +59,8 @@ written-pass u m (goes next loading full limit start count) = refl
 
 -- ---- Answered
 
-pub answered-refused : (n : ℕ) (d : Drive) (m : List ℕ) → Answered (refuse n (d .unit) (d .mechanics)) m (refused n d) m
-answered-refused n d m = record { outcome = refl; memory = sym (fill-none m) }
+pub answered-refused : (n r : ℕ) (d : Drive) (m : List ℕ) → Answered (refuse n r (d .unit) (d .mechanics)) m (refused n r d) m
+answered-refused n r d m = record { outcome = refl; memory = sym (fill-none m) }
 
 pub answered-check : (s : Sense) (u : Unit) (k : Mechanics) {o : Outcome} (m : List ℕ) → o ≡ checked s u k → Answered (check s u k) m o m
 answered-check s u k m e = record { outcome = e; memory = sym (fill-none m) }
@@ -91,32 +92,42 @@ answered-good full u k {limit} {n} h l =
 -- ---- the refusals in order
 
 module _ (d : Drive) (p t : List ℕ) (n : ℕ) where
-  refused-by : (k : ℕ) → refusalOf d p t n ≡ k → (k ≡ 0 → ⊥) → answer d p t n ≡ refuse k (d .unit) (d .mechanics)
+  -- by k with the rule r beside it, and with none
+  refused-by :
+      (k : ℕ) {r : ℕ} → refusalOf d p t n ≡ k → (k ≡ 0 → ⊥) → r ≡ ruleWith k t → answer d p t n ≡ refuse k r (d .unit) (d .mechanics)
   unfolding answer
-  refused-by k e z = unless _ _ _ (ne-eqb _ 0 (λ h. z (sym e ∙ h))) ∙ ap (λ (x : ℕ). refuse x (d .unit) (d .mechanics)) e
+  refused-by k e z h =
+      unless _ _ _ (ne-eqb _ 0 (λ w. z (sym e ∙ w)))
+      ∙ ap (λ (x : ℕ). refuse x (ruleWith x t) (d .unit) (d .mechanics)) e
+      ∙ ap (λ (x : ℕ). refuse k x (d .unit) (d .mechanics)) (sym h)
 
-  pub answer-1 : (length p ≡ 12 → ⊥) → answer d p t n ≡ refuse notTwelve (d .unit) (d .mechanics)
+  refused-plainly : (k : ℕ) → refusalOf d p t n ≡ k → (k ≡ 0 → ⊥) → (k ≡ unfit → ⊥) → answer d p t n ≡ refuse k 0 (d .unit) (d .mechanics)
+  refused-plainly k e z w = refused-by k e z (ruleWith-none k t w)
+
+  pub answer-1 : (length p ≡ 12 → ⊥) → answer d p t n ≡ refuse notTwelve 0 (d .unit) (d .mechanics)
   unfolding refusalOf
-  answer-1 h = refused-by notTwelve (when _ _ _ (ap not (ne-eqb _ _ h))) (λ z. omega arith)
+  answer-1 h = refused-plainly notTwelve (when _ _ _ (ap not (ne-eqb _ _ h))) (λ z. omega arith) (λ z. omega arith)
 
   module _ (a : length p ≡ 12) where
-    pub answer-2 : isKnown (d .unit .sense) ≡ false → answer d p t n ≡ refuse unknownSense (d .unit) (d .mechanics)
+    pub answer-2 : isKnown (d .unit .sense) ≡ false → answer d p t n ≡ refuse unknownSense 0 (d .unit) (d .mechanics)
     unfolding refusalOf
-    answer-2 h = refused-by unknownSense (unless _ _ _ (ap not (eq-eqb _ _ a)) ∙ when _ _ _ (ap not h)) (λ z. omega arith)
+    answer-2 h =
+        refused-plainly unknownSense (unless _ _ _ (ap not (eq-eqb _ _ a)) ∙ when _ _ _ (ap not h)) (λ z. omega arith) (λ z. omega arith)
 
     module _ (b : isKnown (d .unit .sense) ≡ true) where
-      pub answer-3 : n < bound → answer d p t n ≡ refuse shortMemory (d .unit) (d .mechanics)
+      pub answer-3 : n < bound → answer d p t n ≡ refuse shortMemory 0 (d .unit) (d .mechanics)
       unfolding refusalOf
       answer-3 h =
-          refused-by shortMemory (unless _ _ _ (ap not (eq-eqb _ _ a)) ∙ unless _ _ _ (ap not b) ∙ when _ _ _ (lt-ltb _ _ h)) (λ z. omega arith)
+          refused-plainly shortMemory (unless _ _ _ (ap not (eq-eqb _ _ a)) ∙ unless _ _ _ (ap not b) ∙ when _ _ _ (lt-ltb _ _ h))
+          (λ z. omega arith) (λ z. omega arith)
 
       module _ (c : bound ≤ n) where
-        pub answer-4 : isLoaded (d .mechanics) ≡ true → isFit t ≡ false → answer d p t n ≡ refuse unfit (d .unit) (d .mechanics)
+        pub answer-4 : isLoaded (d .mechanics) ≡ true → isFit t ≡ false → answer d p t n ≡ refuse unfit (fault t) (d .unit) (d .mechanics)
         unfolding refusalOf
         answer-4 h k =
             refused-by unfit
             (unless _ _ _ (ap not (eq-eqb _ _ a)) ∙ unless _ _ _ (ap not b) ∙ unless _ _ _ (le-ltb _ _ c) ∙ when _ _ _ (and-both _ _ h (ap not k)))
-            (λ z. omega arith)
+            (λ z. omega arith) (ruleWith-fault t)
 
         -- none of them: the steps
         pub answer-steps : (isLoaded (d .mechanics) ≡ true → isFit t ≡ true) → answer d p t n ≡ stepsOf d p t

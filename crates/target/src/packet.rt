@@ -113,7 +113,7 @@ fn unread() -> Disc
     }
 }
 
-// Refusal 4: a loaded drive's table is read first.
+// Refusal 4, with the broken rule: a loaded drive's table is read first.
 fn meet(d: Drive, p: &[u8], t: &[u8], mem: &mut [u8]) -> Outcome
     requires { ⌜ (length (now p) ≡ 12) × (isKnown (d .unit .sense) ≡ true) × (bound ≤ length (now mem)) ⌝ }
     ensures { λ r. ⌜ Answered (answer d (now (p .entry)) (now (t .entry)) (length (now (mem .entry)))) (now (mem .entry)) r (now (mem .exit)) ⌝ }
@@ -121,7 +121,7 @@ fn meet(d: Drive, p: &[u8], t: &[u8], mem: &mut [u8]) -> Outcome
     if d.mechanics.is_loaded() {
         return match read(t) {
             Reading::Fit(disc) => steps(d, p, t, disc, mem),
-            Reading::Unfit(_) => refuse(UNFIT, d),
+            Reading::Unfit(rule) => refuse(UNFIT, rule, d),
         };
     }
     steps(d, p, t, unread(), mem)
@@ -134,11 +134,11 @@ pub fn packet(d: Drive, p: &[u8], t: &[u8], mem: &mut [u8]) -> Outcome
     if p.len() == 12 {
         if is_known(d.unit.sense) {
             if mem.len() < BOUND {
-                return refuse(SHORT_MEMORY, d);
+                return refuse(SHORT_MEMORY, 0, d);
             }
             return meet(d, p, t, mem);
         }
-        return refuse(UNKNOWN_SENSE, d);
+        return refuse(UNKNOWN_SENSE, 0, d);
     }
-    refuse(NOT_TWELVE, d)
+    refuse(NOT_TWELVE, 0, d)
 }

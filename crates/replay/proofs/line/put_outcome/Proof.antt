@@ -7,7 +7,7 @@ use Rattle.replay.proofs.line.put_outcome.Tie as tie
 
 returns : tie.Need-returns
 unfolding outcomeText
-returns c = laid-more (laid-more (c .before .before .before .before .before .before .before .before .before .before .put-call .ensures) (c .before .before .before .before .before .before .next-hex .ensures)) (c .before .before .next-decimals .ensures)
+returns c = laid-more (laid-more (c .before .before .before .before .before .before .before .before .before .before .put-ruled .ensures) (c .before .before .before .before .before .before .next-hex .ensures)) (c .before .before .next-decimals .ensures)
 
 pub put-outcome-spec : {M : Type 1} → statement M
 put-outcome-spec =

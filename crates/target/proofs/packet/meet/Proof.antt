@@ -1,8 +1,11 @@
 -- `target::packet::meet` meets its contract: a loaded drive's table is fit or the call is refused.
-use mathlib.Core.Path.{sym, _∙_}
+use Prim.Native.Nat.{ℕ}
+use mathlib.Core.Path.{sym, ap, _∙_}
 use mathlib.Core.Bool.{true≢false}
 use denote.Ref.{now}
+use Rattle.disc.specs.Part.{unfit}
 use Rattle.disc.specs.DiscLaws.{reading-fit, reading-unfit}
+use Rattle.outcome.specs.Outcome.{refused}
 use Rattle.target.specs.FitFacts.{read-off}
 use Rattle.target.specs.PacketLaws.{answer-4, answer-steps, answered-refused}
 use borrow.Author.Needs.{needs}
@@ -21,11 +24,14 @@ returns c = let x = c .before .before .before .before .before .before .before .b
     rw (answer-steps (x .d) (now (x .p)) (now (x .t)) _ (q .0) (q .1) (q .2) (λ h. reading-fit _ _ r .0)) (c .before .before .steps .ensures)
 
 returns-2 : tie.Need-returns-2
-returns-2 c = let x = c .before .before .before .before .before .before .before .before .before .args in
-    let q = c .before .before .before .before .before .before .before .before .before .pre in
-    let r = reading-unfit _ _ (sym (c .before .before .before .read .ensures) ∙ c .before .enum-told .given .1) in
-    let l = sym (c .before .before .before .before .before .is-loaded .ensures) ∙ c .before .before .before .before .if1 .taken in
-    rw (answer-4 (x .d) (now (x .p)) (now (x .t)) _ (q .0) (q .1) (q .2) l r, c .refuse .ensures) (answered-refused _ _ _)
+returns-2 c = let x = c .before .before .before .before .before .before .before .before .before .before .args in
+    let q = c .before .before .before .before .before .before .before .before .before .before .pre in
+    let r = reading-unfit _ _ (sym (c .before .before .before .before .read .ensures) ∙ c .before .before .rule .given .1) in
+    let h = c .before .before .before .before .before .if1 .taken in
+    let l = sym (c .before .before .before .before .before .before .is-loaded .ensures) ∙ h in
+    let e = answer-4 (x .d) (now (x .p)) (now (x .t)) _ (q .0) (q .1) (q .2) l (r .0) in
+    let o = c .refuse .ensures ∙ ap (λ (n : ℕ). refused unfit n (x .d)) (r .1) in
+    rw (e, o) (answered-refused _ _ _ _)
 
 steps-requires-2 : tie.Need-steps-requires-2
 steps-requires-2 c κs = let q = c .before .before .before .before .before .before .before .pre in
