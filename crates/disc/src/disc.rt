@@ -40,6 +40,7 @@ pub enum Reading {
     Unfit(u8),
 }
 
+// Rules 1 and 2, and then the walk.
 pub fn read(t: &[u8]) -> Reading
     ensures { λ r. ⌜ r ≡ reading (now (t .entry)) ⌝ }
 {

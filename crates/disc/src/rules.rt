@@ -72,14 +72,14 @@ fn each_row(n: usize, d: &[u8]) -> bool
     true
 }
 
-// Rule 4, of n sessions, of which `passed` stand in their places: the next begins at `from` and with track `first`.
-fn rule4(n: u8, d: &[u8], passed: u8, from: usize, first: usize) -> bool
-    requires { ⌜ Reached n (now d) passed from first ⌝ }
+// Rule 4, of n sessions, of which `passed` stand in their places: the next begins at `from` and with track `track`.
+fn rule4(n: u8, d: &[u8], passed: u8, from: usize, track: usize) -> bool
+    requires { ⌜ Reached n (now d) passed from track ⌝ }
     ensures { λ r. ⌜ r ≡ inOrder n (now (d .entry)) ⌝ }
 {
     let mut k = passed;
     let mut at = from;
-    let mut next = first;
+    let mut next = track;
     while k < n {
         match read_session(&d[at..], wide(k) + 1) {
             Session::Is { first, last, bytes } => {

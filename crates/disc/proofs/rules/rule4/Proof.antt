@@ -11,10 +11,10 @@ use Rattle.disc.proofs.rules.rule4.Statement.{statement}
 use Rattle.disc.proofs.rules.rule4.Tie as tie
 
 abbrev Inv-loop : tie.InvT-loop
-Inv-loop n d passed from first k₀ at₀ next₀ k at next = Reached n d k at next
+Inv-loop n d passed from track k₀ at₀ next₀ k at next = Reached n d k at next
 
 abbrev μ-loop : tie.MeasureT-loop
-μ-loop n d passed from first k₀ at₀ next₀ k at next = n - k
+μ-loop n d passed from track k₀ at₀ next₀ k at next = n - k
 
 -- what the reader told of the session that begins here
 read :
