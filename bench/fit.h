@@ -5,5 +5,4 @@
 unsigned fault(const uint8_t *t, size_t n);            /* plain C, a function a rule: the broken rule, or 0 */
 unsigned fit_in_one_pass(const uint8_t *t, size_t n);  /* plain C, all rules in one pass: 1 for fit, 0 for not */
 unsigned fit_by_words(const uint8_t *t, size_t n);     /* the same, four bytes at a time */
-uint8_t measured_fault(const uint8_t *t, size_t n);    /* disc::rules::fault */
 size_t measured_read(const uint8_t *t, size_t n);      /* disc::disc::read: the broken rule in the high half */

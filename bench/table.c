@@ -1,6 +1,6 @@
-/* table [b0c0] SESSIONS TRACKS [ROWS [late]]: writes a fit table of 3 * SESSIONS + TRACKS descriptors; the first session has the tracks that are
-   over. `b0c0` ends each session with a B0h and a C0h descriptor: 2 * SESSIONS more. ROWS keeps that many descriptors; `late` puts the last
-   lead-out at block 0, which breaks rule 7 as late as can be. */
+/* table [b0c0] SESSIONS TRACKS [ROWS] [ROW.BYTE=VALUE]..: writes a fit table of 3 * SESSIONS + TRACKS descriptors; the first session has the
+   tracks that are over. `b0c0` ends each session with a B0h and a C0h descriptor: 2 * SESSIONS more. ROWS keeps that many descriptors. What
+   follows puts a value into a byte of a descriptor, which is how a rule is broken. */
 #include <stdio.h>
 #include <stdlib.h>
 #include <string.h>
@@ -38,14 +38,14 @@ int main(int argc, char **argv)
     int mode5 = argc > 1 && !strcmp(argv[1], "b0c0");
     argc -= mode5;
     argv += mode5;
-    if (argc < 3 || argc > 5)
+    if (argc < 3)
         return 2;
     unsigned sessions = atoi(argv[1]), tracks = atoi(argv[2]), track = 1, at = 0;
     for (unsigned k = 1; k <= sessions; k++) {
         unsigned count = k == 1 ? tracks - (sessions - 1) : 1;
         put(k, 0xA0, track, 0, 0);
         put(k, 0xA1, track + count - 1, 0, 0);
-        put_at(k, 0xA2, argc == 5 && k == sessions ? 0 : at + 1000 * count);
+        put_at(k, 0xA2, at + 1000 * count);
         for (unsigned i = 0; i < count; i++, at += 1000)
             put_at(k, track++, at);
         if (mode5) {
@@ -54,8 +54,13 @@ int main(int argc, char **argv)
         }
         at += 1000;
     }
-    if (argc >= 4 && atoi(argv[3]) < (int)n)
-        n = atoi(argv[3]);
+    for (int i = 3; i < argc; i++) {
+        unsigned row, byte, value;
+        if (sscanf(argv[i], "%u.%u=%u", &row, &byte, &value) == 3)
+            d[11 * row + byte] = value;
+        else if (atoi(argv[i]) < (int)n)
+            n = atoi(argv[i]);
+    }
     unsigned length = 11 * n + 2;
     putchar(length / 256);
     putchar(length % 256);

@@ -4,11 +4,6 @@
 #include <string.h>
 #include "fit.h"
 
-static unsigned told_by_fault(const uint8_t *t, size_t n)
-{
-    return measured_fault(t, n);
-}
-
 static unsigned told_by_read(const uint8_t *t, size_t n)
 {
     return measured_read(t, n) >> 32;
@@ -27,8 +22,6 @@ int main(int argc, char **argv)
         measured = fit_in_one_pass;
     else if (!strcmp(argv[1], "words"))
         measured = fit_by_words;
-    else if (!strcmp(argv[1], "fault"))
-        measured = told_by_fault;
     else if (!strcmp(argv[1], "read"))
         measured = told_by_read;
     else

@@ -1,9 +1,10 @@
 -- What a reading tells: a fit table's disc, or that the table is not fit.
-use mathlib.Core.Path.{_≡_, refl, sym, _∙_}
+use mathlib.Core.Path.{_≡_, refl, sym, ap, _∙_}
 use mathlib.Core.Bool.{Bool, true, false}
 use mathlib.Core.List.{List}
-use Prim.Native.Nat.{ℕ}
+use Prim.Native.Nat.{ℕ, _≤_}
 use native.Mathlib.Omega.{arith}
+use borrow.Author.Tests.{ne-eqb}
 use Rattle.ground.specs.Tests.{when, unless}
 use Rattle.disc.specs.Rules.{fault, isFit}
 use Rattle.disc.specs.Disc.{discOf, reading}
@@ -30,3 +31,8 @@ reading-unfit t n h = decided (isFit t) refl
         let k = sym (when _ (Fit (discOf t)) (Unfit (fault t)) e) ∙ h in
         let z : _≡_ {A = ℕ} 0 1 = cc in absurd (omega arith)
     decided false e = let k = sym (unless _ (Fit (discOf t)) (Unfit (fault t)) e) ∙ h in (e, cc)
+
+-- the reading of a table that is not fit is the first broken rule
+pub reading-broken : (t : List ℕ) {n : ℕ} → n ≡ fault t → 1 ≤ n → Unfit n ≡ reading t
+unfolding reading isFit
+reading-broken t e l = ap Unfit e ∙ sym (unless _ _ _ (ne-eqb (fault t) 0 (λ z. omega arith)))

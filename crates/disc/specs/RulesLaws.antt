@@ -2,19 +2,21 @@
 use mathlib.Core.Path.{_≡_, refl, sym, ap, _∙_}
 use mathlib.Core.Bool.{Bool, true, false, not}
 use mathlib.Core.List.{List, [], _∷_}
-use Prim.Native.Nat.{ℕ, suc, _+_, _-_, _*_, _%_, _≤_, _<_}
+use Prim.Native.Nat.{ℕ, suc, _+_, _-_, _*_, _/_, _%_, _≤_, _<_}
 use native.Mathlib.Omega.{arith}
 use native.Mathlib.Numerals.{add-one}
+use native.Mathlib.Nat.{lt-of-not-le}
+use native.Mathlib.Decide.{decLe}
 use borrow.Author.Tests.{leb-true, eq-eqb, eqb-true}
 use lib.Dec.{eqb}
 use lib.ListN.{length, drop, length-drop}
-use Rattle.ground.specs.Tests.{_and_, every, if_then_else_, when, unless, and-head, and-tail, every-none, every-step, every-more, every-breaks}
-use Rattle.table.specs.Row.{rowAt, rowTest}
+use Rattle.ground.specs.Tests.{_and_, every, and-head, and-tail, every-none, every-more, every-at, every-all, every-breaks}
+use Rattle.table.specs.Row.{rowFrom, rowAt, rowTest}
+use Rattle.table.specs.RowLaws.{rowFrom-drop}
 use Rattle.table.specs.declared.row.Row.{Row}
 use Rattle.table.specs.Layout.{bound, dataLength, firstSession, lastSession, header, row, descriptors, rows}
 use Rattle.sessions.specs.Session.{tracks, size, starts, session, inPlace, inOrder}
-use Rattle.sessions.specs.SessionLaws.{IsSession, size-least, Walked, walked-none, walked-next, walked-all, starts-within, placed, inOrder-places, inOrder-end, rowsBefore, starts-rows}
-use Rattle.disc.specs.declared.rules.Rows.{Rows}
+use Rattle.sessions.specs.SessionLaws.{IsSession, size-least, Walked, walked-next, walked-all, starts-within, placed, inOrder-places, inOrder-end, rowsBefore, starts-rows}
 use Rattle.disc.specs.Rules.{rule1, rule2, eachRow, leadOut, trackStart, rises, outBefore, beginsAfter, rising, rule7, firstBroken, lateRules, rowRules, fault, isFit}
 
 -- ---- the first broken rule
@@ -68,63 +70,67 @@ same-test false false f g = refl
 
 -- ---- rules 3, 5 and 6, descriptor by descriptor
 
--- what one pass tells: whether each is kept, and nothing of 5 and 6 where 3 is not
-unfoldable pub rowsTold : List ℕ → Rows
-rowsTold d =
-    if eachRow 3 d then record { three = true; five = eachRow 5 d; six = eachRow 6 d }
-    else record { three = false; five = false; six = false }
+-- the descriptors up to byte `at` keep rule n
+pub record Tested (n : ℕ) (d : List ℕ) (at : ℕ) : Type 0 where
+  pub whole : at % row ≡ 0
+  pub within : at ≤ length d
+  pub passed : every (at / row) (λ i. rowTest n (rowAt d i)) ≡ true
 
--- the first j descriptors keep rule 3, and `five` and `six` tell whether they keep the others
-pub record Tested (d : List ℕ) (j : ℕ) (five six : Bool) : Type 0 where
-  pub turns : j ≤ rows d
-  pub three : every j (λ i. rowTest 3 (rowAt d i)) ≡ true
-  pub told5 : five ≡ every j (λ i. rowTest 5 (rowAt d i))
-  pub told6 : six ≡ every j (λ i. rowTest 6 (rowAt d i))
+pub tested-none : (n : ℕ) (d : List ℕ) → Tested n d 0
+tested-none n d = record { whole = refl; within = omega arith; passed = every-none _ }
 
-pub tested-none : (d : List ℕ) → Tested d 0 true true
-tested-none d = record { turns = omega arith; three = every-none _; told5 = sym (every-none _); told6 = sym (every-none _) }
+module _ {n : ℕ} {d : List ℕ} {at : ℕ} (t : Tested n d at) where
+  -- the next one is there, and is descriptor at / row
+  tested-here : {r : Row} {b : Bool} → r ≡ rowFrom d at → rowTest n r ≡ b → rowTest n (rowAt d (at / row)) ≡ b
+  tested-here e h =
+      let w = t .whole in
+      let q : row * (at / row) ≡ at = omega arith in
+      ap (λ (x : ℕ). rowTest n (rowFrom d x)) q ∙ ap (rowTest n) (sym e) ∙ h
 
-module _ {d : List ℕ} {j : ℕ} {five six : Bool} (t : Tested d j five six) where
   pub tested-next :
-      {r : Row} {a b : Bool} → j < rows d → r ≡ rowAt d j → rowTest 3 r ≡ true → a ≡ five and rowTest 5 r → b ≡ six and rowTest 6 r
-      → Tested d (j + 1) a b
-  tested-next {r} l e h p q = record {
-    turns = omega arith;
-    three = every-more j (λ i. rowTest 3 (rowAt d i)) (t .three) (ap (rowTest 3) (sym e) ∙ h);
-    told5 = p ∙ rw (t .told5, e) (sym (every-step j (λ i. rowTest 5 (rowAt d i))));
-    told6 = q ∙ rw (t .told6, e) (sym (every-step j (λ i. rowTest 6 (rowAt d i))));
-  }
+      {r : Row} → length d % row ≡ 0 → at < length d → r ≡ rowFrom d at → rowTest n r ≡ true → Tested n d (at + row)
+  tested-next l i e h =
+      let w = t .whole in
+      let q : (at + row) / row ≡ at / row + 1 = omega arith in
+      record {
+        whole = omega arith;
+        within = omega arith;
+        passed = rw q (every-more (at / row) (λ i. rowTest n (rowAt d i)) (t .passed) (tested-here e h));
+      }
 
-  -- the first descriptor that breaks rule 3 decides
-  pub tested-breaks :
-      {r : Row} → j < rows d → r ≡ rowAt d j → rowTest 3 r ≡ false
-      → _≡_ {A = Rows} (record { three = false; five = false; six = false }) (rowsTold d)
-  unfolding rowsTold eachRow
-  tested-breaks l e h = sym (unless _ _ _ (sym (every-breaks (rows d) (λ i. rowTest 3 (rowAt d i)) j l (ap (rowTest 3) (sym e) ∙ h))))
+  -- the first that fails breaks the rule
+  pub tested-breaks : {r : Row} → length d % row ≡ 0 → at < length d → r ≡ rowFrom d at → rowTest n r ≡ false → false ≡ eachRow n d
+  unfolding eachRow
+  tested-breaks l i e h =
+      let w = t .whole in every-breaks (rows d) (λ j. rowTest n (rowAt d j)) (at / row) (omega arith) (tested-here e h)
 
-  pub tested-end : rows d ≤ j → _≡_ {A = Rows} (record { three = true; five = five; six = six }) (rowsTold d)
-  unfolding rowsTold eachRow
+  pub tested-end : length d ≤ at → true ≡ eachRow n d
+  unfolding eachRow
   tested-end l =
-      let u = t .turns in
-      let e : j ≡ rows d = omega arith in
-      let a = rw e at (t .three) in
-      let b = rw e at (t .told5) in
-      let c = rw e at (t .told6) in
-      rw (b, c) (sym (when _ _ _ a))
+      let w = t .within in
+      let e : at ≡ length d = omega arith in
+      sym (rw e at (t .passed))
 
--- what it tells of rule 3, and then of the others
-pub rowsTold-three : (d : List ℕ) {r : Rows} → r ≡ rowsTold d → r .three ≡ eachRow 3 d
-unfolding rowsTold
-rowsTold-three d {r} e = ap (λ (x : Rows). x .three) e ∙ decided (eachRow 3 d) refl
+-- where those before byte `at` keep it, what is left of the table decides
+pub eachRow-rest :
+    (n : ℕ) (d : List ℕ) (j : ℕ) → row * j ≤ length d → ((i : ℕ) → i < j → rowTest n (rowAt d i) ≡ true)
+    → eachRow n (drop (row * j) d) ≡ eachRow n d
+unfolding eachRow
+eachRow-rest n d j h f = same-test _ _
+    (λ e. every-all _ _ (λ i l. elim (decLe j i) [
+      | yes g ↦ (let z : i ≡ j + (i - j) = omega arith in rw z (sym (ap (rowTest n) (there (i - j))) ∙ every-at _ _ e (i - j) (left (i - j) (omega arith))))
+      | no g ↦ f i (lt-of-not-le g)
+    ]))
+    (λ e. every-all _ _ (λ i l. ap (rowTest n) (there i) ∙ every-at _ _ e (j + i) (all i l)))
   where
-    decided : (b : Bool) → eachRow 3 d ≡ b → rowsTold d .three ≡ eachRow 3 d
-    decided true h = ap (λ (x : Rows). x .three) (when _ _ _ h) ∙ sym h
-    decided false h = ap (λ (x : Rows). x .three) (unless _ _ _ h) ∙ sym h
+    there : (i : ℕ) → rowAt (drop (row * j) d) i ≡ rowAt d (j + i)
+    there i = rowFrom-drop d (row * j) (row * i) ∙ ap (rowFrom d) (omega arith)
 
-pub rowsTold-late : (d : List ℕ) {r : Rows} → r ≡ rowsTold d → r .three ≡ true → (r .five ≡ eachRow 5 d) × (r .six ≡ eachRow 6 d)
-unfolding rowsTold
-rowsTold-late d {r} e h =
-    let q = e ∙ when _ _ _ (sym (rowsTold-three d e) ∙ h) in (ap (λ (x : Rows). x .five) q, ap (λ (x : Rows). x .six) q)
+    left : (i : ℕ) → j + i < rows d → i < rows (drop (row * j) d)
+    left i l = let e = length-drop (row * j) d in omega arith
+
+    all : (i : ℕ) → i < rows (drop (row * j) d) → j + i < rows d
+    all i l = let e = length-drop (row * j) d in omega arith
 
 -- ---- rule 7, session by session
 
@@ -133,10 +139,6 @@ pub record Risen (n : ℕ) (d : List ℕ) (k at out : ℕ) : Type 0 where
   pub walked : Walked n d k at
   pub passed : every k (rising d) ≡ true
   pub lead : out ≡ outBefore d k
-
-pub risen-none : (n : ℕ) (d : List ℕ) → Risen n d 0 0 0
-unfolding outBefore
-risen-none n d = record { walked = walked-none n d; passed = every-none (rising d); lead = refl }
 
 pub outBefore-next : (d : List ℕ) (k : ℕ) → outBefore d (k + 1) ≡ leadOut (session d k)
 unfolding outBefore

@@ -9,7 +9,10 @@ use Rattle.table.specs.Layout.{row, A2, B0, C0}
 use Rattle.table.specs.Row.{rowFrom, rowAt, framesAt}
 use Rattle.table.specs.Asked.{kept, a0Kept, a1Kept, extraKept, extraPassed, climbs, holds}
 use Rattle.sessions.specs.Session.{first, last, tracks, b0s, size, starts, session}
-use Rattle.disc.specs.declared.walk.Verdict.{Verdict}
+use Rattle.disc.specs.Rules.{firstBroken, rowRules}
+use Rattle.disc.specs.Disc.{discFrom}
+use Rattle.disc.specs.declared.disc.Reading.{Reading}
+use Rattle.disc.specs.declared.disc.Reading.the-variants.{Fit, Unfit}
 
 -- all that is asked of A0, A1 and A2 of session k
 unfoldable pub headsKept : List ℕ → ℕ → Bool
@@ -72,6 +75,6 @@ stepKept d k = sessionKept (k + 1) (session d k) (floorOf d k) and eqb (first (s
 unfoldable pub walkKept : ℕ → List ℕ → Bool
 walkKept n d = every n (stepKept d) and eqb (starts d n) (length d)
 
--- what the walk answers: whether the table is fit, and where its last session begins, 0 where it is not
-abbrev pub verdict : Bool → ℕ → Verdict
-verdict b at = record { fit = b; «last_at» = if b then at else 0 }
+-- what the walk over the descriptors of n sessions answers: their disc, or the first broken rule of 3 to 7
+unfoldable pub rowsReading : ℕ → List ℕ → Reading
+rowsReading n d = if walkKept n d then Fit (discFrom n d) else Unfit (firstBroken 3 (rowRules n d))

@@ -1,24 +1,27 @@
 -- The one walk decides fitness: a walk that is kept keeps rules 3 to 7, and that of a fit table is kept.
 use mathlib.Core.Path.{_≡_, refl, sym, ap, _∙_}
 use mathlib.Core.Bool.{true, false}
-use mathlib.Core.List.{List}
+use mathlib.Core.List.{List, _∷_}
 use Prim.Native.Nat.{ℕ, zero, suc, _+_, _-_, _≤_, _<_}
 use native.Mathlib.Omega.{arith}
 use native.Mathlib.Numerals.{add-one}
 use borrow.Author.Tests.{lt-ltb, eq-eqb, eqb-true, ne-eqb}
 use lib.Dec.{eqb}
 use lib.ListN.{length}
-use Rattle.ground.specs.Tests.{and-head, and-tail, and-both, every-at, every-all, or-left, or-right, or-else}
-use Rattle.table.specs.Layout.{lastSession, descriptors, rows}
+use Rattle.ground.specs.Tests.{every, and-head, and-tail, and-both, every-at, every-all, or-left, or-right, or-else}
+use Rattle.table.specs.Layout.{lastSession, descriptors}
 use Rattle.table.specs.Row.{rowAt, framesAt, rowTest}
 use Rattle.table.specs.RowLaws.{startOf-frames, headed-A0, headed-A1, rowTest-3, rowTest-5, rowTest-6}
 use Rattle.table.specs.AskedLaws.{climbs-low, range-climbs, range-holds, range-least}
 use Rattle.sessions.specs.Session.{first, tracks, count, starts, session, before, follows, inPlace, inOrder}
-use Rattle.sessions.specs.SessionLaws.{isSession-true, inPlace-follows, starts-rows}
-use Rattle.disc.specs.Rules.{rule1, rule2, eachRow, leadOut, trackStart, outBefore, beginsAfter, rising, rule7, isFit}
-use Rattle.disc.specs.RulesLaws.{Fit, same-test, isFit-true, fit-isFit, fit-places, fit-end, fit-session}
-use Rattle.disc.specs.FitLaws.{rowAt-session, Place, locate, session-none, fit-listed, fit-rule, fit-range, fit-rises, fit-begins}
-use Rattle.disc.specs.Walk.{floorAt, floorOf, nextOf, stepKept, walkKept}
+use Rattle.sessions.specs.SessionLaws.{isSession-true, inPlace-follows, rowsBefore, starts-rows}
+use Rattle.disc.specs.Rules.{rule1, rule2, eachRow, leadOut, trackStart, outBefore, beginsAfter, rising, rule7, rowRules, fault, isFit}
+use Rattle.disc.specs.RulesLaws.{firstBroken-on, firstBroken-off, Fit, same-test, isFit-true, fit-isFit, fit-places, fit-end, fit-session}
+use Rattle.disc.specs.FitLaws.{rowAt-session, locate, session-none, fit-listed, fit-rule, fit-range, fit-rises, fit-begins}
+use Rattle.disc.specs.Walk.{floorAt, floorOf, nextOf, stepKept, walkKept, rowsReading}
+use Rattle.disc.specs.Disc.{reading}
+use Rattle.disc.specs.DiscLaws.{reading-broken}
+use Rattle.disc.specs.declared.disc.Reading.the-variants.{Unfit}
 use Rattle.disc.specs.WalkLaws.{floorAt-next, Sound, sessionKept-sound, sound-sessionKept, sound-lead, sound-headed, sound-addressed, sound-rises}
 
 -- ---- the track with which a session begins
@@ -28,67 +31,90 @@ unfolding nextOf follows before
 next-follows d zero = eq-eqb _ _ (ap first (session-none d)) ∙ sym (or-left _ _ refl)
 next-follows d (suc k) = sym (or-else _ _ (ne-eqb (suc k) 0 (λ e. omega arith)))
 
+-- ---- n sessions that are kept keep rules 3 to 7
+
+module _ (n : ℕ) (d : List ℕ) (w : every n (stepKept d) ≡ true) where
+  kept-sound : {k : ℕ} → k < n → Sound (k + 1) (session d k) (floorOf d k)
+  unfolding stepKept
+  kept-sound {k} h = sessionKept-sound _ _ _ (and-head _ _ (every-at n (stepKept d) w k h))
+
+  kept-floor : (k : ℕ) → k ≤ n → 150 ≤ floorOf d k
+  unfolding floorOf
+  kept-floor zero h = omega arith
+  kept-floor (suc k) h = let l = sound-lead (kept-sound {k = k} (omega arith)) (kept-floor k (omega arith)) in omega arith
+
+  -- a test that each session's descriptors pass, those of them all pass
+  kept-rows :
+      (r : ℕ) → ((k i : ℕ) → k < n → i < count (session d k) → rowTest r (rowAt (session d k) i) ≡ true)
+      → (j : ℕ) → j < rowsBefore d n → rowTest r (rowAt d j) ≡ true
+  kept-rows r each j h =
+      let q = locate d n j h in
+      rw (q .place) (ap (rowTest r) (sym (rowAt-session d (q .k) (q .i))) ∙ each (q .k) (q .i) (q .below) (q .inside))
+
+  pub kept-rule3 : (j : ℕ) → j < rowsBefore d n → rowTest 3 (rowAt d j) ≡ true
+  kept-rule3 = kept-rows 3 (λ k i l g. rowTest-3 _ ∙ kept-sound l .rule3 i g)
+
+  pub kept-rule5 : (j : ℕ) → j < rowsBefore d n → rowTest 5 (rowAt d j) ≡ true
+  kept-rule5 = kept-rows 5 (λ k i l g. rowTest-5 _ ∙ sound-headed (kept-sound l) i g)
+
+  pub kept-rule6 : (j : ℕ) → j < rowsBefore d n → rowTest 6 (rowAt d j) ≡ true
+  kept-rule6 = kept-rows 6 (λ k i l g. rowTest-6 _ ∙ sound-addressed (kept-sound l) (kept-floor k (omega arith)) i g)
+
+  pub kept-places : every n (inPlace d) ≡ true
+  unfolding inPlace stepKept
+  kept-places =
+      every-all _ _ (λ k h. and-both _ _ (isSession-true (kept-sound h .is))
+      (sym (next-follows d k) ∙ and-tail _ _ (every-at n (stepKept d) w k h)))
+
+  -- a session begins after the lead-out of the one before
+  kept-begins : (k : ℕ) → k < n → beginsAfter k (outBefore d k) (trackStart (session d k) 0) ≡ true
+  unfolding beginsAfter outBefore floorOf floorAt
+  kept-begins zero h = or-left _ _ refl
+  kept-begins (suc k) h =
+      let o = kept-sound h in
+      let v = o .is .order in
+      let r = climbs-low (rowAt (session d (suc k)) 3) (framesAt (session d k) 2 + 1) (o .rise 0 (omega arith)) in
+      let l = sound-lead (kept-sound {k = k} (omega arith)) (kept-floor k (omega arith)) in
+      let p = startOf-frames (rowAt (session d k) 2) in
+      let q = startOf-frames (rowAt (session d (suc k)) 3) in
+      or-right _ _ (lt-ltb (leadOut (session d k)) (trackStart (session d (suc k)) 0) (omega arith))
+
+  pub kept-rising : every n (rising d) ≡ true
+  unfolding rising
+  kept-rising = every-all _ _ (λ k h. and-both _ _ (sound-rises (kept-sound h) (kept-floor k (omega arith))) (kept-begins k h))
+
 -- ---- a walk that is kept keeps rules 3 to 7
 
 module _ (n : ℕ) (d : List ℕ) (w : walkKept n d ≡ true) where
-  walk-step : {k : ℕ} → k < n → stepKept d k ≡ true
+  walk-steps : every n (stepKept d) ≡ true
   unfolding walkKept
-  walk-step {k} h = every-at n (stepKept d) (and-head _ _ w) k h
-
-  walk-sound : {k : ℕ} → k < n → Sound (k + 1) (session d k) (floorOf d k)
-  unfolding stepKept
-  walk-sound h = sessionKept-sound _ _ _ (and-head _ _ (walk-step h))
+  walk-steps = and-head _ _ w
 
   walk-end : starts d n ≡ length d
   unfolding walkKept
   walk-end = eqb-true _ _ (and-tail _ _ w)
 
-  walk-floor : (k : ℕ) → k ≤ n → 150 ≤ floorOf d k
-  unfolding floorOf
-  walk-floor zero h = omega arith
-  walk-floor (suc k) h = let l = sound-lead (walk-sound {k = k} (omega arith)) (walk-floor k (omega arith)) in omega arith
-
-  -- each descriptor is one of a session's
-  walk-locate : (j : ℕ) → j < rows d → Place d n j
-  walk-locate j h = locate d n j (let e = walk-end in let r = starts-rows d n in omega arith)
-
-  -- a test that each session's descriptors pass the table's pass
-  walk-rows :
-      (r : ℕ) → ((k i : ℕ) → k < n → i < count (session d k) → rowTest r (rowAt (session d k) i) ≡ true) → eachRow r d ≡ true
+  -- every descriptor is one of its sessions'
+  walk-rows : (r : ℕ) → ((j : ℕ) → j < rowsBefore d n → rowTest r (rowAt d j) ≡ true) → eachRow r d ≡ true
   unfolding eachRow
-  walk-rows r each = every-all _ _ (λ j h. let q = walk-locate j h in
-      rw (q .place) (ap (rowTest r) (sym (rowAt-session d (q .k) (q .i))) ∙ each (q .k) (q .i) (q .below) (q .inside)))
+  walk-rows r each = every-all _ _ (λ j h. each j (let e = walk-end in let s = starts-rows d n in omega arith))
 
   pub walk-rule3 : eachRow 3 d ≡ true
-  walk-rule3 = walk-rows 3 (λ k i l g. rowTest-3 _ ∙ walk-sound l .rule3 i g)
+  walk-rule3 = walk-rows 3 (kept-rule3 n d walk-steps)
 
   pub walk-rule5 : eachRow 5 d ≡ true
-  walk-rule5 = walk-rows 5 (λ k i l g. rowTest-5 _ ∙ sound-headed (walk-sound l) i g)
+  walk-rule5 = walk-rows 5 (kept-rule5 n d walk-steps)
 
   pub walk-rule6 : eachRow 6 d ≡ true
-  walk-rule6 = walk-rows 6 (λ k i l g. rowTest-6 _ ∙ sound-addressed (walk-sound l) (walk-floor k (omega arith)) i g)
+  walk-rule6 = walk-rows 6 (kept-rule6 n d walk-steps)
 
   pub walk-rule4 : inOrder n d ≡ true
-  unfolding inOrder inPlace stepKept
-  walk-rule4 =
-      and-both _ _ (every-all _ _ (λ k h. and-both _ _ (isSession-true (walk-sound h .is)) (sym (next-follows d k) ∙ and-tail _ _ (walk-step h)))) (eq-eqb _ _ walk-end)
-
-  -- a session begins after the lead-out of the one before
-  walk-begins : (k : ℕ) → k < n → beginsAfter k (outBefore d k) (trackStart (session d k) 0) ≡ true
-  unfolding beginsAfter outBefore floorOf floorAt
-  walk-begins zero h = or-left _ _ refl
-  walk-begins (suc k) h =
-      let o = walk-sound h in
-      let v = o .is .order in
-      let r = climbs-low (rowAt (session d (suc k)) 3) (framesAt (session d k) 2 + 1) (o .rise 0 (omega arith)) in
-      let l = sound-lead (walk-sound {k = k} (omega arith)) (walk-floor k (omega arith)) in
-      let p = startOf-frames (rowAt (session d k) 2) in
-      let q = startOf-frames (rowAt (session d (suc k)) 3) in
-      or-right _ _ (lt-ltb (leadOut (session d k)) (trackStart (session d (suc k)) 0) (omega arith))
+  unfolding inOrder
+  walk-rule4 = and-both _ _ (kept-places n d walk-steps) (eq-eqb _ _ walk-end)
 
   pub walk-rule7 : rule7 n d ≡ true
-  unfolding rule7 rising
-  walk-rule7 = every-all _ _ (λ k h. and-both _ _ (sound-rises (walk-sound h) (walk-floor k (omega arith))) (walk-begins k h))
+  unfolding rule7
+  walk-rule7 = kept-rising n d walk-steps
 
 -- ---- the walk of a fit table is kept
 
@@ -99,7 +125,8 @@ module _ {t : List ℕ} (f : Fit t) where
   fit-floor zero h =
       let s = fit-session f h .order in range-least _ (fit-range f {k = 0} {i = 3} h (omega arith) (omega arith))
   fit-floor (suc k) h =
-      let b : leadOut (session (descriptors t) k) < trackStart (session (descriptors t) (suc k)) 0 = rw (add-one k) at (fit-begins f k (omega arith)) in
+      let b : leadOut (session (descriptors t) k) < trackStart (session (descriptors t) (suc k)) 0 = rw (add-one k) at
+      (fit-begins f k (omega arith)) in
       let p = startOf-frames (rowAt (session (descriptors t) k) 2) in
       let q = startOf-frames (rowAt (session (descriptors t) (suc k)) 3) in
       omega arith
@@ -115,7 +142,8 @@ module _ {t : List ℕ} (f : Fit t) where
       omega arith
 
   fit-top : {k : ℕ} → k < lastSession t
-      → floorAt (session (descriptors t) k) (floorOf (descriptors t) k) (tracks (session (descriptors t) k)) ≤ framesAt (session (descriptors t) k) 2
+      → floorAt (session (descriptors t) k) (floorOf (descriptors t) k) (tracks (session (descriptors t) k)) ≤ framesAt
+      (session (descriptors t) k) 2
   fit-top {k} h =
       let v = fit-session f h .order in
       let e : tracks (session (descriptors t) k) ≡ tracks (session (descriptors t) k) - 1 + 1 = omega arith in
@@ -156,8 +184,19 @@ walk-fit t h g = same-test _ _
       rule7 = walk-rule7 _ _ w;
     })) (λ e. fit-walk (isFit-true e))
 
-pub unfit-rule1 : (t : List ℕ) → rule1 t ≡ false → false ≡ isFit t
-unfit-rule1 t h = same-test _ _ (λ e. absurd (let z : _≡_ {A = ℕ} 0 1 = cc in omega arith)) (λ e. sym h ∙ isFit-true e .rule1)
+-- ---- what the walk answers is the reading
 
-pub unfit-rule2 : (t : List ℕ) → rule2 t ≡ false → false ≡ isFit t
-unfit-rule2 t h = same-test _ _ (λ e. absurd (let z : _≡_ {A = ℕ} 0 1 = cc in omega arith)) (λ e. sym h ∙ isFit-true e .rule2)
+pub reading-walk : (t : List ℕ) → rule1 t ≡ true → rule2 t ≡ true → rowsReading (lastSession t) (descriptors t) ≡ reading t
+unfolding rowsReading reading fault
+reading-walk t h g =
+    let e = firstBroken-on 1 _ (rule2 t ∷ rowRules (lastSession t) (descriptors t)) h
+    (firstBroken-on 2 _ (rowRules (lastSession t) (descriptors t)) g refl) in
+    rw (walk-fit t h g, e)
+
+pub reading-1 : (t : List ℕ) → rule1 t ≡ false → Unfit 1 ≡ reading t
+unfolding fault
+reading-1 t h = reading-broken t (firstBroken-off 1 _ _ h) (omega arith)
+
+pub reading-2 : (t : List ℕ) → rule1 t ≡ true → rule2 t ≡ false → Unfit 2 ≡ reading t
+unfolding fault
+reading-2 t h g = reading-broken t (firstBroken-on 1 _ _ h (firstBroken-off 2 _ _ g)) (omega arith)

@@ -1,26 +1,34 @@
--- The walk step by step, for the code: over a session's tracks, its B0h and C0h, and the sessions.
+-- The walk step by step, for the code: over a session's tracks, its B0h and C0h, and the sessions, and the rules from where it stops.
 use mathlib.Core.Path.{_≡_, refl, sym, ap, _∙_}
 use mathlib.Core.Bool.{Bool, true, false}
 use mathlib.Core.List.{List}
-use Prim.Native.Nat.{ℕ, _+_, _-_, _*_, _%_, _≤_, _<_}
+use Prim.Native.Nat.{ℕ, zero, suc, _+_, _-_, _*_, _%_, _≤_, _<_}
 use native.Mathlib.Omega.{arith}
 use native.Mathlib.Numerals.{add-one}
 use native.Mathlib.Nat.{add-zero}
 use native.Mathlib.Decide.{ℕ-discrete}
 use borrow.Author.Tests.{le-leb, eq-eqb, eqb-true, ne-eqb}
-use lib.ListN.{length, getD, drop, List·getD-eq-default}
+use lib.ListN.{length, getD, drop, length-drop, List·getD-eq-default}
+use lib.Seq.{drop-drop}
 use lib.Dec.{eqb}
 use Rattle.ground.specs.Tests.{_and_, if_then_else_, when, unless, every, and-on, and-off, and-late, and-both, and-head, and-tail, and-with, every-none, every-more, every-breaks}
 use Rattle.table.specs.Layout.{row, pointAt, B0, C0}
-use Rattle.table.specs.Row.{rowFrom, rowAt, framesOf, framesAt, names}
+use Rattle.table.specs.Row.{rowFrom, rowAt, framesOf, framesAt, names, rowTest}
+use Rattle.table.specs.RowLaws.{startOf-frames}
 use Rattle.table.specs.declared.row.Row.{Row}
 use Rattle.table.specs.Asked.{kept, extraPassed, climbs, holds}
 use Rattle.table.specs.AskedLaws.{extraPassed-kept, extraPassed-other}
-use Rattle.sessions.specs.Session.{first, last, tracks, one, b0s, size, starts, session}
-use Rattle.sessions.specs.SessionLaws.{one-is, one-not, size-heads, size-whole, Walked, walked-none, walked-next, walked-all}
-use Rattle.disc.specs.Walk.{headsKept, floorAt, trackKept, tracksKept, tracksEnd, extrasKept, sessionKept, extraEnd, extrasEnd, sessionEnd, floorOf, nextOf, stepKept, walkKept, verdict}
-use Rattle.disc.specs.declared.walk.Verdict.{Verdict}
+use Rattle.sessions.specs.Session.{first, last as lastOf, tracks, one, b0s, size, isSession, starts, session, before, follows, inPlace, inOrder}
+use Rattle.sessions.specs.SessionLaws.{IsSession, isSession-parts, one-is, one-not, size-heads, size-whole, size-least, placed, Told, Walked, walked-none, walked-next, walked-all, rowsBefore, starts-rows}
+use Rattle.disc.specs.Rules.{eachRow, outBefore, firstBroken, rowRules}
+use Rattle.disc.specs.RulesLaws.{eachRow-rest, Risen}
+use Rattle.disc.specs.FitLaws.{session-none}
+use Rattle.disc.specs.Disc.{discFrom}
+use Rattle.disc.specs.Walk.{headsKept, floorAt, trackKept, tracksKept, tracksEnd, extrasKept, sessionKept, extraEnd, extrasEnd, sessionEnd, floorOf, nextOf, stepKept, walkKept, rowsReading}
 use Rattle.disc.specs.WalkLaws.{floorAt-next, floorOf-next, sessionKept-sound}
+use Rattle.disc.specs.WalkFit.{next-follows, kept-rule3, kept-rule5, kept-rule6, kept-places, kept-rising}
+use Rattle.disc.specs.declared.disc.Disc.{Disc}
+use Rattle.disc.specs.declared.disc.Reading.the-variants.{Fit, Unfit}
 
 -- ---- a session's tracks
 
@@ -112,17 +120,36 @@ extraEnd-rows d k j p = elim (ℕ-discrete (pointAt d j) p) [
     there : row * j + row ≡ row * (j + 1)
     there = omega arith
 
+-- past the end stands none
+extraEnd-past : (d : List ℕ) (k at p : ℕ) → length d ≤ at → 1 ≤ p → at ≡ extraEnd d k at p
+unfolding extraEnd
+extraEnd-past d k at p h l =
+    sym (unless _ _ _ (ne-eqb (getD d (at + 3) 0) p (λ e. let z = List·getD-eq-default d 0 {n = at + 3} (omega arith) in omega arith)))
+
+pub extrasEnd-past : (d : List ℕ) (k at : ℕ) → length d ≤ at → at ≡ extrasEnd d k at
+unfolding extrasEnd
+extrasEnd-past d k at h =
+    let b = extraEnd-past d k at B0 h (omega arith) in
+    elim (ℕ-discrete at 0) [
+      | yes e ↦ e ∙ sym (when _ _ _ (eq-eqb _ _ (sym b ∙ e)))
+      | no e ↦ extraEnd-past d k at C0 h (omega arith)
+          ∙ ap (λ (x : ℕ). extraEnd d k x C0) b
+          ∙ sym (unless _ _ _ (ne-eqb _ _ (λ z. e (b ∙ z))))
+    ]
+
 -- both end where the session does, if they are kept
 extrasEnd-rows :
     (d : List ℕ) (k : ℕ) → extrasEnd d k (row * (3 + tracks d)) ≡ (if extrasKept d k then size d else 0)
 unfolding extrasEnd extrasKept size
 extrasEnd-rows d k = decided (extraPassed (rowAt d (3 + tracks d)) k B0) refl
   where
-    first-end : extraEnd d k (row * (3 + tracks d)) B0 ≡ (if extraPassed (rowAt d (3 + tracks d)) k B0 then row * (3 + tracks d + b0s d) else 0)
+    first-end :
+        extraEnd d k (row * (3 + tracks d)) B0 ≡ (if extraPassed (rowAt d (3 + tracks d)) k B0 then row * (3 + tracks d + b0s d) else 0)
     first-end = extraEnd-rows d k (3 + tracks d) B0
 
     decided :
-        (b : Bool) → extraPassed (rowAt d (3 + tracks d)) k B0 ≡ b → extrasEnd d k (row * (3 + tracks d)) ≡ (if extrasKept d k then size d else 0)
+        (b : Bool) → extraPassed (rowAt d (3 + tracks d)) k B0 ≡ b → extrasEnd d k (row * (3 + tracks d)) ≡
+        (if extrasKept d k then size d else 0)
     decided true e =
         let q : extraEnd d k (row * (3 + tracks d)) B0 ≡ row * (3 + tracks d + b0s d) = first-end ∙ when _ _ _ e in
         unless _ _ _ (ne-eqb _ _ (λ z. let y = sym q ∙ z in omega arith))
@@ -146,7 +173,8 @@ sessionEnd-not k d next floor n = decided (sessionKept k d floor and eqb (first 
 
 -- the tracks' end tells whether they are kept
 tracksEnd-told :
-    (d : List ℕ) (k f n floor : ℕ) {e : ℕ} → e ≡ tracksEnd d k f n floor → (e ≡ 0 → ⊥) → (tracksKept d k f n floor ≡ true) × (e ≡ row * (3 + n))
+    (d : List ℕ) (k f n floor : ℕ) {e : ℕ} → e ≡ tracksEnd d k f n floor → (e ≡ 0 → ⊥) → (tracksKept d k f n floor ≡ true) ×
+    (e ≡ row * (3 + n))
 unfolding tracksEnd
 tracksEnd-told d k f n floor {e} h z = decided (tracksKept d k f n floor) refl
   where
@@ -164,7 +192,7 @@ tracksEnd-none d k f n floor h = decided (tracksKept d k f n floor) refl
 
 -- all but the last test hold: what is left are the B0h and the C0h
 pub sessionEnd-on :
-    (k : ℕ) (d : List ℕ) (next floor : ℕ) {end : ℕ} → length d % row ≡ 0 → 1 ≤ first d → first d ≡ next → first d ≤ last d → last d ≤ 99
+    (k : ℕ) (d : List ℕ) (next floor : ℕ) {end : ℕ} → length d % row ≡ 0 → 1 ≤ first d → first d ≡ next → first d ≤ lastOf d → lastOf d ≤ 99
     → headsKept d k ≡ true → end ≡ tracksEnd d k (first d) (tracks d) floor → (end ≡ 0 → ⊥) → end ≤ length d
     → extrasEnd d k end ≡ sessionEnd k d next floor
 unfolding sessionEnd sessionKept
@@ -185,7 +213,8 @@ pub sessionEnd-told :
 unfolding sessionEnd
 sessionEnd-told k d next floor {e} h n = decided (sessionKept k d floor and eqb (first d) next) refl
   where
-    decided : (b : Bool) → (sessionKept k d floor and eqb (first d) next) ≡ b → (sessionKept k d floor ≡ true) × (first d ≡ next) × (e ≡ size d)
+    decided :
+        (b : Bool) → (sessionKept k d floor and eqb (first d) next) ≡ b → (sessionKept k d floor ≡ true) × (first d ≡ next) × (e ≡ size d)
     decided true q = (and-head _ _ q, eqb-true _ _ (and-tail _ _ q), h ∙ when _ _ _ q)
     decided false q = absurd (n (h ∙ unless _ _ _ q))
 
@@ -201,45 +230,44 @@ sessionEnd-none k d next floor h = decided (sessionKept k d floor and eqb (first
 
 -- ---- the sessions
 
-pub nextOf-next : (d : List ℕ) (k : ℕ) → nextOf d (k + 1) ≡ last (session d k) + 1
+pub nextOf-next : (d : List ℕ) (k : ℕ) → nextOf d (k + 1) ≡ lastOf (session d k) + 1
 unfolding nextOf
 nextOf-next d k = rw (add-one k)
 
--- k of n sessions are passed: the last began at `back`, the next begins at `at`, with track `next`, and may start at frame `floor` or later
-pub record Trod (n : ℕ) (d : List ℕ) (k at back next floor : ℕ) : Type 0 where
+-- k of n sessions are kept: the next begins at `at`, with track `next`, and may start at frame `floor` or later
+pub record Trod (n : ℕ) (d : List ℕ) (k at next floor : ℕ) : Type 0 where
   pub walked : Walked n d k at
   pub passed : every k (stepKept d) ≡ true
-  pub behind : back ≡ starts d (k - 1)
   pub track : next ≡ nextOf d k
   pub least : floor ≡ floorOf d k
 
-pub trod-none : (n : ℕ) (d : List ℕ) {next : ℕ} → next ≡ first d → Trod n d 0 0 0 next 150
-unfolding nextOf floorOf starts
-trod-none n d e = record { walked = walked-none n d; passed = every-none _; behind = refl; track = e; least = refl }
+pub trod-none : (n : ℕ) (d : List ℕ) {next : ℕ} → next ≡ first d → Trod n d 0 0 next 150
+unfolding nextOf floorOf
+trod-none n d e = record { walked = walked-none n d; passed = every-none _; track = e; least = refl }
 
-module _ {n : ℕ} {d : List ℕ} {k at back next floor : ℕ} (r : Trod n d k at back next floor) where
+module _ {n : ℕ} {d : List ℕ} {k at next floor : ℕ} (r : Trod n d k at next floor) where
   module _ (i : k < n) where
     pub trod-next :
-        {e l o : ℕ} → e ≡ sessionEnd (k + 1) (drop at d) next floor → (e ≡ 0 → ⊥) → l ≡ last (drop at d) → o ≡ framesAt (drop at d) 2
-        → Trod n d (k + 1) (at + e) at (l + 1) (o + 1)
+        {e l o : ℕ} → e ≡ sessionEnd (k + 1) (drop at d) next floor → (e ≡ 0 → ⊥) → l ≡ lastOf (drop at d) → o ≡ framesAt (drop at d) 2
+        → Trod n d (k + 1) (at + e) (l + 1) (o + 1)
     unfolding stepKept
     trod-next {e} {l} {o} h z q u =
         let p = r .walked .place in
         let t = sessionEnd-told (k + 1) (drop at d) next floor h z in
-        let y : k + 1 - 1 ≡ k = omega arith in
         record {
-          behind = p ∙ sym (ap (starts d) y);
           walked = walked-next (r .walked) i (sessionKept-sound _ _ _ (t .0) .is) (t .2);
-          passed = every-more k (stepKept d) (r .passed) (and-both _ _ (rw (p, r .least) at (t .0)) (eq-eqb _ _ (rw (p, r .track) at (t .1))));
-          track = ap (λ (x : ℕ). x + 1) (q ∙ ap (λ (x : ℕ). last (drop x d)) p) ∙ sym (nextOf-next d k);
+          passed =
+              every-more k (stepKept d) (r .passed) (and-both _ _ (rw (p, r .least) at (t .0)) (eq-eqb _ _ (rw (p, r .track) at (t .1))));
+          track = ap (λ (x : ℕ). x + 1) (q ∙ ap (λ (x : ℕ). lastOf (drop x d)) p) ∙ sym (nextOf-next d k);
           least = ap (λ (x : ℕ). x + 1) (u ∙ ap (λ (x : ℕ). framesAt (drop x d) 2) p) ∙ sym (floorOf-next d k);
         }
 
     -- the first session that has no end decides
-    pub trod-breaks : sessionEnd (k + 1) (drop at d) next floor ≡ 0 → false ≡ walkKept n d
+    pub trod-breaks : sessionEnd (k + 1) (drop at d) next floor ≡ 0 → walkKept n d ≡ false
     unfolding walkKept stepKept
     trod-breaks h =
-        and-off _ _ (sym (every-breaks n (stepKept d) k i (rw (r .walked .place, r .least, r .track) at (sessionEnd-none (k + 1) (drop at d) next floor h))))
+        sym (and-off _ _ (sym (every-breaks n (stepKept d) k i
+        (rw (r .walked .place, r .least, r .track) at (sessionEnd-none (k + 1) (drop at d) next floor h)))))
 
   pub trod-end : n ≤ k → eqb at (length d) ≡ walkKept n d
   unfolding walkKept
@@ -247,22 +275,173 @@ module _ {n : ℕ} {d : List ℕ} {k at back next floor : ℕ} (r : Trod n d k a
       let e = walked-all (r .walked) i in
       and-on _ _ (rw e at (r .passed)) (rw (r .walked .place, e))
 
-  pub trod-back : n ≤ k → back ≡ starts d (n - 1)
-  trod-back i = r .behind ∙ ap (λ (x : ℕ). starts d (x - 1)) (walked-all (r .walked) i)
+  -- ---- the rules from there on
 
--- ---- the verdict
+  -- a rule that each descriptor of the sessions passed keeps is decided by what is left
+  trod-rest :
+      (m : ℕ) → ((j : ℕ) → j < rowsBefore d k → rowTest m (rowAt d j) ≡ true) → eachRow m (drop at d) ≡ eachRow m d
+  trod-rest m f =
+      let e = r .walked .place ∙ starts-rows d k in
+      let w = r .walked .within in
+      rw e (eachRow-rest m d (rowsBefore d k) (omega arith) f)
 
-pub verdict-no : {b : Bool} (at : ℕ) → false ≡ b → verdict false 0 ≡ verdict b at
-unfolding if_then_else_
-verdict-no at h = rw (sym h)
+  pub trod-rule3 : eachRow 3 (drop at d) ≡ eachRow 3 d
+  trod-rule3 = trod-rest 3 (kept-rule3 k d (r .passed))
 
-pub verdict-yes : {b : Bool} {x at : ℕ} → b ≡ true → x ≡ at → _≡_ {A = Verdict} (record { fit = true; «last_at» = x }) (verdict b at)
-unfolding if_then_else_
-verdict-yes h e = rw (h, e)
+  pub trod-rule5 : eachRow 5 (drop at d) ≡ eachRow 5 d
+  trod-rule5 = trod-rest 5 (kept-rule5 k d (r .passed))
 
--- what a verdict tells
-pub verdict-told : {v : Verdict} {b : Bool} (at : ℕ) {x : Bool} → v ≡ verdict b at → v .fit ≡ x → b ≡ x
-verdict-told at e h = sym (ap (λ (v : Verdict). v .fit) e) ∙ h
+  pub trod-rule6 : eachRow 6 (drop at d) ≡ eachRow 6 d
+  trod-rule6 = trod-rest 6 (kept-rule6 k d (r .passed))
 
-pub verdict-at : {v : Verdict} {b : Bool} {at : ℕ} → v ≡ verdict b at → v .fit ≡ true → v .«last_at» ≡ at
-verdict-at e h = ap (λ (v : Verdict). v .«last_at») e ∙ when _ _ _ (verdict-told _ e h)
+  -- whole descriptors are left
+  pub trod-whole : length d % row ≡ 0 → length (drop at d) % row ≡ 0
+  trod-whole h =
+      let e = r .walked .place ∙ starts-rows d k in
+      let w = r .walked .within in
+      let l = length-drop at d in
+      omega arith
+
+-- before session k of n: what is left is s, and `last` begins with the session before it
+pub record Walking (n : ℕ) (d : List ℕ) (k : ℕ) (s last : List ℕ) (next floor : ℕ) : Type 0 where
+  pub low : 1 ≤ k
+  pub trod : Trod n d (k - 1) (length d - length s) next floor
+  pub here : s ≡ drop (length d - length s) d
+  pub less : length s ≤ length d
+  pub behind : last ≡ session d (k - 2)
+
+pub walking-none : (n : ℕ) (d : List ℕ) {next : ℕ} → next ≡ first d → Walking n d 1 d d next 150
+walking-none n d e =
+    let z : length d - length d ≡ 0 = omega arith in
+    record { low = omega arith; trod = rw z (trod-none n d e); here = rw z; less = omega arith; behind = sym (session-none d) }
+
+module _ {n : ℕ} {d : List ℕ} {k : ℕ} {s last : List ℕ} {next floor : ℕ} (w : Walking n d k s last next floor) (i : k ≤ n) where
+  -- what the walk asks of the session that s begins with it asks of session k
+  walking-end : sessionEnd k s next floor ≡ sessionEnd (k - 1 + 1) (drop (length d - length s) d) next floor
+  walking-end =
+      let l = w .low in
+      let e : k ≡ k - 1 + 1 = omega arith in
+      ap (λ (x : ℕ). sessionEnd x s next floor) e ∙ ap (λ (x : List ℕ). sessionEnd (k - 1 + 1) x next floor) (w .here)
+
+  -- a session that is kept begins what is left
+  pub walking-session : {e : ℕ} → e ≡ sessionEnd k s next floor → (e ≡ 0 → ⊥) → IsSession k s × (e ≡ size s)
+  walking-session h z = let t = sessionEnd-told k s next floor h z in (sessionKept-sound _ _ _ (t .0) .is, t .2)
+
+  pub walking-next :
+      {e l o : ℕ} {s′ : List ℕ} → e ≡ sessionEnd k s next floor → (e ≡ 0 → ⊥) → l ≡ lastOf s → o ≡ framesAt s 2 → s′ ≡ drop e s
+      → Walking n d (k + 1) s′ s (l + 1) (o + 1)
+  walking-next {e} {l} {o} {s′} h z q u v =
+      let low = w .low in
+      let less = w .less in
+      let t = walking-session h z in
+      let f = t .0 .fits in
+      let r = trod-next (w .trod) (omega arith) (h ∙ walking-end) z (q ∙ ap lastOf (w .here))
+      (u ∙ ap (λ (x : List ℕ). framesAt x 2) (w .here)) in
+      let m : length s′ ≡ length s - e = ap length v ∙ length-drop e s in
+      let a : length d - length s + e ≡ length d - length s′ = omega arith in
+      let b : k - 1 + 1 ≡ k + 1 - 1 = omega arith in
+      let c : k - 1 ≡ k + 1 - 2 = omega arith in
+      record {
+        low = omega arith;
+        trod = rw (a, b) at r;
+        here = v ∙ ap (drop e) (w .here) ∙ drop-drop e (length d - length s) d ∙ ap (λ (x : ℕ). drop x d) a;
+        less = omega arith;
+        behind = w .here ∙ ap (λ (x : ℕ). drop x d) (w .trod .walked .place) ∙ ap (session d) c;
+      }
+
+  -- one that is not kept decides
+  pub walking-breaks : sessionEnd k s next floor ≡ 0 → walkKept n d ≡ false
+  walking-breaks h = trod-breaks (w .trod) (let l = w .low in omega arith) (sym walking-end ∙ h)
+
+-- all are passed: the table is kept if nothing is left, and `last` is its last session
+pub walking-done :
+    {n : ℕ} {d : List ℕ} {k : ℕ} {s last : List ℕ} {next floor : ℕ} → Walking n d k s last next floor → n < k → eqb (length s) 0 ≡ walkKept
+    n d
+walking-done {n} {d} {k} {s} w i = elim (ℕ-discrete (length s) 0) [
+  | yes e ↦ eq-eqb _ _ e ∙ sym (eq-eqb (length d - length s) (length d) (let l = w .less in omega arith)) ∙ trod-end (w .trod) (omega arith)
+  | no e ↦ ne-eqb _ _ e ∙ sym (ne-eqb (length d - length s) (length d) (λ z. e (let l = w .less in omega arith))) ∙ trod-end (w .trod)
+      (omega arith)
+]
+
+-- that session is there, four descriptors long at least
+pub walking-last :
+    {n : ℕ} {d : List ℕ} {k : ℕ} {s last : List ℕ} {next floor : ℕ} → Walking n d k s last next floor → n < k → 1 ≤ n
+    → (last ≡ session d (n - 1)) × (4 * row ≤ length last) × (4 * row ≤ length d)
+walking-last {n} {d} {k} {s} {last} w i h =
+    let e : k - 1 ≡ n = let t = w .trod .walked .turns in omega arith in
+    let q : k - 2 ≡ n - 1 = omega arith in
+    let b : last ≡ session d (n - 1) = w .behind ∙ ap (session d) q in
+    let s = placed n d (kept-places n d (rw e at (w .trod .passed))) {k = n - 1} (omega arith) in
+    let l = size-least s in
+    let f = s .fits in
+    let m = length-drop (starts d (n - 1)) d in
+    (b, rw b (omega arith), omega arith)
+
+-- ---- rule 4 from there on
+
+-- k of n sessions stand in their places: the next begins at `at`, with track `next`
+pub record Reached (n : ℕ) (d : List ℕ) (k at next : ℕ) : Type 0 where
+  pub walked : Walked n d k at
+  pub passed : every k (inPlace d) ≡ true
+  pub track : next ≡ nextOf d k
+
+pub trod-reached : {n : ℕ} {d : List ℕ} {k at next floor : ℕ} → Trod n d k at next floor → Reached n d k at next
+trod-reached {d = d} {k} r = record { walked = r .walked; passed = kept-places k d (r .passed); track = r .track }
+
+module _ {n : ℕ} {d : List ℕ} {k at next : ℕ} (r : Reached n d k at next) (i : k < n) where
+  -- whether the session that begins here begins with the track after the last
+  reached-track :
+      {f l b : ℕ} {x : Bool} → Told (k + 1) (drop at d) f l b → eqb f next ≡ x → follows k (first (session d k)) (before d k) ≡ x
+  reached-track t h = sym (next-follows d k) ∙ rw (t .low, r .walked .place, r .track) at h
+
+  pub reached-next : {f l b : ℕ} → Told (k + 1) (drop at d) f l b → f ≡ next → Reached n d (k + 1) (at + b) (l + 1)
+  unfolding inPlace
+  reached-next {f} {l} {b} t h =
+      let p = r .walked .place in
+      record {
+        walked = walked-next (r .walked) i (isSession-parts (t .is)) (t .bytes);
+        passed = every-more k (inPlace d) (r .passed) (and-both _ _ (rw p at (t .is)) (reached-track t (eq-eqb _ _ h)));
+        track = ap (λ (x : ℕ). x + 1) (t .high ∙ ap (λ (x : ℕ). lastOf (drop x d)) p) ∙ sym (nextOf-next d k);
+      }
+
+  -- the first that is none puts the whole out of order
+  pub reached-not : isSession (k + 1) (drop at d) ≡ false → false ≡ inOrder n d
+  unfolding inOrder inPlace
+  reached-not h = and-off _ _ (sym (every-breaks n (inPlace d) k i (sym (and-off _ _ (rw (r .walked .place) at h)))))
+
+  -- and so does the first that begins with another track
+  pub reached-off : {f l b : ℕ} → Told (k + 1) (drop at d) f l b → (f ≡ next → ⊥) → false ≡ inOrder n d
+  unfolding inOrder inPlace
+  reached-off t h = and-off _ _ (sym (every-breaks n (inPlace d) k i (sym (and-late _ _ (sym (reached-track t (ne-eqb _ _ h)))))))
+
+-- all are read: what is left to test is that nothing more stands there
+pub reached-end : {n : ℕ} {d : List ℕ} {k at next : ℕ} → Reached n d k at next → n ≤ k → eqb at (length d) ≡ inOrder n d
+unfolding inOrder
+reached-end r i =
+    let e = walked-all (r .walked) i in
+    and-on _ _ (rw e at (r .passed)) (rw (r .walked .place, e))
+
+-- ---- rule 7 from there on
+
+-- the lead-out before is the frame before the floor
+floor-out : (d : List ℕ) (k : ℕ) → floorOf d k - 151 ≡ outBefore d k
+unfolding floorOf outBefore
+floor-out d zero = omega arith
+floor-out d (suc k) = let e = startOf-frames (rowAt (session d k) 2) in omega arith
+
+pub trod-risen : {n : ℕ} {d : List ℕ} {k at next floor out : ℕ} → Trod n d k at next floor → out ≡ floor - 151 → Risen n d k at out
+trod-risen {d = d} {k} r e = record {
+  walked = r .walked;
+  passed = kept-rising k d (r .passed);
+  lead = e ∙ ap (λ (x : ℕ). x - 151) (r .least) ∙ floor-out d k;
+}
+
+-- ---- the answer
+
+pub rowsReading-fit : (n : ℕ) (d : List ℕ) {disc : Disc} → walkKept n d ≡ true → disc ≡ discFrom n d → Fit disc ≡ rowsReading n d
+unfolding rowsReading
+rowsReading-fit n d h e = ap Fit e ∙ sym (when _ _ _ h)
+
+pub rowsReading-unfit : (n : ℕ) (d : List ℕ) {m : ℕ} → walkKept n d ≡ false → m ≡ firstBroken 3 (rowRules n d) → Unfit m ≡ rowsReading n d
+unfolding rowsReading
+rowsReading-unfit n d h e = ap Unfit e ∙ sym (unless _ _ _ h)

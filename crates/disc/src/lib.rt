@@ -2,5 +2,5 @@
 pub mod disc;
 pub mod part;
 mod rows;
-pub mod rules;
+mod rules;
 mod walk;

@@ -1,8 +1,10 @@
-// Rules 1 to 7, each over the whole table, and the first that is broken.
+// Rules 1 to 7, the later ones from where the walk stopped, and the first that is broken.
 use crate::rows::row_at;
+use crate::rows::row_from;
 use ground::number::wide;
 use ground::number::word16;
-use sessions::session::in_order;
+use sessions::session::Session;
+use sessions::session::read_session;
 use sessions::session::session_bytes;
 use table::layout::BOUND;
 use table::layout::HEADER;
@@ -12,13 +14,15 @@ use table::row::row_test;
 use table::row::start_of;
 ghost use mathlib.Core.Path.{_≡_};
 ghost use mathlib.Core.Bool.{true};
-ghost use Prim.Native.Nat.{_+_, _*_, _≤_};
+ghost use Prim.Native.Nat.{_+_, _-_, _*_, _%_, _≤_};
 ghost use lib.ListN.{length};
 ghost use Rattle.ground.specs.Tests.{_and_};
 ghost use Rattle.table.specs.Layout.{row};
 ghost use Rattle.sessions.specs.Session.{first, last, tracks, inOrder};
-ghost use Rattle.disc.specs.RulesLaws.{rowsTold};
-ghost use Rattle.disc.specs.Rules.{rule1, rule2, eachRow, trackStart, rises, beginsAfter, rule7, firstBroken, lateRules, rowRules, fault};
+ghost use Rattle.disc.specs.Rules.{rule1, rule2, eachRow, trackStart, rises, beginsAfter, rule7, firstBroken, lateRules, rowRules};
+ghost use Rattle.disc.specs.RulesLaws.{Risen};
+ghost use Rattle.disc.specs.Walk.{nextOf};
+ghost use Rattle.disc.specs.WalkSteps.{Reached, Trod};
 
 // Rule 1: the length, and the data length that says it.
 pub(crate) fn rule1(t: &[u8]) -> bool
@@ -52,50 +56,47 @@ pub(crate) fn rule2(t: &[u8]) -> bool
     false
 }
 
-// What one pass over the descriptors tells of rules 3, 5 and 6: whether each is kept, and nothing of 5 and 6 where 3 is not.
-pub struct Rows {
-    pub three: bool,
-    pub five: bool,
-    pub six: bool,
-}
-
-// Both hold.
-fn both(a: bool, b: bool) -> bool
-    ensures { λ r. ⌜ r ≡ a and b ⌝ }
+// Rule n, one of 3, 5 and 6: each descriptor passes its test.
+fn each_row(n: usize, d: &[u8]) -> bool
+    requires { ⌜ length (now d) % row ≡ 0 ⌝ }
+    ensures { λ r. ⌜ r ≡ eachRow n (now (d .entry)) ⌝ }
 {
-    if a {
-        return b;
-    }
-    false
-}
-
-// Every descriptor is read once and held to rules 3, 5 and 6.
-fn test_rows(d: &[u8]) -> Rows
-    ensures { λ r. ⌜ r ≡ rowsTold (now (d .entry)) ⌝ }
-{
-    let end = d.len() / ROW;
-    let mut j = 0;
-    let mut five = true;
-    let mut six = true;
-    while j < end {
-        let r = row_at(d, j);
-        if row_test(3, r) {
-            five = both(five, row_test(5, r));
-            six = both(six, row_test(6, r));
-            j += 1;
+    let mut at = 0;
+    while at < d.len() {
+        if row_test(n, row_from(d, at)) {
+            at += ROW;
         } else {
-            return Rows {
-                three: false,
-                five: false,
-                six: false,
-            };
+            return false;
         }
     }
-    Rows {
-        three: true,
-        five,
-        six,
+    true
+}
+
+// Rule 4, of n sessions, of which `passed` stand in their places: the next begins at `from` and with track `track`.
+fn rule4(n: u8, d: &[u8], passed: u8, from: usize, track: usize) -> bool
+    requires { ⌜ Reached n (now d) passed from track ⌝ }
+    ensures { λ r. ⌜ r ≡ inOrder n (now (d .entry)) ⌝ }
+{
+    let mut k = passed;
+    let mut at = from;
+    let mut next = track;
+    while k < n {
+        match read_session(&d[at..], wide(k) + 1) {
+            Session::Is { first, last, bytes } => {
+                if wide(first) == next {
+                    at += bytes;
+                    next = wide(last) + 1;
+                    k += 1;
+                } else {
+                    return false;
+                }
+            }
+            Session::Not => {
+                return false;
+            }
+        }
     }
+    at == d.len()
 }
 
 // The starts of the n tracks of the session that s begins with rise up to its lead-out.
@@ -131,14 +132,14 @@ fn session_rises(s: &[u8], k: usize, out: usize) -> bool
     false
 }
 
-// Rule 7, session by session.
-fn rule7(n: u8, d: &[u8]) -> bool
-    requires { ⌜ inOrder n (now d) ≡ true ⌝ }
+// Rule 7, of n sessions, of which `passed` keep it: the next begins at `from`, and the lead-out before it is `before`.
+fn rule7(n: u8, d: &[u8], passed: u8, from: usize, before: usize) -> bool
+    requires { ⌜ (inOrder n (now d) ≡ true) × Risen n (now d) passed from before ⌝ }
     ensures { λ r. ⌜ r ≡ rule7 n (now (d .entry)) ⌝ }
 {
-    let mut k: u8 = 0;
-    let mut at = 0;
-    let mut out = 0;
+    let mut k = passed;
+    let mut at = from;
+    let mut out = before;
     while k < n {
         let s = &d[at..];
         if session_rises(s, wide(k), out) {
@@ -162,42 +163,40 @@ fn begins_after(k: usize, out: usize, start: usize) -> bool
     out < start
 }
 
-// The first broken rule, or 0 for a fit table.
-pub fn fault(t: &[u8]) -> u8
-    ensures { λ r. ⌜ r ≡ fault (now (t .entry)) ⌝ }
+// The lead-out as a block address whose next frame is `floor`.
+fn out_below(floor: usize) -> usize
+    ensures { λ r. ⌜ r ≡ floor - 151 ⌝ }
 {
-    if rule1(t) {
-        if rule2(t) {
-            let s = t[3];
-            return fault_of_rows(&t[HEADER..], s);
-        }
-        return 2;
+    if floor < 151 {
+        return 0;
     }
-    1
+    floor - 151
 }
 
-// The first broken rule of 3 to 7.
-fn fault_of_rows(d: &[u8], s: u8) -> u8
-    ensures { λ r. ⌜ r ≡ firstBroken 3 (rowRules s (now (d .entry))) ⌝ }
+// The first broken rule of 3 to 7, of n sessions, of which k are kept: the next begins at `at`, with track `next`, at frame `floor` or later.
+// Each rule is asked of what stands from there on.
+pub(crate) fn fault_from(d: &[u8], n: u8, k: u8, at: usize, next: usize, floor: usize) -> u8
+    requires { ⌜ (length (now d) % row ≡ 0) × Trod n (now d) k at next floor ⌝ }
+    ensures { λ r. ⌜ r ≡ firstBroken 3 (rowRules n (now (d .entry))) ⌝ }
 {
-    let t = test_rows(d);
-    if t.three {
-        if in_order(d, s) {
-            return fault_in_order(d, s, t.five, t.six);
+    if each_row(3, &d[at..]) {
+        if rule4(n, d, k, at, next) {
+            return late_fault(d, n, k, at, floor);
         }
         return 4;
     }
     3
 }
 
-// The first broken rule of 5 to 7, of a table whose sessions stand in order.
-fn fault_in_order(d: &[u8], s: u8, five: bool, six: bool) -> u8
-    requires { ⌜ (inOrder s (now d) ≡ true) × (five ≡ eachRow 5 (now d)) × (six ≡ eachRow 6 (now d)) ⌝ }
-    ensures { λ r. ⌜ r ≡ firstBroken 5 (lateRules s (now (d .entry))) ⌝ }
+// The first broken rule of 5 to 7, where the sessions stand in order.
+fn late_fault(d: &[u8], n: u8, k: u8, at: usize, floor: usize) -> u8
+    requires { ⌜ (length (now d) % row ≡ 0) × (inOrder n (now d) ≡ true) × Trod n (now d) k at (nextOf (now d) k) floor ⌝ }
+    ensures { λ r. ⌜ r ≡ firstBroken 5 (lateRules n (now (d .entry))) ⌝ }
 {
-    if five {
-        if six {
-            if rule7(s, d) {
+    let rest = &d[at..];
+    if each_row(5, rest) {
+        if each_row(6, rest) {
+            if rule7(n, d, k, at, out_below(floor)) {
                 return 0;
             }
             return 7;

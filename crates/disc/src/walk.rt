@@ -1,8 +1,6 @@
-// One walk over the descriptors that decides fitness: each is read into a value and tested for all that rules 3 to 7 ask of it as it is passed.
+// One session of the walk that decides fitness: each descriptor is read into a value and tested for all that rules 3 to 7 ask of it as it is passed.
 use crate::rows::row_at;
 use crate::rows::row_from;
-use crate::rules::rule1;
-use crate::rules::rule2;
 use ground::number::wide;
 use table::asked::a0_kept;
 use table::asked::a1_kept;
@@ -13,38 +11,17 @@ use table::asked::kept;
 use table::layout::A2;
 use table::layout::B0;
 use table::layout::C0;
-use table::layout::HEADER;
 use table::layout::PMIN;
 use table::layout::ROW;
-use table::layout::byte_at;
 use table::row::frames_of;
 ghost use mathlib.Core.Path.{_≡_};
-ghost use mathlib.Core.Bool.{false};
 ghost use Prim.Native.Nat.{_+_, _-_, _*_, _%_, _≤_};
 ghost use lib.ListN.{length};
 ghost use Rattle.table.specs.Layout.{row};
-ghost use Rattle.sessions.specs.Session.{starts};
-ghost use Rattle.disc.specs.Rules.{isFit};
-ghost use Rattle.disc.specs.Disc.{lastAt};
-ghost use Rattle.disc.specs.Walk.{headsKept, tracksEnd, extraEnd, extrasEnd, sessionEnd, walkKept, verdict};
+ghost use Rattle.disc.specs.Walk.{headsKept, tracksEnd, extraEnd, extrasEnd, sessionEnd};
 
 // 00:02:00, before which no track starts.
-const FLOOR: usize = 150;
-
-// Whether a table is fit, and where its last session begins among the descriptors: 0 where it is not.
-pub struct Verdict {
-    pub fit: bool,
-    pub last_at: usize,
-}
-
-fn unfit() -> Verdict
-    ensures { λ r. ⌜ r ≡ verdict false 0 ⌝ }
-{
-    Verdict {
-        fit: false,
-        last_at: 0,
-    }
-}
+pub const FLOOR: usize = 150;
 
 // All that is asked of A0, A1 and A2 of session k.
 fn heads_kept(d: &[u8], k: u8) -> bool
@@ -116,6 +93,9 @@ fn extras_end(d: &[u8], k: u8, at: usize) -> usize
     requires { ⌜ (length (now d) % row ≡ 0) × (at % row ≡ 0) × (at ≤ length (now d)) ⌝ }
     ensures { λ r. ⌜ r ≡ extrasEnd (now (d .entry)) k at ⌝ }
 {
+    if d.len() <= at {
+        return at;
+    }
     let b = extra_end(d, k, at, B0);
     if b == 0 {
         return 0;
@@ -124,7 +104,7 @@ fn extras_end(d: &[u8], k: u8, at: usize) -> usize
 }
 
 // Where the session k ends that d begins with: 0 where it is not kept, or does not begin with track `next`.
-fn session_end(d: &[u8], k: u8, next: usize, floor: usize) -> usize
+pub(crate) fn session_end(d: &[u8], k: u8, next: usize, floor: usize) -> usize
     requires { ⌜ (length (now d) % row ≡ 0) × (1 ≤ k) ⌝ }
     ensures { λ r. ⌜ r ≡ sessionEnd k (now (d .entry)) next floor ⌝ }
 {
@@ -153,49 +133,4 @@ fn session_end(d: &[u8], k: u8, next: usize, floor: usize) -> usize
         return extras_end(d, k, end);
     }
     0
-}
-
-// The descriptors are those of the sessions 1 to n, kept in their places, and nothing more.
-fn walk(d: &[u8], n: u8) -> Verdict
-    requires { ⌜ length (now d) % row ≡ 0 ⌝ }
-    ensures { λ r. ⌜ r ≡ verdict (walkKept n (now (d .entry))) (starts (now (d .entry)) (n - 1)) ⌝ }
-{
-    let mut k: u8 = 0;
-    let mut at = 0;
-    let mut back = 0;
-    let mut next = byte_at(d, PMIN);
-    let mut floor = FLOOR;
-    while k < n {
-        let s = &d[at..];
-        let end = session_end(s, k + 1, next, floor);
-        if end == 0 {
-            return unfit();
-        }
-        next = wide(s[ROW + PMIN]) + 1;
-        floor = frames_of(row_at(s, 2)) + 1;
-        back = at;
-        at += end;
-        k += 1;
-    }
-    if at == d.len() {
-        return Verdict {
-            fit: true,
-            last_at: back,
-        };
-    }
-    unfit()
-}
-
-// The verdict on a table.
-pub(crate) fn judge(t: &[u8]) -> Verdict
-    ensures { λ r. ⌜ r ≡ verdict (isFit (now (t .entry))) (lastAt (now (t .entry))) ⌝ }
-{
-    if rule1(t) {
-        if rule2(t) {
-            let n = t[3];
-            return walk(&t[HEADER..], n);
-        }
-        return unfit();
-    }
-    unfit()
 }

@@ -11,7 +11,7 @@ use borrow.Author.Tests.{le-leb, leb-true, eq-eqb, ne-eqb, eqb-true}
 use lib.ListN.{length, getD, drop, length-drop, List·getD-eq-default}
 use lib.Seq.{getD-drop}
 use lib.Dec.{eqb}
-use Rattle.ground.specs.Tests.{every, if_then_else_, either, and-head, and-tail, and-both, when, unless, and-on, and-off, and-late, every-none, every-more, every-at, every-breaks}
+use Rattle.ground.specs.Tests.{every, if_then_else_, either, and-head, and-tail, and-both, when, unless, every-at}
 use Rattle.table.specs.Layout.{row, sessionAt, pointAt, A0, A1, A2, B0, C0}
 use Rattle.table.specs.Row.{rowAt, names}
 use Rattle.sessions.specs.Session.{first, last, tracks, one, b0s, c0s, count, size, listed, numbered, isSession, starts, session, before, follows, inPlace, inOrder, readSession}
@@ -294,49 +294,3 @@ inOrder-places n d h = and-head _ _ h
 pub inOrder-end : (n : ℕ) (d : List ℕ) → inOrder n d ≡ true → starts d n ≡ length d
 unfolding inOrder
 inOrder-end n d h = eqb-true _ _ (and-tail _ _ h)
-
--- ---- reading the sessions in order
-
--- k of n sessions are read and stand in their places: the next begins at `at`, and prev is the last track
-pub record Reached (n : ℕ) (d : List ℕ) (k at prev : ℕ) : Type 0 where
-  pub walked : Walked n d k at
-  pub passed : every k (inPlace d) ≡ true
-  pub track : prev ≡ before d k
-
-pub reached-none : (n : ℕ) (d : List ℕ) → Reached n d 0 0 0
-unfolding before
-reached-none n d = record { walked = walked-none n d; passed = every-none (inPlace d); track = refl }
-
-pub reached-next :
-    {n : ℕ} {d : List ℕ} {k at prev f l b : ℕ} → Reached n d k at prev → k < n → Told (k + 1) (drop at d) f l b → follows k f prev ≡ true
-    → Reached n d (k + 1) (at + b) l
-unfolding inPlace
-reached-next {n} {d} {k} {at} {prev} {f} {l} {b} r i t h =
-    let p = r .walked .place in
-    record {
-      walked = walked-next (r .walked) i (isSession-parts (t .is)) (t .bytes);
-      passed = every-more k (inPlace d) (r .passed) (and-both _ _ (rw p at (t .is)) (rw (t .low, p, r .track) at h));
-      track = t .high ∙ ap (λ (x : ℕ). last (drop x d)) p ∙ sym (before-next d k);
-    }
-
--- the first that is none puts the whole out of order
-pub reached-not :
-    {n : ℕ} {d : List ℕ} {k at prev : ℕ} → Reached n d k at prev → k < n → isSession (k + 1) (drop at d) ≡ false → false ≡ inOrder n d
-unfolding inOrder inPlace
-reached-not {n} {d} {k} r i h =
-    and-off _ _ (sym (every-breaks n (inPlace d) k i (sym (and-off _ _ (rw (r .walked .place) at h)))))
-
--- and so does the first that does not follow
-pub reached-off :
-    {n : ℕ} {d : List ℕ} {k at prev f l b : ℕ} → Reached n d k at prev → k < n → Told (k + 1) (drop at d) f l b → follows k f prev ≡ false
-    → false ≡ inOrder n d
-unfolding inOrder inPlace
-reached-off {n} {d} {k} r i t h =
-    and-off _ _ (sym (every-breaks n (inPlace d) k i (sym (and-late _ _ (sym (rw (t .low, r .walked .place, r .track) at h))))))
-
--- all are read: what is left to test is that nothing more stands there
-pub reached-end : {n : ℕ} {d : List ℕ} {k at prev : ℕ} → Reached n d k at prev → n ≤ k → eqb at (length d) ≡ inOrder n d
-unfolding inOrder
-reached-end r i =
-    let e = walked-all (r .walked) i in
-    and-on _ _ (rw e at (r .passed)) (rw (r .walked .place, e))

@@ -15,7 +15,7 @@ ghost use lib.ListN.{length, drop};
 ghost use Rattle.ground.specs.Tests.{every};
 ghost use Rattle.table.specs.Layout.{row, pointAt};
 ghost use Rattle.table.specs.Row.{rowAt, names};
-ghost use Rattle.sessions.specs.Session.{tracks, one, size, listed, numbered, follows, inOrder, readSession, starts};
+ghost use Rattle.sessions.specs.Session.{tracks, one, size, listed, numbered, readSession, starts};
 
 // What reading a session finds: its first and last track and how many bytes its descriptors take.
 pub enum Session {
@@ -130,27 +130,29 @@ pub fn session_bytes(d: &[u8]) -> usize
 }
 
 // The session k that d begins with, if it does.
-fn read_session(d: &[u8], k: usize) -> Session
+pub fn read_session(d: &[u8], k: usize) -> Session
     ensures { λ r. ⌜ r ≡ readSession k (now (d .entry)) ⌝ }
 {
-    let bytes = session_bytes(d);
-    if d.len() < bytes {
+    if d.len() < 3 * ROW {
         return Session::Not;
     }
     let first = d[PMIN];
     let last = d[ROW + PMIN];
+    if first < 1 {
+        return Session::Not;
+    }
+    if last < first {
+        return Session::Not;
+    }
+    if 99 < last {
+        return Session::Not;
+    }
+    let bytes = session_bytes(d);
+    if d.len() < bytes {
+        return Session::Not;
+    }
     let f = wide(first);
-    let l = wide(last);
-    if f < 1 {
-        return Session::Not;
-    }
-    if l < f {
-        return Session::Not;
-    }
-    if 99 < l {
-        return Session::Not;
-    }
-    let n = l + 1 - f;
+    let n = wide(last) + 1 - f;
     if listed(d, k, f, n) {
         if numbered(d, k, 3 + n, bytes / ROW - (3 + n)) {
             return Session::Is { first, last, bytes };
@@ -158,42 +160,6 @@ fn read_session(d: &[u8], k: usize) -> Session
         return Session::Not;
     }
     Session::Not
-}
-
-// Session k stands in its place: it is the first, or begins with the track after the last one.
-fn follows(k: usize, first: u8, last: u8) -> bool
-    ensures { λ r. ⌜ r ≡ follows k first last ⌝ }
-{
-    if k == 0 {
-        return true;
-    }
-    wide(first) == wide(last) + 1
-}
-
-// The descriptors are those of the sessions 1 to n in order, and nothing more.
-pub fn in_order(d: &[u8], n: u8) -> bool
-    ensures { λ r. ⌜ r ≡ inOrder n (now (d .entry)) ⌝ }
-{
-    let mut k: u8 = 0;
-    let mut at = 0;
-    let mut prev: u8 = 0;
-    while k < n {
-        match read_session(&d[at..], wide(k) + 1) {
-            Session::Is { first, last, bytes } => {
-                if follows(wide(k), first, prev) {
-                    at += bytes;
-                    prev = last;
-                    k += 1;
-                } else {
-                    return false;
-                }
-            }
-            Session::Not => {
-                return false;
-            }
-        }
-    }
-    at == d.len()
 }
 
 // Where the session after n others begins, of any bytes.

@@ -1,20 +1,20 @@
 -- The laws of a descriptor: where it stands, and what each rule's test tells of it by its POINT.
 use mathlib.Core.Path.{_≡_, refl, sym, ap, _∙_}
-use mathlib.Core.Bool.{Bool, true, false}
+use mathlib.Core.Bool.{Bool, true, false, not}
 use mathlib.Core.List.{List}
 use Prim.Native.Nat.{ℕ, _+_, _-_, _%_, _≤_, _<_}
 use native.Mathlib.Omega.{arith}
 use native.Mathlib.Nat.{add-zero}
 use native.Mathlib.Decide.{ℕ-discrete}
-use borrow.Author.Tests.{le-leb, lt-leb, eq-eqb, ne-eqb}
+use borrow.Author.Tests.{le-leb, lt-leb, eq-eqb, eqb-true, ne-eqb}
 use lib.ListN.{length, getD, take, drop, length-drop}
 use lib.Seq.{getD-drop, getD-take, length-take-le}
 use lib.Dec.{leb, eqb}
-use Rattle.ground.specs.Tests.{_and_, _or_, if_then_else_, and-both, or-left, or-right, or-else, when, unless}
+use Rattle.ground.specs.Tests.{_and_, _or_, if_then_else_, and-head, and-both, and-off, or-left, or-right, or-else, when, unless}
 use Rattle.address.specs.Address.{isMsf}
 use Rattle.address.specs.Laws.{InRange, isMsf-range}
 use Rattle.table.specs.Layout.{row, A0, A1, A2, B0, C0, isTrack, isExtra}
-use Rattle.table.specs.Row.{rowFrom, rowOf, framesOf, startOf, simple, free, plain, headA0, headA1, headed, addressed, rowTest}
+use Rattle.table.specs.Row.{rowFrom, rowOf, framesOf, startOf, adr, simple, free, plain, headA0, headA1, headed, addressed, rowTest}
 use Rattle.table.specs.declared.row.Row.{Row}
 
 -- ---- where it stands
@@ -32,7 +32,21 @@ unfolding rowOf
 rowOf-part d at h =
     let n : at + row - at ≡ row = omega arith in
     let l : length (take row (drop at d)) ≡ row = length-take-le row (drop at d) (let e = length-drop at d in omega arith) in
-    rw n (when _ _ _ (eq-eqb _ _ l) ∙ rw (f 0 (omega arith), add-zero at, f 1 (omega arith), f 2 (omega arith), f 3 (omega arith), f 4 (omega arith), f 5 (omega arith), f 6 (omega arith), f 7 (omega arith), f 8 (omega arith), f 9 (omega arith), f 10 (omega arith)))
+    rw n (when _ _ _ (eq-eqb _ _ l) ∙ rw (
+      f 0 (omega arith),
+      add-zero at,
+      f 1 (omega arith),
+      f 2 (omega arith),
+      f 3 (omega arith),
+      f 4 (omega arith),
+      f 5 (omega arith),
+      f 6
+          (omega arith),
+      f 7 (omega arith),
+      f 8 (omega arith),
+      f 9 (omega arith),
+      f 10 (omega arith),
+    ))
   where
     f : (x : ℕ) → x < row → getD (take row (drop at d)) x 0 ≡ getD d (at + x) 0
     f x l = getD-take row (drop at d) x 0 l ∙ getD-drop at d x 0
@@ -92,7 +106,20 @@ types-most s h = elim (ℕ-discrete s 0x00) [
 
 pub types-not : (s : ℕ) → (s % 16 ≡ 0 → ⊥) → (eqb s 0x00 or eqb s 0x10 or eqb s 0x20) ≡ false
 types-not s n =
-    or-else _ _ (ne-eqb s 0x00 (λ e. n (omega arith))) ∙ or-else _ _ (ne-eqb s 0x10 (λ e. n (omega arith))) ∙ ne-eqb s 0x20 (λ e. n (omega arith))
+    or-else _ _ (ne-eqb s 0x00 (λ e. n (omega arith))) ∙ or-else _ _ (ne-eqb s 0x10 (λ e. n (omega arith))) ∙ ne-eqb s 0x20
+    (λ e. n (omega arith))
+
+-- a simple descriptor keeps rule 3 unless it is a B0h or a C0h
+pub plain-unless : (r : Row) → simple r ≡ true → not (isExtra (r .point)) ≡ plain r
+unfolding plain free simple
+plain-unless r h = decided (isExtra (r .point)) refl
+  where
+    five : free r ≡ false
+    five = sym (and-off _ _ (ne-eqb (adr r) 5 (λ e. let z = eqb-true (adr r) 1 (and-head _ _ h) in omega arith)))
+
+    decided : (b : Bool) → isExtra (r .point) ≡ b → not (isExtra (r .point)) ≡ plain r
+    decided true e = ap not e ∙ sym (when _ _ _ e ∙ five)
+    decided false e = ap not e ∙ sym (unless _ _ _ e ∙ h)
 
 pub headed-A0 : (r : Row) → r .point ≡ A0 → headed r ≡ headA0 r
 unfolding headed

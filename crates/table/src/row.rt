@@ -106,14 +106,17 @@ pub(crate) fn free(r: Row) -> bool
     false
 }
 
-// Rule 3, by POINT.
+// Rule 3, by POINT. Most descriptors are simple, so that is asked first.
 fn plain(r: Row) -> bool
     ensures { λ b. ⌜ b ≡ plain r ⌝ }
 {
+    if simple(r) {
+        return !is_extra(r.point);
+    }
     if is_extra(r.point) {
         return free(r);
     }
-    simple(r)
+    false
 }
 
 // A0's PSEC is 00h, 10h or 20h and its PFRAME 0.

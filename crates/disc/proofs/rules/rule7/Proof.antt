@@ -11,22 +11,22 @@ use Rattle.table.specs.Row.{startOf, addressAt}
 use Rattle.sessions.specs.Session.{tracks, size}
 use Rattle.sessions.specs.SessionLaws.{IsSession, size-least, placed-at, inOrder-places}
 use Rattle.disc.specs.Rules.{trackStart, rises, beginsAfter}
-use Rattle.disc.specs.RulesLaws.{Risen, risen-none, risen-next, risen-breaks, risen-end}
+use Rattle.disc.specs.RulesLaws.{Risen, risen-next, risen-breaks, risen-end}
 use borrow.Author.Needs.{needs}
 use Rattle.disc.proofs.rules.rule7.Statement.{statement}
 use Rattle.disc.proofs.rules.rule7.Tie as tie
 
 abbrev Inv-loop : tie.InvT-loop
-Inv-loop n d k₀ at₀ out₀ k at out = Risen n d k at out
+Inv-loop n d passed from before k₀ at₀ out₀ k at out = Risen n d k at out
 
 abbrev μ-loop : tie.MeasureT-loop
-μ-loop n d k₀ at₀ out₀ k at out = n - k
+μ-loop n d passed from before k₀ at₀ out₀ k at out = n - k
 
 -- the session that begins here
 here :
     (c : tie.In-loop Inv-loop μ-loop)
     → IsSession (c .before .loop .k + 1) (drop (c .before .loop .at) (c .before .before .before .args .d .now))
-here c = placed-at _ _ (inOrder-places _ _ (c .before .before .before .pre)) (c .before .loop .inv .walked .place) (c .loop-test .taken)
+here c = placed-at _ _ (inOrder-places _ _ (c .before .before .before .pre .0)) (c .before .loop .inv .walked .place) (c .loop-test .taken)
 
 -- it has four descriptors at least
 long :
@@ -42,11 +42,12 @@ told :
     → (rises (drop (c .before .before .before .before .loop .at) (c .before .before .before .before .before .before .args .d .now))
     (tracks (drop (c .before .before .before .before .loop .at) (c .before .before .before .before .before .before .args .d .now)))
     and beginsAfter (c .before .before .before .before .loop .k) (c .before .before .before .before .loop .out)
-    (trackStart (drop (c .before .before .before .before .loop .at) (c .before .before .before .before .before .before .args .d .now)) 0)) ≡ b
+    (trackStart (drop (c .before .before .before .before .loop .at) (c .before .before .before .before .before .before .args .d .now)) 0)) ≡
+    b
 told c h = sym (rw (rest-all, c .before .wide .ensures .same) at (c .session-rises .ensures)) ∙ h
 
 loop-holds : tie.Need-loop-holds Inv-loop μ-loop
-loop-holds c = risen-none _ _
+loop-holds c = c .before .pre .1
 
 session-rises-requires : tie.Need-session-rises-requires Inv-loop μ-loop
 unfolding size

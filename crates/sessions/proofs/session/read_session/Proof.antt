@@ -25,69 +25,64 @@ counted :
 counted d k v w q e h = rw (v .same, w .same, q, size-extras d) at (sym e ∙ h)
 
 returns : tie.Need-returns
-returns c = readSession-not _ _ (λ s. let f = s .fits in omega arith)
-
-shared-slice-read-first : tie.Need-shared-slice-read-first
-shared-slice-read-first c = let e = size-heads (c .before .before .before .before .args .d .now) in omega arith
-
-shared-slice-read-last : tie.Need-shared-slice-read-last
-shared-slice-read-last c = let e = size-heads (c .before .before .before .before .before .args .d .now) in omega arith
+returns c = let z = size-heads (c .before .before .args .d .now) in readSession-not _ _ (λ s. let f = s .fits in omega arith)
 
 returns-2 : tie.Need-returns-2
-returns-2 c = readSession-not _ _ (λ s. omega arith)
+returns-2 c = readSession-not _ _ (λ s. let l = s .low in omega arith)
 
 returns-3 : tie.Need-returns-3
-returns-3 c = readSession-not _ _ (λ s. omega arith)
+returns-3 c = readSession-not _ _ (λ s. let o = s .order in omega arith)
 
 returns-4 : tie.Need-returns-4
-returns-4 c = readSession-not _ _ (λ s. omega arith)
+returns-4 c = readSession-not _ _ (λ s. let h = s .high in omega arith)
 
-sub-numbered : tie.Need-sub-numbered
-unfolding size
-sub-numbered c = omega arith
+returns-5 : tie.Need-returns-5
+returns-5 c = readSession-not _ _ (λ s. let f = s .fits in omega arith)
 
 listed-requires : tie.Need-listed-requires
 unfolding size
 listed-requires c κs = (omega arith, omega arith, omega arith)
 
+sub-numbered : tie.Need-sub-numbered
+unfolding size
+sub-numbered c = omega arith
+
 numbered-requires : tie.Need-numbered-requires
 unfolding size
 numbered-requires c κs = omega arith
 
-returns-5 : tie.Need-returns-5
-returns-5 c =
-    rw (c .before .before .before .before .before .before .before .before .before .before .before .before .session-bytes .ensures)
+returns-6 : tie.Need-returns-6
+returns-6 c =
+    rw (c .before .before .before .before .before .before .before .session-bytes .ensures)
     (readSession-is (record {
       fits = omega arith;
       low = omega arith;
       order = omega arith;
       high = omega arith;
-      lists = told _ _
-          (c .before .before .before .before .before .before .before .before .wide .ensures)
-          (c .before .before .before .before .before .before .before .wide2 .ensures) (c .before .before .before .listed .ensures)
-          (c .before .before .if5 .taken);
-      numbers = counted _ _
-          (c .before .before .before .before .before .before .before .before .wide .ensures)
-          (c .before .before .before .before .before .before .before .wide2 .ensures)
-          (c .before .before .before .before .before .before .before .before .before .before .before .before .session-bytes .ensures)
-          (c .before .numbered .ensures) (c .if6 .taken);
+      lists =
+          told _ _ (c .before .before .before .before .before .wide .ensures) (c .before .before .before .before .wide2 .ensures)
+          (c .before .before .before .listed .ensures) (c .before .before .if6 .taken);
+      numbers =
+          counted _ _ (c .before .before .before .before .before .wide .ensures) (c .before .before .before .before .wide2 .ensures)
+          (c .before .before .before .before .before .before .before .session-bytes .ensures) (c .before .numbered .ensures)
+          (c .if7 .taken);
     }))
-
-returns-6 : tie.Need-returns-6
-returns-6 c =
-    readSession-not _ _ (λ s. false≢true (sym (counted _ _
-    (c .before .before .before .before .before .before .before .before .wide .ensures)
-    (c .before .before .before .before .before .before .before .wide2 .ensures)
-    (c .before .before .before .before .before .before .before .before .before .before .before .before .session-bytes .ensures)
-    (c .before .numbered .ensures) (c .if6 .left)) ∙ s .numbers))
 
 returns-7 : tie.Need-returns-7
 returns-7 c =
-    readSession-not _ _ (λ s. false≢true (sym (told _ _ (c .before .before .before .before .before .before .wide .ensures)
-    (c .before .before .before .before .before .wide2 .ensures) (c .before .listed .ensures) (c .if5 .left)) ∙ s .lists))
+    readSession-not _ _ (λ s. false≢true
+    (sym (counted _ _ (c .before .before .before .before .before .wide .ensures) (c .before .before .before .before .wide2 .ensures)
+    (c .before .before .before .before .before .before .before .session-bytes .ensures) (c .before .numbered .ensures) (c .if7 .left)) ∙
+    s .numbers))
+
+returns-8 : tie.Need-returns-8
+returns-8 c =
+    readSession-not _ _ (λ s. false≢true (sym (told _ _ (c .before .before .before .wide .ensures) (c .before .before .wide2 .ensures)
+    (c .before .listed .ensures) (c .if6 .left)) ∙ s .lists))
 
 pub read-session-spec : {M : Type 1} → statement M
 read-session-spec =
-    tie.close (tie.spec (λ c κs. search needs) returns shared-slice-read-first (λ c. search needs) shared-slice-read-last
-    (λ c κs. search needs) (λ c κs. search needs) returns-2 returns-3 returns-4 (λ c. search needs) (λ c. search needs) listed-requires
-    (λ c. search needs) (λ c. search needs) sub-numbered numbered-requires returns-5 returns-6 returns-7)
+    tie.close (tie.spec (λ c. search needs) returns (λ c. search needs) (λ c. search needs) (λ c. search needs) returns-2 returns-3
+    returns-4
+    (λ c κs. search needs) returns-5 (λ c κs. search needs) (λ c κs. search needs) (λ c. search needs) (λ c. search needs) listed-requires
+    (λ c. search needs) (λ c. search needs) sub-numbered numbered-requires returns-6 returns-7 returns-8)
