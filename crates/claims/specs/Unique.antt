@@ -38,7 +38,8 @@ use Rattle.table.specs.declared.row.Row.{Row}
 use Rattle.table.specs.Layout.{descriptors, isTrack, isExtra}
 use Rattle.table.specs.Row.{rowOf, framesOf, startOf, rowTest}
 use Rattle.table.specs.Asked.{kept, a0Kept, a1Kept, extraKept, climbs, holds}
-use Rattle.sessions.specs.Session.{size, inOrder, starts}
+use Rattle.sessions.specs.declared.session.Session.{Session}
+use Rattle.sessions.specs.Session.{size, starts, readSession}
 use Rattle.disc.specs.Rules.{fault}
 use Rattle.disc.specs.Part.{PartOf, partRefused, partStart, partSize}
 use Rattle.tracks.specs.Track.{isData, trackOf, trackNumbered, runIsData}
@@ -249,8 +250,8 @@ unique-holds e low r s = value-once
 pub unique-session-bytes : (d : List ℕ) (r s : ℕ) → r ≡ size d → s ≡ size d → r ≡ s
 unique-session-bytes d r s = value-once
 
-pub unique-in-order : (d : List ℕ) (n : ℕ) (r s : Bool) → r ≡ inOrder n d → s ≡ inOrder n d → r ≡ s
-unique-in-order d n r s = value-once
+pub unique-read-session : (d : List ℕ) (k : ℕ) (r s : Session) → r ≡ readSession k d → s ≡ readSession k d → r ≡ s
+unique-read-session d k r s = value-once
 
 pub unique-starts-after : (d : List ℕ) (n r s : ℕ) → r ≡ starts d n → s ≡ starts d n → r ≡ s
 unique-starts-after d n r s = value-once
