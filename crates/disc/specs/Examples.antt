@@ -153,7 +153,8 @@ cases =
     -- the first session's f is free, and MIN, SEC and FRAME may hold anything
     ∷ (framed 1 (heads 1 7 8 9 ++ (entryAt 1 7 0 ++ entryAt 1 8 1)) gives 0)
     ∷ (set (changed 3 4 255) 20 99 gives 0)
-    -- two rules broken: the first is given
+    -- two rules broken: the first is given, also 3 by the last descriptor where the first breaks 4
+    ∷ (set (changed 4 2 1) 4 9 gives 3)
     ∷ (set (changed 4 10 75) 14 1 gives 5)
     ∷ (set (set tableE 3 100) 1 0 gives 1)
     -- as many tracks as there can be
