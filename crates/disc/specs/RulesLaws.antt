@@ -49,7 +49,7 @@ pub record FirstOf (a b c d e f g : Bool) (n : ℕ) : Type 0 where
   pub seven : eqb n 7 ≡ a and b and c and d and e and f and not g
   pub most : n ≤ 7
 
-pub firstBroken-first : (a b c d e f g : Bool) → FirstOf a b c d e f g (firstBroken 1 (a ∷ b ∷ c ∷ d ∷ e ∷ f ∷ g ∷ []))
+firstBroken-first : (a b c d e f g : Bool) → FirstOf a b c d e f g (firstBroken 1 (a ∷ b ∷ c ∷ d ∷ e ∷ f ∷ g ∷ []))
 unfolding firstBroken _and_
 firstBroken-first false b c d e f g = record { zero = refl; one = refl; two = refl; three = refl; four = refl; five = refl; six = refl; seven = refl; most = omega arith }
 firstBroken-first true false c d e f g = record { zero = refl; one = refl; two = refl; three = refl; four = refl; five = refl; six = refl; seven = refl; most = omega arith }
@@ -111,7 +111,7 @@ module _ {n : ℕ} {d : List ℕ} {at : ℕ} (t : Tested n d at) where
       let e : at ≡ length d = omega arith in
       sym (rw e at (t .passed))
 
--- where those before byte `at` keep it, what is left of the table decides
+-- where the first j keep it, what is left of the table decides
 pub eachRow-rest :
     (n : ℕ) (d : List ℕ) (j : ℕ) → row * j ≤ length d → ((i : ℕ) → i < j → rowTest n (rowAt d i) ≡ true)
     → eachRow n (drop (row * j) d) ≡ eachRow n d
