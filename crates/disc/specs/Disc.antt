@@ -28,6 +28,7 @@ discFrom n d = record {
   «last_first_start» = addressAt (session d (n - 1)) 3;
 }
 
+-- of a table
 abbrev pub discOf : List ℕ → Disc
 discOf t = discFrom (lastSession t) (descriptors t)
 

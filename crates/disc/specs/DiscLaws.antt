@@ -1,4 +1,4 @@
--- What a reading tells: a fit table's disc, or that the table is not fit.
+-- What a reading tells: a fit table's disc, or the first broken rule.
 use mathlib.Core.Path.{_≡_, refl, sym, ap, _∙_}
 use mathlib.Core.Bool.{Bool, true, false}
 use mathlib.Core.List.{List}

@@ -1,4 +1,4 @@
--- The laws of a session's part: when it is given, and that it is never empty then.
+-- The laws of a session's part: when it is given, that it is never empty then, and which rule stands beside its refusal.
 use mathlib.Core.Path.{_≡_, refl, sym, ap, _∙_}
 use mathlib.Core.Bool.{Bool, true, false}
 use mathlib.Core.List.{List}

@@ -1,6 +1,6 @@
 -- The one walk decides fitness: a walk that is kept keeps rules 3 to 7, and that of a fit table is kept.
 use mathlib.Core.Path.{_≡_, refl, sym, ap, _∙_}
-use mathlib.Core.Bool.{true, false}
+use mathlib.Core.Bool.{Bool, true, false}
 use mathlib.Core.List.{List, _∷_}
 use Prim.Native.Nat.{ℕ, zero, suc, _+_, _-_, _≤_, _<_}
 use native.Mathlib.Omega.{arith}
@@ -8,10 +8,10 @@ use native.Mathlib.Numerals.{add-one}
 use borrow.Author.Tests.{lt-ltb, eq-eqb, eqb-true, ne-eqb}
 use lib.Dec.{eqb}
 use lib.ListN.{length}
-use Rattle.ground.specs.Tests.{every, and-head, and-tail, and-both, every-at, every-all, or-left, or-right, or-else}
+use Rattle.ground.specs.Tests.{every, either, and-head, and-tail, and-both, every-at, every-all, or-left, or-right, or-else}
 use Rattle.table.specs.Layout.{lastSession, descriptors}
 use Rattle.table.specs.Row.{rowAt, framesAt, rowTest}
-use Rattle.table.specs.RowLaws.{startOf-frames, headed-A0, headed-A1, rowTest-3, rowTest-5, rowTest-6}
+use Rattle.table.specs.RowLaws.{startOf-frames, headed-A0, headed-A1, rowTest-3, rowTest-5}
 use Rattle.table.specs.AskedLaws.{climbs-low, range-climbs, range-holds, range-least}
 use Rattle.sessions.specs.Session.{first, tracks, count, starts, session, before, follows, inPlace, inOrder}
 use Rattle.sessions.specs.SessionLaws.{isSession-true, inPlace-follows, rowsBefore, starts-rows}
@@ -43,22 +43,19 @@ module _ (n : ℕ) (d : List ℕ) (w : every n (stepKept d) ≡ true) where
   kept-floor zero h = omega arith
   kept-floor (suc k) h = let l = sound-lead (kept-sound {k = k} (omega arith)) (kept-floor k (omega arith)) in omega arith
 
-  -- a test that each session's descriptors pass, those of them all pass
-  kept-rows :
-      (r : ℕ) → ((k i : ℕ) → k < n → i < count (session d k) → rowTest r (rowAt (session d k) i) ≡ true)
-      → (j : ℕ) → j < rowsBefore d n → rowTest r (rowAt d j) ≡ true
-  kept-rows r each j h =
+  -- each of a session's descriptors passes what rules 3, 5 and 6 ask, and so what any number chooses
+  kept-each : (m k i : ℕ) → k < n → i < count (session d k) → rowTest m (rowAt (session d k) i) ≡ true
+  unfolding rowTest
+  kept-each m k i l g =
+      either (λ (x : Bool). x ≡ true) (eqb m 3) (λ _. kept-sound l .rule3 i g)
+      (λ _. either (λ (x : Bool). x ≡ true) (eqb m 5) (λ _. sound-headed (kept-sound l) i g)
+      (λ _. sound-addressed (kept-sound l) (kept-floor k (omega arith)) i g))
+
+  -- so do those of them all
+  pub kept-rule : (m j : ℕ) → j < rowsBefore d n → rowTest m (rowAt d j) ≡ true
+  kept-rule m j h =
       let q = locate d n j h in
-      rw (q .place) (ap (rowTest r) (sym (rowAt-session d (q .k) (q .i))) ∙ each (q .k) (q .i) (q .below) (q .inside))
-
-  pub kept-rule3 : (j : ℕ) → j < rowsBefore d n → rowTest 3 (rowAt d j) ≡ true
-  kept-rule3 = kept-rows 3 (λ k i l g. rowTest-3 _ ∙ kept-sound l .rule3 i g)
-
-  pub kept-rule5 : (j : ℕ) → j < rowsBefore d n → rowTest 5 (rowAt d j) ≡ true
-  kept-rule5 = kept-rows 5 (λ k i l g. rowTest-5 _ ∙ sound-headed (kept-sound l) i g)
-
-  pub kept-rule6 : (j : ℕ) → j < rowsBefore d n → rowTest 6 (rowAt d j) ≡ true
-  kept-rule6 = kept-rows 6 (λ k i l g. rowTest-6 _ ∙ sound-addressed (kept-sound l) (kept-floor k (omega arith)) i g)
+      rw (q .place) (ap (rowTest m) (sym (rowAt-session d (q .k) (q .i))) ∙ kept-each m (q .k) (q .i) (q .below) (q .inside))
 
   pub kept-places : every n (inPlace d) ≡ true
   unfolding inPlace stepKept
@@ -94,19 +91,11 @@ module _ (n : ℕ) (d : List ℕ) (w : walkKept n d ≡ true) where
   unfolding walkKept
   walk-end = eqb-true _ _ (and-tail _ _ w)
 
-  -- every descriptor is one of its sessions'
-  walk-rows : (r : ℕ) → ((j : ℕ) → j < rowsBefore d n → rowTest r (rowAt d j) ≡ true) → eachRow r d ≡ true
+  -- rules 3, 5 and 6: every descriptor is one of its sessions'
+  pub walk-rule : (m : ℕ) → eachRow m d ≡ true
   unfolding eachRow
-  walk-rows r each = every-all _ _ (λ j h. each j (let e = walk-end in let s = starts-rows d n in omega arith))
-
-  pub walk-rule3 : eachRow 3 d ≡ true
-  walk-rule3 = walk-rows 3 (kept-rule3 n d walk-steps)
-
-  pub walk-rule5 : eachRow 5 d ≡ true
-  walk-rule5 = walk-rows 5 (kept-rule5 n d walk-steps)
-
-  pub walk-rule6 : eachRow 6 d ≡ true
-  walk-rule6 = walk-rows 6 (kept-rule6 n d walk-steps)
+  walk-rule m =
+      every-all _ _ (λ j h. kept-rule n d walk-steps m j (let e = walk-end in let s = starts-rows d n in omega arith))
 
   pub walk-rule4 : inOrder n d ≡ true
   unfolding inOrder
@@ -177,10 +166,10 @@ walk-fit t h g = same-test _ _
     (λ w. fit-isFit (record {
       rule1 = h;
       rule2 = g;
-      rule3 = walk-rule3 _ _ w;
+      rule3 = walk-rule _ _ w 3;
       rule4 = walk-rule4 _ _ w;
-      rule5 = walk-rule5 _ _ w;
-      rule6 = walk-rule6 _ _ w;
+      rule5 = walk-rule _ _ w 5;
+      rule6 = walk-rule _ _ w 6;
       rule7 = walk-rule7 _ _ w;
     })) (λ e. fit-walk (isFit-true e))
 

@@ -13,7 +13,7 @@ use lib.Seq.{drop-drop}
 use lib.Dec.{eqb}
 use Rattle.ground.specs.Tests.{_and_, if_then_else_, when, unless, every, and-on, and-off, and-late, and-both, and-head, and-tail, and-with, every-none, every-more, every-breaks}
 use Rattle.table.specs.Layout.{row, pointAt, B0, C0}
-use Rattle.table.specs.Row.{rowFrom, rowAt, framesOf, framesAt, names, rowTest}
+use Rattle.table.specs.Row.{rowFrom, rowAt, framesOf, framesAt, names}
 use Rattle.table.specs.RowLaws.{startOf-frames}
 use Rattle.table.specs.declared.row.Row.{Row}
 use Rattle.table.specs.Asked.{kept, extraPassed, climbs, holds}
@@ -26,7 +26,7 @@ use Rattle.disc.specs.FitLaws.{session-none}
 use Rattle.disc.specs.Disc.{discFrom}
 use Rattle.disc.specs.Walk.{headsKept, floorAt, trackKept, tracksKept, tracksEnd, extrasKept, sessionKept, extraEnd, extrasEnd, sessionEnd, floorOf, nextOf, stepKept, walkKept, rowsReading}
 use Rattle.disc.specs.WalkLaws.{floorAt-next, floorOf-next, sessionKept-sound}
-use Rattle.disc.specs.WalkFit.{next-follows, kept-rule3, kept-rule5, kept-rule6, kept-places, kept-rising}
+use Rattle.disc.specs.WalkFit.{next-follows, kept-rule, kept-places, kept-rising}
 use Rattle.disc.specs.declared.disc.Disc.{Disc}
 use Rattle.disc.specs.declared.disc.Reading.the-variants.{Fit, Unfit}
 
@@ -121,7 +121,7 @@ extraEnd-rows d k j p = elim (ℕ-discrete (pointAt d j) p) [
     there = omega arith
 
 -- past the end stands none
-extraEnd-past : (d : List ℕ) (k at p : ℕ) → length d ≤ at → 1 ≤ p → at ≡ extraEnd d k at p
+pub extraEnd-past : (d : List ℕ) (k at p : ℕ) → length d ≤ at → 1 ≤ p → at ≡ extraEnd d k at p
 unfolding extraEnd
 extraEnd-past d k at p h l =
     sym (unless _ _ _ (ne-eqb (getD d (at + 3) 0) p (λ e. let z = List·getD-eq-default d 0 {n = at + 3} (omega arith) in omega arith)))
@@ -277,22 +277,12 @@ module _ {n : ℕ} {d : List ℕ} {k at next floor : ℕ} (r : Trod n d k at nex
 
   -- ---- the rules from there on
 
-  -- a rule that each descriptor of the sessions passed keeps is decided by what is left
-  trod-rest :
-      (m : ℕ) → ((j : ℕ) → j < rowsBefore d k → rowTest m (rowAt d j) ≡ true) → eachRow m (drop at d) ≡ eachRow m d
-  trod-rest m f =
+  -- rules 3, 5 and 6: each descriptor of the sessions passed keeps them, so what is left decides
+  pub trod-rule : (m : ℕ) → eachRow m (drop at d) ≡ eachRow m d
+  trod-rule m =
       let e = r .walked .place ∙ starts-rows d k in
       let w = r .walked .within in
-      rw e (eachRow-rest m d (rowsBefore d k) (omega arith) f)
-
-  pub trod-rule3 : eachRow 3 (drop at d) ≡ eachRow 3 d
-  trod-rule3 = trod-rest 3 (kept-rule3 k d (r .passed))
-
-  pub trod-rule5 : eachRow 5 (drop at d) ≡ eachRow 5 d
-  trod-rule5 = trod-rest 5 (kept-rule5 k d (r .passed))
-
-  pub trod-rule6 : eachRow 6 (drop at d) ≡ eachRow 6 d
-  trod-rule6 = trod-rest 6 (kept-rule6 k d (r .passed))
+      rw e (eachRow-rest m d (rowsBefore d k) (omega arith) (kept-rule k d (r .passed) m))
 
   -- whole descriptors are left
   pub trod-whole : length d % row ≡ 0 → length (drop at d) % row ≡ 0

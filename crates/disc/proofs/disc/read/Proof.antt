@@ -25,13 +25,11 @@ part-walk-start c =
 
 walk-requires : tie.Need-walk-requires
 walk-requires c κs =
-    rw rest-all
-    (let s = rule1-parts (sym (c .before .before .before .before .before .rule1 .ensures) ∙ c .before .before .before .before .if1 .taken)
-    in
+    let h = sym (c .before .before .before .before .before .rule1 .ensures) ∙ c .before .before .before .before .if1 .taken in
+    let l = rule1-parts h .whole in
     let n = rule2-parts (sym (c .before .before .before .rule2 .ensures) ∙ c .before .before .if2 .taken) in
-    let l = s .whole in
     let e = length-drop 4 (c .before .before .before .before .before .before .before .args .t .now) in
-    (omega arith, n .low, n .high))
+    rw rest-all (omega arith, n .low, n .high)
 
 returns : tie.Need-returns
 returns c =

@@ -4,7 +4,7 @@ use mathlib.Core.Bool.{Bool}
 use Rattle.ground.specs.Memory.{rest-all}
 use Rattle.disc.specs.Rules.{eachRow, rowRules}
 use Rattle.disc.specs.RulesLaws.{firstBroken-on, firstBroken-off}
-use Rattle.disc.specs.WalkSteps.{trod-rule3, trod-whole, trod-reached}
+use Rattle.disc.specs.WalkSteps.{trod-rule, trod-whole, trod-reached}
 use borrow.Author.Needs.{needs}
 use Rattle.disc.proofs.rules.fault_from.Statement.{statement}
 use Rattle.disc.proofs.rules.fault_from.Tie as tie
@@ -28,7 +28,7 @@ late-fault-requires c κs =
 
 -- what the pass told of the whole table
 three : (c : tie.After-each-row) {b : Bool} → c .each-row .result ≡ b → eachRow 3 (c .before .before .before .args .d .now) ≡ b
-three c h = sym (trod-rule3 (c .before .before .before .pre .1)) ∙ sym (rw rest-all at (c .each-row .ensures)) ∙ h
+three c h = sym (trod-rule (c .before .before .before .pre .1) 3) ∙ sym (rw rest-all at (c .each-row .ensures)) ∙ h
 
 returns : tie.Need-returns
 unfolding rowRules

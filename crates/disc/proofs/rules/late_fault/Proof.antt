@@ -4,7 +4,7 @@ use mathlib.Core.Bool.{Bool}
 use Rattle.ground.specs.Memory.{rest-all}
 use Rattle.disc.specs.Rules.{eachRow, lateRules}
 use Rattle.disc.specs.RulesLaws.{firstBroken-on, firstBroken-off, firstBroken-none}
-use Rattle.disc.specs.WalkSteps.{trod-rule5, trod-rule6, trod-whole, trod-risen}
+use Rattle.disc.specs.WalkSteps.{trod-rule, trod-whole, trod-risen}
 use borrow.Author.Needs.{needs}
 use Rattle.disc.proofs.rules.late_fault.Statement.{statement}
 use Rattle.disc.proofs.rules.late_fault.Tie as tie
@@ -30,12 +30,12 @@ rule7-requires c κs = (
 
 -- what the two passes told of the whole table
 five : (c : tie.After-each-row) {b : Bool} → c .each-row .result ≡ b → eachRow 5 (c .before .before .before .args .d .now) ≡ b
-five c h = sym (trod-rule5 (c .before .before .before .pre .2)) ∙ sym (rw rest-all at (c .each-row .ensures)) ∙ h
+five c h = sym (trod-rule (c .before .before .before .pre .2) 5) ∙ sym (rw rest-all at (c .each-row .ensures)) ∙ h
 
 six :
-    (c : tie.After-each-row2) {b : Bool} → c .each-row2 .result ≡ b → eachRow 6 (c .before .before .before .before .before .args .d .now) ≡
-    b
-six c h = sym (trod-rule6 (c .before .before .before .before .before .pre .2)) ∙ sym (rw rest-all at (c .each-row2 .ensures)) ∙ h
+    (c : tie.After-each-row2) {b : Bool} → c .each-row2 .result ≡ b
+    → eachRow 6 (c .before .before .before .before .before .args .d .now) ≡ b
+six c h = sym (trod-rule (c .before .before .before .before .before .pre .2) 6) ∙ sym (rw rest-all at (c .each-row2 .ensures)) ∙ h
 
 returns : tie.Need-returns
 unfolding lateRules

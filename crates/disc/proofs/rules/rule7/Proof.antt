@@ -42,8 +42,7 @@ told :
     → (rises (drop (c .before .before .before .before .loop .at) (c .before .before .before .before .before .before .args .d .now))
     (tracks (drop (c .before .before .before .before .loop .at) (c .before .before .before .before .before .before .args .d .now)))
     and beginsAfter (c .before .before .before .before .loop .k) (c .before .before .before .before .loop .out)
-    (trackStart (drop (c .before .before .before .before .loop .at) (c .before .before .before .before .before .before .args .d .now)) 0)) ≡
-    b
+    (trackStart (drop (c .before .before .before .before .loop .at) (c .before .before .before .before .before .before .args .d .now)) 0)) ≡ b
 told c h = sym (rw (rest-all, c .before .wide .ensures .same) at (c .session-rises .ensures)) ∙ h
 
 loop-holds : tie.Need-loop-holds Inv-loop μ-loop

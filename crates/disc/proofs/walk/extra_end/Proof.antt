@@ -1,12 +1,11 @@
 -- `disc::walk::extra_end` meets its contract: the two tests are the definition's, in its order, and past the end stands no POINT.
-use mathlib.Core.Path.{_≡_, sym, ap, _∙_}
-use Prim.Native.Nat.{_+_}
+use mathlib.Core.Path.{sym, ap, _∙_}
 use native.Mathlib.Omega.{arith}
 use borrow.Author.Tests.{eq-eqb, ne-eqb}
-use lib.ListN.{getD, List·getD-eq-default}
 use Rattle.ground.specs.Tests.{when, unless}
 use Rattle.table.specs.declared.row.Row.{Row}
 use Rattle.disc.specs.Walk.{extraEnd}
+use Rattle.disc.specs.WalkSteps.{extraEnd-past}
 use borrow.Author.Needs.{needs}
 use Rattle.disc.proofs.walk.extra_end.Statement.{statement}
 use Rattle.disc.proofs.walk.extra_end.Tie as tie
@@ -39,17 +38,7 @@ returns-3 c = (
 )
 
 returns-4 : tie.Need-returns-4
-unfolding extraEnd
-returns-4 c = (
-  sym
-      (unless _ _ _
-      (ne-eqb _ _
-      (λ e. let p = c .before .before .pre .3 in
-      let z = List·getD-eq-default (c .before .before .args .d .now) 0 {n = c .before .before .args .at + 3} (omega arith) in
-      let q : getD (c .before .before .args .d .now) (c .before .before .args .at + 3) 0 ≡ c .before .before .args .p = e in
-      omega arith))),
-  (omega arith, omega arith),
-)
+returns-4 c = (extraEnd-past _ _ _ _ (c .if1 .left) (c .before .before .pre .3), (omega arith, omega arith))
 
 pub extra-end-spec : {M : Type 1} → statement M
 extra-end-spec =
