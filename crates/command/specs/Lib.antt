@@ -1,3 +1,5 @@
 pub mod Command
+pub mod Class
+pub mod ClassLaws
 pub mod Tray
 pub mod Done

@@ -1,4 +1,6 @@
 // Operation code to command, how it meets a pending attention, and whether it needs a disc.
+use crate::class::class_at;
+use crate::class::command_of;
 use crate::field::bit0;
 use crate::field::bit1;
 ghost use mathlib.Core.Path.{_≡_};
@@ -18,22 +20,11 @@ pub enum Command {
     Unknown,
 }
 
+// The command of an operation code, by its row of the table.
 pub fn decode(code: u8) -> Command
     ensures { λ r. ⌜ r ≡ decode code ⌝ }
 {
-    match code {
-        0x00 => Command::TestUnitReady,
-        0x03 => Command::RequestSense,
-        0x12 => Command::Inquiry,
-        0x1B => Command::StartStop,
-        0x1E => Command::Prevent,
-        0x25 => Command::ReadCapacity,
-        0x28 => Command::Read10,
-        0x2B => Command::Seek,
-        0x43 => Command::ReadToc,
-        0xA8 => Command::Read12,
-        _ => Command::Unknown,
-    }
+    command_of(class_at(code))
 }
 
 // How a packet meets a pending attention.

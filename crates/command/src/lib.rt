@@ -1,4 +1,5 @@
 // The commands by operation code, and those that look at the drive alone.
+mod class;
 pub mod decode;
 pub mod done;
 pub mod field;

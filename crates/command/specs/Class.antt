@@ -1,0 +1,50 @@
+-- K5: "a fixed table of 256 rows, one per code, giving the command's class or "unknown"".
+use Prim.Native.Nat.{ℕ}
+use mathlib.Core.Bool.{Bool}
+use mathlib.Core.List.{List}
+use lib.ListN.{getD}
+use lib.Dec.{eqb}
+use Rattle.ground.specs.Tests.{if_then_else_, every}
+use Rattle.command.specs.declared.decode.Command.{Command}
+use Rattle.command.specs.declared.decode.Command.the-variants.{TestUnitReady, RequestSense, Inquiry, StartStop, Prevent, ReadCapacity, Read10, Seek, ReadToc, Read12, Unknown}
+use Rattle.command.specs.Command.{decode}
+
+-- "the command's class": its number in 01's list of packets, and 0 for "unknown"
+unfoldable pub classOf : Command → ℕ
+classOf Unknown = 0
+classOf TestUnitReady = 1
+classOf RequestSense = 2
+classOf Inquiry = 3
+classOf StartStop = 4
+classOf Prevent = 5
+classOf ReadCapacity = 6
+classOf Read10 = 7
+classOf Seek = 8
+classOf ReadToc = 9
+classOf Read12 = 10
+
+-- the class of an operation code
+abbrev pub classAt : ℕ → ℕ
+classAt code = classOf (decode code)
+
+-- row `code` of a table
+unfoldable pub rowAt : List ℕ → ℕ → ℕ
+rowAt rows code = getD rows code 0
+
+-- "The rule tying a row to its code", as one test over the whole table: each of the 256 rows holds its code's class
+abbrev pub isRuled : List ℕ → Bool
+isRuled rows = every 256 (λ code. eqb (getD rows code 0) (classAt code))
+
+-- the command that a class stands for
+unfoldable pub commandOf : ℕ → Command
+commandOf class =
+    if eqb class 1 then TestUnitReady else (
+    if eqb class 2 then RequestSense else (
+    if eqb class 3 then Inquiry else (
+    if eqb class 4 then StartStop else (
+    if eqb class 5 then Prevent else (
+    if eqb class 6 then ReadCapacity else (
+    if eqb class 7 then Read10 else (
+    if eqb class 8 then Seek else (
+    if eqb class 9 then ReadToc else (
+    if eqb class 10 then Read12 else Unknown)))))))))

@@ -1,0 +1,32 @@
+-- What the table's rule gives at each code, and that a class stands for one command.
+use mathlib.Core.Path.{_≡_, refl}
+use mathlib.Core.Bool.{true}
+use mathlib.Core.List.{List}
+use Prim.Native.Nat.{ℕ, _<_}
+use lib.ListN.{getD}
+use lib.Dec.{eqb}
+use borrow.Author.Tests.{eqb-true}
+use Rattle.ground.specs.Tests.{if_then_else_, every-at}
+use Rattle.command.specs.declared.decode.Command.{Command}
+use Rattle.command.specs.declared.decode.Command.the-variants.{TestUnitReady, RequestSense, Inquiry, StartStop, Prevent, ReadCapacity, Read10, Seek, ReadToc, Read12, Unknown}
+use Rattle.command.specs.Class.{classOf, classAt, rowAt, isRuled, commandOf}
+
+-- a table that keeps the rule has at each code that code's class
+pub rowAt-ruled : (rows : List ℕ) → isRuled rows ≡ true → (code : ℕ) → code < 256 → rowAt rows code ≡ classAt code
+unfolding rowAt
+rowAt-ruled rows h code l = eqb-true _ _ (every-at 256 (λ k. eqb (getD rows k 0) (classAt k)) h code l)
+
+-- a command's class stands for that command
+pub commandOf-class : (c : Command) → commandOf (classOf c) ≡ c
+unfolding commandOf classOf if_then_else_
+commandOf-class Unknown = refl
+commandOf-class TestUnitReady = refl
+commandOf-class RequestSense = refl
+commandOf-class Inquiry = refl
+commandOf-class StartStop = refl
+commandOf-class Prevent = refl
+commandOf-class ReadCapacity = refl
+commandOf-class Read10 = refl
+commandOf-class Seek = refl
+commandOf-class ReadToc = refl
+commandOf-class Read12 = refl
