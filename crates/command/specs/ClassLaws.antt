@@ -3,8 +3,6 @@ use mathlib.Core.Path.{_≡_, refl}
 use mathlib.Core.Bool.{true}
 use mathlib.Core.List.{List}
 use Prim.Native.Nat.{ℕ, _<_}
-use lib.ListN.{getD}
-use lib.Dec.{eqb}
 use borrow.Author.Tests.{eqb-true}
 use Rattle.ground.specs.Tests.{if_then_else_, every-at}
 use Rattle.command.specs.declared.decode.Command.{Command}
@@ -14,7 +12,7 @@ use Rattle.command.specs.Class.{classOf, classAt, rowAt, isRuled, comman
 -- a table that keeps the rule has at each code that code's class
 pub rowAt-ruled : (rows : List ℕ) → isRuled rows ≡ true → (code : ℕ) → code < 256 → rowAt rows code ≡ classAt code
 unfolding rowAt
-rowAt-ruled rows h code l = eqb-true _ _ (every-at 256 (λ k. eqb (getD rows k 0) (classAt k)) h code l)
+rowAt-ruled rows h code l = eqb-true _ _ (every-at _ _ h code l)
 
 -- a command's class stands for that command
 pub commandOf-class : (c : Command) → commandOf (classOf c) ≡ c
