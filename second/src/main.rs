@@ -7,7 +7,7 @@ use std::path::Path;
 use std::process::ExitCode;
 
 use second::cases::{bad, made, pairs};
-use second::{examples, files, listing, replay, stored, tally};
+use second::{appendix, examples, files, listing, replay, stored, tally};
 
 const USAGE: &str = "usage: second replay
        second tally
@@ -17,6 +17,7 @@ const USAGE: &str = "usage: second replay
        second stored ROOT
        second check ROOT
        second examples DIR
+       second appendix
        second made
        second made NAME DIR";
 
@@ -66,6 +67,7 @@ fn run(words: &[&str]) -> io::Result<ExitCode> {
             println!("stored cases: {count} files agree");
         }
         ["examples", dir] => files::write(Path::new(dir), &examples::files())?,
+        ["appendix"] => print((appendix::lines().join("\n") + "\n").as_bytes())?,
         ["made"] => {
             let names: Vec<&str> = made::names().collect();
             print((names.join("\n") + "\n").as_bytes())?;

@@ -3,6 +3,7 @@
 use std::fs;
 use std::path::Path;
 
+use crate::appendix;
 use crate::cases::bad;
 use crate::cases::pairs::{each_rule, stored_pair};
 use crate::cases::picked;
@@ -51,6 +52,7 @@ pub fn files() -> Vec<File> {
 }
 
 /// One line for each file that is missing or differs; the number looked at.
+/// The page of Appendix A (K5) is looked at too, though `files` has it not.
 pub fn check(root: &Path) -> (usize, Vec<String>) {
     let mut all = files();
     for (name, bytes) in examples::files() {
@@ -64,5 +66,6 @@ pub fn check(root: &Path) -> (usize, Vec<String>) {
             Err(_) => lines.push(format!("missing: {name}")),
         }
     }
-    (all.len(), lines)
+    lines.extend(appendix::check(root));
+    (all.len() + 1, lines)
 }

@@ -8,7 +8,7 @@ use crate::cases::pairs::{self, Pair};
 use crate::cases::sheet::{disc_e, two_sessions, Sheet};
 use crate::cases::stream::Stream;
 use crate::cases::{
-    mode_five, picked, picked_fields, picked_state, picked_tables, random, several,
+    mode_five, picked, picked_codes, picked_fields, picked_state, picked_tables, random, several,
 };
 use crate::examples;
 use crate::files::File;
@@ -49,7 +49,7 @@ macro_rules! named {
     };
 }
 
-const MAKERS: [(&str, Maker); 44] = [
+const MAKERS: [(&str, Maker); 46] = [
     named!(Start, picked_state::from_nothing),
     named!(Calls, picked_state::attentions),
     named!(Calls, picked_state::senses),
@@ -60,6 +60,8 @@ const MAKERS: [(&str, Maker); 44] = [
     named!(Calls, picked_state::tray_traces),
     named!(Calls, picked::conversions),
     named!(Calls, picked_fields::codes),
+    named!(Calls, picked_codes::every_row),
+    named!(Calls, picked_codes::every_row_told),
     named!(Calls, picked_fields::bits),
     named!(Calls, picked_fields::lengths),
     named!(Calls, picked_fields::toc_numbers),

@@ -1,7 +1,7 @@
 //! The lists picked by hand, one after the other.
 
 use crate::cases::stream::Stream;
-use crate::cases::{picked_fields, picked_state, picked_tables};
+use crate::cases::{picked_codes, picked_fields, picked_state, picked_tables};
 
 /// Every hand-picked case, from the very start of a run.
 pub fn all(stream: &mut Stream) {
@@ -15,6 +15,8 @@ pub fn all(stream: &mut Stream) {
     picked_state::longest_answer(stream);
     picked_state::tray_traces(stream);
     picked_fields::codes(stream);
+    picked_codes::every_row(stream);
+    picked_codes::every_row_told(stream);
     picked_fields::bits(stream);
     picked_fields::lengths(stream);
     picked_fields::toc_numbers(stream);
