@@ -1,4 +1,5 @@
-/* packets TABLE N BYTE..: meets one packet of twelve hex bytes N times with the table in a file (an empty one for no disc), and prints bytes, start and status. */
+/* packets TABLE N BYTE..: meets one packet of twelve hex bytes N times with the table in a file (an empty one for no disc), and prints
+   bytes, start and status. */
 #include <stdint.h>
 #include <stdio.h>
 #include <stdlib.h>

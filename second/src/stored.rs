@@ -52,7 +52,7 @@ pub fn files() -> Vec<File> {
 }
 
 /// One line for each file that is missing or differs; the number looked at.
-/// The page of Appendix A (K5) is looked at too, though `files` has it not.
+/// The page of Appendix A (K5) is looked at too, though `files` does not have it.
 pub fn check(root: &Path) -> (usize, Vec<String>) {
     let mut all = files();
     for (name, bytes) in examples::files() {

@@ -27,15 +27,15 @@ classOf Read12 = 10
 abbrev pub classAt : ℕ → ℕ
 classAt code = classOf (decode code)
 
--- row `code` of a table
+-- row `code` of a table; past its end 0, "unknown" (sealed, so that a law about it finds the table in the goal)
 unfoldable pub rowAt : List ℕ → ℕ → ℕ
 rowAt rows code = getD rows code 0
 
 -- "The rule tying a row to its code", as one test over the whole table: each of the 256 rows holds its code's class
-abbrev pub isRuled : List ℕ → Bool
-isRuled rows = every 256 (λ code. eqb (getD rows code 0) (classAt code))
+abbrev pub keepsRule : List ℕ → Bool
+keepsRule rows = every 256 (λ code. eqb (getD rows code 0) (classAt code))
 
--- the command that a class stands for
+-- the command that a class stands for; any other number is "unknown"
 unfoldable pub commandOf : ℕ → Command
 commandOf class =
     if eqb class 1 then TestUnitReady else (

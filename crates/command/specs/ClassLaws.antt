@@ -1,4 +1,4 @@
--- What the table's rule gives at each code, and that a class stands for one command.
+-- What the table's rule gives at each code, and that a command's class stands for that command.
 use mathlib.Core.Path.{_≡_, refl}
 use mathlib.Core.Bool.{true}
 use mathlib.Core.List.{List}
@@ -7,10 +7,10 @@ use borrow.Author.Tests.{eqb-true}
 use Rattle.ground.specs.Tests.{if_then_else_, every-at}
 use Rattle.command.specs.declared.decode.Command.{Command}
 use Rattle.command.specs.declared.decode.Command.the-variants.{TestUnitReady, RequestSense, Inquiry, StartStop, Prevent, ReadCapacity, Read10, Seek, ReadToc, Read12, Unknown}
-use Rattle.command.specs.Class.{classOf, classAt, rowAt, isRuled, commandOf}
+use Rattle.command.specs.Class.{classOf, classAt, rowAt, keepsRule, commandOf}
 
 -- a table that keeps the rule has at each code that code's class
-pub rowAt-ruled : (rows : List ℕ) → isRuled rows ≡ true → (code : ℕ) → code < 256 → rowAt rows code ≡ classAt code
+pub rowAt-ruled : (rows : List ℕ) → keepsRule rows ≡ true → (code : ℕ) → code < 256 → rowAt rows code ≡ classAt code
 unfolding rowAt
 rowAt-ruled rows h code l = eqb-true _ _ (every-at _ _ h code l)
 
