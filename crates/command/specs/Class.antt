@@ -1,7 +1,7 @@
 -- K5: "a fixed table of 256 rows, one per code, giving the command's class or "unknown"".
 use Prim.Native.Nat.{ℕ}
 use mathlib.Core.Bool.{Bool}
-use mathlib.Core.List.{List}
+use mathlib.Core.List.{List, [], _∷_}
 use lib.ListN.{getD}
 use lib.Dec.{eqb}
 use Rattle.ground.specs.Tests.{if_then_else_, every}
@@ -35,16 +35,15 @@ rowAt rows code = getD rows code 0
 abbrev pub keepsRule : List ℕ → Bool
 keepsRule rows = every 256 (λ code. eqb (getD rows code 0) (classAt code))
 
--- the command that a class stands for; any other number is "unknown"
-unfoldable pub commandOf : ℕ → Command
-commandOf class =
-    if eqb class 1 then TestUnitReady else (
-    if eqb class 2 then RequestSense else (
-    if eqb class 3 then Inquiry else (
-    if eqb class 4 then StartStop else (
-    if eqb class 5 then Prevent else (
-    if eqb class 6 then ReadCapacity else (
-    if eqb class 7 then Read10 else (
-    if eqb class 8 then Seek else (
-    if eqb class 9 then ReadToc else (
-    if eqb class 10 then Read12 else Unknown)))))))))
+-- 01's list of packets
+abbrev pub packets : List Command
+packets = TestUnitReady ∷ RequestSense ∷ Inquiry ∷ StartStop ∷ Prevent ∷ ReadCapacity ∷ Read10 ∷ Seek ∷ ReadToc ∷ Read12 ∷ []
+
+-- the command in a list that has the class; where none has it, "unknown"
+unfoldable pub withClass : List Command → ℕ → Command
+withClass [] class = Unknown
+withClass (c ∷ commands) class = if eqb class (classOf c) then c else withClass commands class
+
+-- the command that a class stands for
+abbrev pub commandOf : ℕ → Command
+commandOf class = withClass packets class

@@ -7,7 +7,7 @@ use borrow.Author.Tests.{eqb-true}
 use Rattle.ground.specs.Tests.{if_then_else_, every-at}
 use Rattle.command.specs.declared.decode.Command.{Command}
 use Rattle.command.specs.declared.decode.Command.the-variants.{TestUnitReady, RequestSense, Inquiry, StartStop, Prevent, ReadCapacity, Read10, Seek, ReadToc, Read12, Unknown}
-use Rattle.command.specs.Class.{classOf, classAt, rowAt, keepsRule, commandOf}
+use Rattle.command.specs.Class.{classOf, classAt, rowAt, keepsRule, withClass, commandOf}
 
 -- a table that keeps the rule has at each code that code's class
 pub rowAt-ruled : (rows : List ℕ) → keepsRule rows ≡ true → (code : ℕ) → code < 256 → rowAt rows code ≡ classAt code
@@ -16,7 +16,7 @@ rowAt-ruled rows h code l = eqb-true _ _ (every-at _ _ h code l)
 
 -- a command's class stands for that command
 pub commandOf-class : (c : Command) → commandOf (classOf c) ≡ c
-unfolding commandOf classOf if_then_else_
+unfolding withClass classOf if_then_else_
 commandOf-class Unknown = refl
 commandOf-class TestUnitReady = refl
 commandOf-class RequestSense = refl

@@ -1,12 +1,12 @@
 -- `command::class::command_of` meets its contract: each arm's class computes to its command, and no other number is one of the ten.
 use borrow.Author.Tests.{ne-eqb}
 use Rattle.ground.specs.Tests.{if_then_else_}
-use Rattle.command.specs.Class.{commandOf}
+use Rattle.command.specs.Class.{classOf, withClass}
 use Rattle.command.proofs.class.command_of.Statement.{statement}
 use Rattle.command.proofs.class.command_of.Tie as tie
 
 returns-11 : tie.Need-returns-11
-unfolding commandOf if_then_else_
+unfolding withClass classOf if_then_else_
 returns-11 c = let r = c .match .rest in
     rw (
       ne-eqb _ _ (r .1),
@@ -22,7 +22,7 @@ returns-11 c = let r = c .match .rest in
     )
 
 pub command-of-spec : {M : Type 1} → statement M
-unfolding commandOf if_then_else_
+unfolding withClass classOf if_then_else_
 command-of-spec =
     tie.close
     (tie.spec (λ c. rw (c .match .keys1)) (λ c. rw (c .match .keys2)) (λ c. rw (c .match .keys3)) (λ c. rw (c .match .keys4))
