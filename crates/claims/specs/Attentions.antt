@@ -1,13 +1,15 @@
 -- "From power-on, over any calls: an attention is pending exactly when its cause happened at or since the last power-on
 -- and no later answer told it."
-use mathlib.Core.Path.{_≡_, refl}
+use mathlib.Core.Path.{_≡_, refl, _∙_}
 use mathlib.Core.Bool.{true, false}
 use mathlib.Core.List.{List, [], _∷_, _++_}
 use mathlib.Core.Logic.{_↔_}
 use Rattle.drive.specs.declared.state.Drive.{Drive}
-use Rattle.claims.specs.Telling.{Attention}
+use Rattle.drive.specs.State.{isLoaded}
+use Rattle.drive.specs.StateLaws.{powerOn-powered, powerOn-change}
+use Rattle.claims.specs.Telling.{Attention, power, change}
 use Rattle.claims.specs.History.{Standing}
-use Rattle.claims.specs.Call.{Call, powering, answer, next, event, history, final, isPending, isPowerOn, causes, tells}
+use Rattle.claims.specs.Call.{Form, byDefault, Call, powering, answer, next, event, history, final, isPending, isPowerOn, causes, tells}
 use Rattle.claims.specs.Device.{pends, told-once}
 use Rattle.claims.specs.DriveDevice.{drive, drive-told}
 use Rattle.claims.specs.RefusalLaws.{refused-silent}
@@ -16,10 +18,15 @@ use Rattle.claims.specs.RefusalLaws.{refused-silent}
 abbrev pub Stands : Attention → Drive → List Call → Type 0
 Stands k handed calls = Standing isPowerOn (causes k) (tells k) (history handed calls)
 
--- for any handed state: after a power-on and any calls
-pub attentions : (k : Attention) (handed : Drive) (calls : List Call)
-    → (isPending k (final handed (powering ∷ calls)) ≡ true) ↔ Stands k handed (powering ∷ calls)
-attentions k handed calls = pends drive k powering handed calls refl
+-- for any handed state: after a power-on, in either form, and any calls
+pub attentions : (k : Attention) (f : Form) (handed : Drive) (calls : List Call)
+    → (isPending k (final handed (powering f ∷ calls)) ≡ true) ↔ Stands k handed (powering f ∷ calls)
+attentions k f handed calls = pends drive k (powering f) handed calls refl
+
+-- K3: "Power-on with a loaded disc now leaves both attentions pending by default"
+pub attentions-greeted : (k : Attention) (d : Drive) → isLoaded (d .mechanics) ≡ true → isPending k (next (powering byDefault) d) ≡ true
+attentions-greeted power d l = powerOn-powered d .power
+attentions-greeted change d l = powerOn-change d ∙ l
 
 -- causes before one telling count as one: once an answer tells the attention, nothing of it stands, however many causes came before
 pub attentions-once : (k : Attention) (handed : Drive) (calls : List Call) (c : Call)

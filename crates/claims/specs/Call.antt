@@ -8,7 +8,7 @@ use lib.Dec.{eqb}
 use Rattle.ground.specs.Tests.{_and_, _or_}
 use Rattle.drive.specs.declared.state.Mechanics.{Mechanics}
 use Rattle.drive.specs.declared.state.Drive.{Drive}
-use Rattle.drive.specs.State.{powerOn, button, lay, lift}
+use Rattle.drive.specs.State.{isLoaded, powerOn, powerOnWithoutChange, button, lay, lift}
 use Rattle.disc.specs.Rules.{isFit}
 use Rattle.command.specs.Command.{codeOf, loEj, start}
 use Rattle.outcome.specs.Outcome.{stateOf}
@@ -18,10 +18,15 @@ use Rattle.claims.specs.History as past
 use Rattle.claims.specs.History.{Event}
 use Rattle.claims.specs.Carried.{Board, answerOn, nextOn}
 
--- power-on, button, laying, lifting, and a packet with its bytes, its lent table and its response memory:
+-- K3: the two forms of power-on, that "by default" and "A second form"
+pub data Form : Type 0 where
+  byDefault : Form
+  withoutChange : Form
+
+-- power-on in either form, button, laying, lifting, and a packet with its bytes, its lent table and its response memory:
 -- "They and the packets are the calls on the drive."
 pub data Call : Type 0 where
-  powering : Call
+  powering : Form → Call
   pressing : Call
   laying : Call
   lifting : Call
@@ -29,7 +34,7 @@ pub data Call : Type 0 where
 
 -- the response memory that is lent: a packet alone has one
 abbrev pub memoryOf : Call → List ℕ
-memoryOf powering = []
+memoryOf (powering f) = []
 memoryOf pressing = []
 memoryOf laying = []
 memoryOf lifting = []
@@ -41,7 +46,7 @@ numbered n = record { number = n; rule = 0; status = 0; full = []; limit = 0; st
 
 -- what the call answers
 abbrev pub answer : Call → Drive → Answer
-answer powering d = numbered 0
+answer (powering f) d = numbered 0
 answer pressing d = numbered (button d .number)
 answer laying d = numbered (lay d .number)
 answer lifting d = numbered (lift d .number)
@@ -49,7 +54,8 @@ answer (packet p t m) d = answerOf m (replyTo d p t (length m))
 
 -- the state after it
 abbrev pub next : Call → Drive → Drive
-next powering d = powerOn d
+next (powering byDefault) d = powerOn d
+next (powering withoutChange) d = powerOnWithoutChange d
 next pressing d = button d .state
 next laying d = lay d .state
 next lifting d = lift d .state
@@ -81,19 +87,19 @@ isAttending d = anyPending (d .unit)
 -- ---- causes
 
 abbrev pub isPowering : Call → Bool
-isPowering powering = true
+isPowering (powering f) = true
 isPowering pressing = false
 isPowering laying = false
 isPowering lifting = false
 isPowering (packet p t m) = false
 
--- "Power-on (also reset)"
+-- "Power-on (also reset)", in either form
 abbrev pub isPowerOn : Happening → Bool
 isPowerOn e = isPowering (e .call)
 
 -- "by button or packet"
 abbrev pub closes : Call → Bool
-closes powering = false
+closes (powering f) = false
 closes pressing = true
 closes laying = false
 closes lifting = false
@@ -107,14 +113,28 @@ closed m n = m .«tray_open» and not (n .«tray_open») and n .«disc_in»
 abbrev pub isLoading : Happening → Bool
 isLoading e = closes (e .call) and closed (e .old .mechanics) (e .new .mechanics)
 
+-- K3: power-on in the form "by default"
+abbrev pub greets : Call → Bool
+greets (powering byDefault) = true
+greets (powering withoutChange) = false
+greets pressing = false
+greets laying = false
+greets lifting = false
+greets (packet p t m) = false
+
+-- K3: "Power-on with a loaded disc .. by default": it meets a drive with the tray closed and a disc in
+abbrev pub isGreeting : Happening → Bool
+isGreeting e = greets (e .call) and isLoaded (e .old .mechanics)
+
 -- "a power-on or a loading"
 abbrev pub isCause : Happening → Bool
 isCause e = isPowerOn e or isLoading e
 
--- "Power-on ..: power attention pending"; "Loading ..: the change attention becomes pending"
+-- "Power-on ..: power attention pending"; "Loading ..: the change attention becomes pending"; K3: "demand 3 counts such a power-on as
+-- a cause of the change attention"
 abbrev pub causes : Attention → Happening → Bool
 causes power e = isPowerOn e
-causes change e = isLoading e
+causes change e = isLoading e or isGreeting e
 
 -- ---- tellings
 
@@ -127,7 +147,7 @@ abbrev pub tells : Attention → Happening → Bool
 tells k e = toldBy (e .call)
   where
     toldBy : Call → Bool
-    toldBy powering = false
+    toldBy (powering f) = false
     toldBy pressing = false
     toldBy laying = false
     toldBy lifting = false
@@ -151,7 +171,7 @@ abbrev pub isSuccess : Happening → Bool
 isSuccess e = ofNeeding (e .call) and isGood (e .answer)
   where
     ofNeeding : Call → Bool
-    ofNeeding powering = false
+    ofNeeding (powering f) = false
     ofNeeding pressing = false
     ofNeeding laying = false
     ofNeeding lifting = false
@@ -166,7 +186,7 @@ pub data Alike : Call → Call → Type 0 where
 
 -- the call, lent that memory in place of its own
 abbrev pub lend : List ℕ → Call → Call
-lend memory powering = powering
+lend memory (powering f) = powering f
 lend memory pressing = pressing
 lend memory laying = laying
 lend memory lifting = lifting
@@ -174,7 +194,7 @@ lend memory (packet p t m) = packet p t memory
 
 -- what a call with that answer leaves in the memory: one that is no packet leaves it as it was
 abbrev pub left : Call → Answer → List ℕ → List ℕ
-left powering a memory = memory
+left (powering f) a memory = memory
 left pressing a memory = memory
 left laying a memory = memory
 left lifting a memory = memory

@@ -5,17 +5,18 @@ use mathlib.Core.List.{List}
 use mathlib.Core.Logic.{⊎-elim}
 use Prim.Native.Nat.{ℕ}
 use lib.ListN.{length}
-use Rattle.ground.specs.Tests.{_and_, _or_, either}
+use Rattle.ground.specs.Tests.{_and_, _or_, or-left, either}
 use Rattle.drive.specs.declared.state.Drive.{Drive}
 use Rattle.drive.specs.declared.state.Moved.{Moved}
-use Rattle.drive.specs.State.{powerOn, button, lay, lift}
+use Rattle.drive.specs.State.{button, lay, lift}
+use Rattle.drive.specs.StateLaws.{powerOn-powered, powerOn-change, powerOnWithoutChange-powered, powerOnWithoutChange-change}
 use Rattle.gate.specs.Gate.{Reply}
 use Rattle.drive.specs.declared.state.Mechanics.{Mechanics}
 use Rattle.outcome.specs.Outcome.{stateOf}
 use Rattle.target.specs.Packet.{refusalOf}
 use Rattle.claims.specs.Telling.{Attention, power, change, Answer, answerOf, isGood, tellsTo}
-use Rattle.claims.specs.UnitLaws.{Turn, only, unmoved, attended, meets-turn, orders-blocks, any-pending}
-use Rattle.claims.specs.Call.{Call, powering, pressing, laying, lifting, packet, answer, next, event, isPending, isAttending, isPowering, isPowerOn, closed, isLoading, isCause, causes, tells, isNeeding, isSuccess, Alike, same, tables, lend, left}
+use Rattle.claims.specs.UnitLaws.{Turn, only, or-none, only-none, unmoved, attended, meets-turn, orders-blocks, any-pending}
+use Rattle.claims.specs.Call.{Form, byDefault, withoutChange, Call, powering, pressing, laying, lifting, packet, answer, next, event, isPending, isAttending, isPowering, isPowerOn, closed, isLoading, isCause, causes, tells, isNeeding, isSuccess, Alike, same, tables, lend, left}
 use Rattle.claims.specs.PacketLaws.{kind, ruleOf, reply-kind, closed-still, packet-fair, packet-request, packet-orders, packet-blind}
 use Rattle.claims.specs.Device.{Device, or-cases, cause-lives}
 
@@ -69,21 +70,21 @@ packet-turn k p t m d =
 -- every call but power-on
 call-turn : (k : Attention) (c : Call) (d : Drive) → isPowering c ≡ false → Turn k (d .unit) (tells k (event c d)) (isLoading (event c d)) (next c d .unit)
 unfolding _and_
-call-turn k powering d h = absurd (true≢false h)
+call-turn k (powering f) d h = absurd (true≢false h)
 call-turn k pressing d h = press-turn k d
 call-turn k laying d h = lay-turn k d
 call-turn k lifting d h = lift-turn k d
 call-turn k (packet p t m) d h = packet-turn k p t m d
 
 -- the causes of a call that is no power-on
-causes-only : (k : Attention) (c : Call) (d : Drive) → isPowering c ≡ false → causes k (event c d) ≡ only k (isLoading (event c d))
-unfolding _or_
+pub causes-only : (k : Attention) (c : Call) (d : Drive) → isPowering c ≡ false → causes k (event c d) ≡ only k (isLoading (event c d))
+unfolding _and_
 causes-only power c d h = h
-causes-only change powering d h = absurd (true≢false h)
-causes-only change pressing d h = refl
-causes-only change laying d h = refl
-causes-only change lifting d h = refl
-causes-only change (packet p t m) d h = refl
+causes-only change (powering f) d h = absurd (true≢false h)
+causes-only change pressing d h = or-none _
+causes-only change laying d h = or-none _
+causes-only change lifting d h = or-none _
+causes-only change (packet p t m) d h = or-none _
 
 -- ---- the four laws
 
@@ -94,10 +95,16 @@ call-turns : (k : Attention) (c : Call) (d : Drive) → isPowering c ≡ false �
 unfolding _and_
 call-turns k c d h = rw (h, causes-only k c d h) (call-turn k c d h .turns)
 
+-- power-on: the power attention is pending in both forms, the change attention by default and with a loaded disc
+power-turns : (k : Attention) (f : Form) (d : Drive) → Turning k (powering f) d
+unfolding _and_ _or_
+power-turns power byDefault d = powerOn-powered d .power
+power-turns power withoutChange d = powerOnWithoutChange-powered d .power
+power-turns change byDefault d = powerOn-change d ∙ sym (or-none _)
+power-turns change withoutChange d = powerOnWithoutChange-change d
+
 pub drive-turns : (k : Attention) (c : Call) (d : Drive) → Turning k c d
-unfolding powerOn _and_ _or_
-drive-turns power powering d = refl
-drive-turns change powering d = refl
+drive-turns k (powering f) d = power-turns k f d
 drive-turns k pressing d = call-turns k pressing d refl
 drive-turns k laying d = call-turns k laying d refl
 drive-turns k lifting d = call-turns k lifting d refl
@@ -111,7 +118,7 @@ packet-blocked k d p t m h n =
 
 pub drive-blocks : (k : Attention) (c : Call) (d : Drive) → isPending k d ≡ true → isSuccess (event c d) ≡ false
 unfolding _and_
-drive-blocks k powering d h = refl
+drive-blocks k (powering f) d h = refl
 drive-blocks k pressing d h = refl
 drive-blocks k laying d h = refl
 drive-blocks k lifting d h = refl
@@ -135,10 +142,6 @@ pub record Told (k : Attention) (c : Call) (d : Drive) : Type 0 where
   pub apart : causes k (event c d) ≡ false
   pub gone : isPending k (next c d) ≡ false
 
-only-none : (k : Attention) (b : Bool) → b ≡ false → only k b ≡ false
-only-none power b h = refl
-only-none change b h = h
-
 call-told : (k : Attention) (c : Call) (d : Drive) → isPowering c ≡ false → tells k (event c d) ≡ true → Told k c d
 unfolding _and_ _or_
 call-told k c d h t =
@@ -147,7 +150,7 @@ call-told k c d h t =
     record { due = w .due t; apart = n; gone = call-turns k c d h ∙ rw (n, h, t) }
 
 pub drive-told : (k : Attention) (c : Call) (d : Drive) → tells k (event c d) ≡ true → Told k c d
-drive-told k powering d t = absurd (false≢true t)
+drive-told k (powering f) d t = absurd (false≢true t)
 drive-told k pressing d t = absurd (false≢true t)
 drive-told k laying d t = absurd (false≢true t)
 drive-told k lifting d t = absurd (false≢true t)
@@ -170,9 +173,9 @@ drive = record {
   blind = drive-blind;
 }
 
--- a power-on or a loading leaves an attention pending
+-- a power-on, in either form, or a loading leaves an attention pending
 pub cause-attends : (c : Call) (d : Drive) → isCause (event c d) ≡ true → isAttending (next c d) ≡ true
-cause-attends c d h = ⊎-elim (cause-lives drive power c d) (cause-lives drive change c d) (or-cases _ _ h)
+cause-attends c d h = ⊎-elim (cause-lives drive power c d) (λ l. cause-lives drive change c d (or-left _ _ l)) (or-cases _ _ h)
 
 -- ---- the response memory lent to alike calls
 

@@ -31,9 +31,10 @@ use Rattle.gate.specs.Gate.{Result, fails, goes, Reply, gate}
 use Rattle.outcome.specs.Outcome.{stateOf}
 use Rattle.target.specs.Packet.{refusalOf, answer as replyTo}
 use Rattle.claims.specs.Telling.{Attention, power, change, Answer, answerOf, tellsTo}
-use Rattle.claims.specs.UnitLaws.{Kind, asks, frees, orders, reply, meets}
+use Rattle.claims.specs.UnitLaws.{Kind, asks, frees, orders, reply, meets, only-none}
 use Rattle.claims.specs.Call.{Call, powering, pressing, laying, lifting, packet, memoryOf, answer, next, event, isPowering, closed, isLoading, causes, isRequestSense, tells}
 use Rattle.claims.specs.PacketLaws.{closed-still, kind, ruleOf, reply-kind}
+use Rattle.claims.specs.DriveDevice.{causes-only}
 
 -- ---- what is not refused has the number 0, and no rule beside it
 
@@ -77,7 +78,7 @@ meets-unchanged (suc j) rule k d m n = (refl, ap (λ (l : List ℕ). refusing (s
 
 pub call-unchanged : (c : Call) (d : Drive) → (answer c d .number ≡ 0 → ⊥)
     → (next c d ≡ d) × (answer c d ≡ refusing (answer c d .number) (answer c d .rule) (memoryOf c))
-call-unchanged powering d n = absurd (n refl)
+call-unchanged (powering f) d n = absurd (n refl)
 call-unchanged pressing d n = (button-refused d n, refl)
 call-unchanged laying d n = (lay-refused d n, refl)
 call-unchanged lifting d n = (lift-refused d n, refl)
@@ -94,25 +95,24 @@ refused-untold k false old new a h = rw h
 
 refused-unloaded : (c : Call) (d : Drive) → next c d ≡ d → isLoading (event c d) ≡ false
 unfolding _and_
-refused-unloaded powering d h = refl
+refused-unloaded (powering f) d h = refl
 refused-unloaded pressing d h = rw h (closed-still (d .mechanics))
 refused-unloaded laying d h = refl
 refused-unloaded lifting d h = refl
 refused-unloaded (packet p t m) d h = ap (λ (e : Drive). closed (d .mechanics) (e .mechanics)) h ∙ closed-still (d .mechanics)
 
 refused-on : (c : Call) (d : Drive) → (answer c d .number ≡ 0 → ⊥) → isPowering c ≡ false
-refused-on powering d n = absurd (n refl)
+refused-on (powering f) d n = absurd (n refl)
 refused-on pressing d n = refl
 refused-on laying d n = refl
 refused-on lifting d n = refl
 refused-on (packet p t m) d n = refl
 
 refused-causes : (k : Attention) (c : Call) (d : Drive) → (answer c d .number ≡ 0 → ⊥) → causes k (event c d) ≡ false
-refused-causes power c d n = refused-on c d n
-refused-causes change c d n = refused-unloaded c d (call-unchanged c d n .0)
+refused-causes k c d n = causes-only k c d (refused-on c d n) ∙ only-none k _ (refused-unloaded c d (call-unchanged c d n .0))
 
 refused-tells : (k : Attention) (c : Call) (d : Drive) → (answer c d .number ≡ 0 → ⊥) → tells k (event c d) ≡ false
-refused-tells k powering d n = refl
+refused-tells k (powering f) d n = refl
 refused-tells k pressing d n = refl
 refused-tells k laying d n = refl
 refused-tells k lifting d n = refl
@@ -281,7 +281,7 @@ module _ (d : Drive) where
 
 -- the rule of every call
 pub call-beside : (c : Call) (d : Drive) → Beside (eqb (answer c d .number) 4) (answer c d .rule)
-call-beside powering d = beside-none _ refl
+call-beside (powering f) d = beside-none _ refl
 call-beside pressing d = beside-none _ (press-tested d .four)
 call-beside laying d = beside-none _ (lay-tested d .four)
 call-beside lifting d = beside-none _ (lift-tested d .four)

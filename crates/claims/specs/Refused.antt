@@ -11,13 +11,13 @@ use Rattle.ground.specs.Tests.{_and_, _or_}
 use Rattle.address.specs.Address.{toMsf, toBlock, isMsf}
 use Rattle.drive.specs.declared.state.Drive.{Drive}
 use Rattle.drive.specs.Sense.{triple, senseAt, isKnown}
-use Rattle.drive.specs.State.{isLoaded, powerOn}
+use Rattle.drive.specs.State.{isLoaded, powerOn, powerOnWithoutChange}
 use Rattle.table.specs.Layout.{bound, lastSession, descriptors}
 use Rattle.sessions.specs.Session.{inOrder}
 use Rattle.disc.specs.Rules.{rule1, rule2, eachRow, rule7, isFit}
 use Rattle.disc.specs.RulesLaws.{fault-first}
 use Rattle.disc.specs.Part.{partRefused}
-use Rattle.claims.specs.Call.{Call, powering, pressing, laying, lifting, packet, memoryOf, answer, next}
+use Rattle.claims.specs.Call.{byDefault, withoutChange, Call, powering, pressing, laying, lifting, packet, memoryOf, answer, next}
 use Rattle.claims.specs.RefusalLaws.{call-unchanged, call-beside, reply-ordered, reply-broken, press-tested, press-locked, lay-tested, lift-tested, part-parted, part-beside, part-broken, toMsf-number, toBlock-number}
 
 -- a call with a number other than 0 leaves the state as it was, and answers "status 0, 0 bytes, start 0, count 0" with the memory as it was
@@ -144,16 +144,23 @@ module _ (d : Drive) where
 
   -- ---- power-on
 
-  -- "Power-on .. keeps the handed state's tray and disc and is never refused: lock off, sense 00/00/00, power attention pending,
-  -- change attention not": of every state, also with a held sense that is none of the ten. It hands back the state alone, and no number.
-  pub refused-power :
-      next powering d
-      ≡ record {
-        unit = record { power = true; change = false; sense = triple 0x00 0x00 0x00 };
-        mechanics = record { «tray_open» = d .mechanics .«tray_open»; «disc_in» = d .mechanics .«disc_in»; lock = false };
-      }
+  -- "Power-on .. keeps the handed state's tray and disc and is never refused: lock off, sense 00/00/00, power attention pending": of
+  -- every state, also with a held sense that is none of the ten. It hands back the state alone, and no number.
+  abbrev restarted : Bool → Drive
+  restarted change = record {
+    unit = record { power = true; change = change; sense = triple 0x00 0x00 0x00 };
+    mechanics = record { «tray_open» = d .mechanics .«tray_open»; «disc_in» = d .mechanics .«disc_in»; lock = false };
+  }
+
+  -- K3: "Power-on with a loaded disc now leaves both attentions pending by default"
+  pub refused-power : next (powering byDefault) d ≡ restarted (not (d .mechanics .«tray_open») and d .mechanics .«disc_in»)
   unfolding powerOn senseAt
   refused-power = refl
+
+  -- K3: "A second form .. keeps 01's behaviour": "change attention not"
+  pub refused-power-without-change : next (powering withoutChange) d ≡ restarted false
+  unfolding powerOnWithoutChange senseAt
+  refused-power-without-change = refl
 
   -- ---- "Button, laying and lifting test 2 before 5 to 7."
 

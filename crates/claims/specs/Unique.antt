@@ -23,7 +23,7 @@ use Rattle.drive.specs.declared.state.Shifted.{Shifted}
 use Rattle.drive.specs.declared.state.Moved.{Moved}
 use Rattle.drive.specs.Sense.{senseAt, sameSense, isKnown}
 use Rattle.drive.specs.Unit.{poweredOn, attend}
-use Rattle.drive.specs.State.{isLoaded, opening, closing, withDisc, withLock, shift, powerOn, button, lay, lift}
+use Rattle.drive.specs.State.{isLoaded, opening, closing, withDisc, withLock, shift, powerOn, powerOnWithoutChange, button, lay, lift}
 use Rattle.gate.specs.declared.fault.Fault.{Fault}
 use Rattle.gate.specs.declared.unit.Pending.{Pending}
 use Rattle.gate.specs.declared.unit.Giving.{Giving}
@@ -142,8 +142,8 @@ unique-same a b r s = value-once
 pub unique-is-known : (a : Sense) (r s : Bool) → r ≡ isKnown a → s ≡ isKnown a → r ≡ s
 unique-is-known a r s = value-once
 
-pub unique-powered-on : (r s : Unit) → r ≡ poweredOn → s ≡ poweredOn → r ≡ s
-unique-powered-on r s = value-once
+pub unique-powered-on : (change : Bool) (r s : Unit) → r ≡ poweredOn change → s ≡ poweredOn change → r ≡ s
+unique-powered-on change r s = value-once
 
 pub unique-attend : (u : Unit) (b : Bool) (r s : Unit) → r ≡ attend b u → s ≡ attend b u → r ≡ s
 unique-attend u b r s = value-once
@@ -168,6 +168,9 @@ unique-shift d m r s = value-once
 
 pub unique-power-on : (d r s : Drive) → r ≡ powerOn d → s ≡ powerOn d → r ≡ s
 unique-power-on d r s = value-once
+
+pub unique-power-on-without-change : (d r s : Drive) → r ≡ powerOnWithoutChange d → s ≡ powerOnWithoutChange d → r ≡ s
+unique-power-on-without-change d r s = value-once
 
 pub unique-button : (d : Drive) (r s : Moved) → r ≡ button d → s ≡ button d → r ≡ s
 unique-button d r s = value-once

@@ -58,10 +58,16 @@ module _ {M : Type 0} where
   Honest loads m (frees r) = (loads m (nextOf m r) ≡ loadingOf r) × (loads m m ≡ false)
   Honest loads m (orders r) = (loads m (nextOf m r) ≡ loadingOf r) × (loads m m ≡ false)
 
-or-none : (b : Bool) → b or false ≡ b
+-- ---- or with what is false, and of the change attention alone
+
+pub or-none : (b : Bool) → b or false ≡ b
 unfolding _or_
 or-none true = refl
 or-none false = refl
+
+pub only-none : (k : Attention) (b : Bool) → b ≡ false → only k b ≡ false
+only-none power b h = refl
+only-none change b h = h
 
 -- a fault's triple is no attention's
 fault-untold : (a : Attention) (f : Fault) → sameSense (senseOf f) (tripleOf a) ≡ false

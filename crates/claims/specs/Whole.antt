@@ -37,7 +37,7 @@ full-answers-bounded d p t h = let b = stepsOf-bounded d p t (fit-where-loaded _
 
 -- and so no call's does, of any table and memory: what is refused has no bytes
 pub answers-bounded : (c : Call) (d : Drive) → length (answer c d .full) ≤ bound
-answers-bounded powering d = omega arith
+answers-bounded (powering f) d = omega arith
 answers-bounded pressing d = omega arith
 answers-bounded laying d = omega arith
 answers-bounded lifting d = omega arith

@@ -48,9 +48,17 @@ shift d s = record { unit = attend (s .loading) (d .unit); mechanics = s .mechan
 abbrev pub holding : Drive → Bool → Drive
 holding d b = record { unit = d .unit; mechanics = withDisc (d .mechanics) b }
 
--- "Power-on (also reset) keeps the handed state's tray and disc and is never refused: lock off, .."
+-- "Power-on (also reset) keeps the handed state's tray and disc and is never refused: lock off, .."; in both forms of K3
+abbrev pub powerOnWith : Drive → Bool → Drive
+powerOnWith d change = record { unit = poweredOn change; mechanics = withLock (d .mechanics) false }
+
+-- K3: "Power-on with a loaded disc now leaves both attentions pending by default"
 unfoldable pub powerOn : Drive → Drive
-powerOn d = record { unit = poweredOn; mechanics = withLock (d .mechanics) false }
+powerOn d = powerOnWith d (isLoaded (d .mechanics))
+
+-- K3: "A second form, which the listing program calls, keeps 01's behaviour": "change attention not"
+unfoldable pub powerOnWithoutChange : Drive → Drive
+powerOnWithoutChange d = powerOnWith d false
 
 -- a call refused by number: "state as handed in"
 abbrev pub refuse : ℕ → Drive → Moved

@@ -8,9 +8,17 @@ use Rattle.drive.specs.declared.state.Unit.{Unit}
 use Rattle.drive.specs.declared.state.Mechanics.{Mechanics}
 use Rattle.drive.specs.declared.state.Shifted.{Shifted}
 use Rattle.drive.specs.declared.state.Moved.{Moved}
-use Rattle.drive.specs.Sense.{isKnown}
-use Rattle.drive.specs.Unit.{poweredOn, attend}
-use Rattle.drive.specs.State.{unknownSense, locked, cannotLay, cannotLift, opening, closing, shift, holding, powerOn, refuse, moves, button, lay, lift}
+use Rattle.drive.specs.Sense.{noSense, isKnown}
+use Rattle.drive.specs.Unit.{attend}
+use Rattle.drive.specs.State.{unknownSense, locked, cannotLay, cannotLift, isLoaded, opening, closing, shift, holding, powerOn, powerOnWithoutChange, refuse, moves, button, lay, lift}
+
+-- what power-on leaves of a state in both forms: tray and disc as they were, the lock off, the power attention pending, no sense held
+pub record Powered (d e : Drive) : Type 0 where
+  pub tray : e .mechanics .«tray_open» ≡ d .mechanics .«tray_open»
+  pub disc : e .mechanics .«disc_in» ≡ d .mechanics .«disc_in»
+  pub lock : e .mechanics .lock ≡ false
+  pub power : e .unit .power ≡ true
+  pub sense : e .unit .sense ≡ noSense
 
 -- the two states have the same disc, lock, power attention and held sense
 pub record PressKeeps (d e : Drive) : Type 0 where
@@ -126,23 +134,23 @@ module _ (d : Drive) where
 
   -- ---- what each call keeps
 
-  -- power-on keeps tray and disc
-  pub powerOn-tray : powerOn d .mechanics .«tray_open» ≡ d .mechanics .«tray_open»
+  -- power-on keeps tray and disc, and nothing of the lock, the attentions and the sense
+  pub powerOn-powered : Powered d (powerOn d)
   unfolding powerOn
-  powerOn-tray = refl
+  powerOn-powered = record { tray = refl; disc = refl; lock = refl; power = refl; sense = refl }
 
-  pub powerOn-disc : powerOn d .mechanics .«disc_in» ≡ d .mechanics .«disc_in»
-  unfolding powerOn
-  powerOn-disc = refl
+  pub powerOnWithoutChange-powered : Powered d (powerOnWithoutChange d)
+  unfolding powerOnWithoutChange
+  powerOnWithoutChange-powered = record { tray = refl; disc = refl; lock = refl; power = refl; sense = refl }
 
-  -- and nothing of the lock, the attentions and the sense
-  pub powerOn-lock : powerOn d .mechanics .lock ≡ false
+  -- the change attention is what tells the two forms apart
+  pub powerOn-change : powerOn d .unit .change ≡ isLoaded (d .mechanics)
   unfolding powerOn
-  powerOn-lock = refl
+  powerOn-change = refl
 
-  pub powerOn-unit : powerOn d .unit ≡ poweredOn
-  unfolding powerOn
-  powerOn-unit = refl
+  pub powerOnWithoutChange-change : powerOnWithoutChange d .unit .change ≡ false
+  unfolding powerOnWithoutChange
+  powerOnWithoutChange-change = refl
 
   -- a press keeps disc, lock, power attention and held sense
   pub button-keeps : PressKeeps d (button d .state)

@@ -4,9 +4,9 @@ use Rattle.ground.specs.Tests.{if_then_else_}
 use Rattle.drive.specs.declared.state.Unit.{Unit}
 use Rattle.drive.specs.Sense.{noSense}
 
--- "Power-on ..: sense 00/00/00, power attention pending, change attention not."
-abbrev pub poweredOn : Unit
-poweredOn = record { power = true; change = false; sense = noSense }
+-- "Power-on ..: .. sense 00/00/00, power attention pending"; whether the change attention is too, the form of K3 says
+abbrev pub poweredOn : Bool → Unit
+poweredOn change = record { power = true; change = change; sense = noSense }
 
 -- "Loading ..: the change attention becomes pending."
 unfoldable pub attend : Bool → Unit → Unit

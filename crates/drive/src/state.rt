@@ -5,7 +5,7 @@ use crate::sense::is_known;
 use crate::sense::sense_at;
 ghost use mathlib.Core.Path.{_≡_};
 ghost use Rattle.drive.specs.Unit.{poweredOn, attend};
-ghost use Rattle.drive.specs.State.{opening, closing, withDisc, withLock, isLoaded, shift, holding, moves, refuse, powerOn, button, lay, lift};
+ghost use Rattle.drive.specs.State.{opening, closing, withDisc, withLock, isLoaded, shift, holding, powerOnWith, powerOn, powerOnWithoutChange, moves, refuse, button, lay, lift};
 
 // What is pending and what is held: this is the same for every device that stands behind the gate.
 pub struct Unit {
@@ -48,13 +48,13 @@ pub const CANNOT_LAY: u8 = 6;
 pub const CANNOT_LIFT: u8 = 7;
 
 impl Unit {
-    // Power-on: sense 00/00/00, power attention pending, change attention not.
-    pub fn powered_on(self) -> Unit
-        ensures { λ r. ⌜ r ≡ poweredOn ⌝ }
+    // Power-on: sense 00/00/00, power attention pending, and the change attention where the form of power-on says so.
+    pub fn powered_on(self, change: bool) -> Unit
+        ensures { λ r. ⌜ r ≡ poweredOn change ⌝ }
     {
         Unit {
             power: true,
-            change: false,
+            change,
             sense: sense_at(NO_SENSE),
         }
     }
@@ -147,11 +147,26 @@ impl Drive {
         }
     }
 
+    // Power-on by default: a loaded drive greets with both attentions, any other with the power attention alone.
     pub fn power_on(self) -> Drive
         ensures { λ r. ⌜ r ≡ powerOn self ⌝ }
     {
+        self.power_on_with(self.mechanics.is_loaded())
+    }
+
+    // The second form of power-on: the power attention alone, also with a loaded disc.
+    pub fn power_on_without_change(self) -> Drive
+        ensures { λ r. ⌜ r ≡ powerOnWithoutChange self ⌝ }
+    {
+        self.power_on_with(false)
+    }
+
+    // What both forms do: tray and disc are kept, and of the rest the change attention alone differs.
+    fn power_on_with(self, change: bool) -> Drive
+        ensures { λ r. ⌜ r ≡ powerOnWith self change ⌝ }
+    {
         Drive {
-            unit: self.unit.powered_on(),
+            unit: self.unit.powered_on(change),
             mechanics: self.mechanics.with_lock(false),
         }
     }

@@ -5,14 +5,14 @@ use mathlib.Core.List.{List}
 use lib.ListN.{take, drop}
 use Rattle.drive.specs.declared.state.Drive.{Drive}
 use Rattle.drive.specs.Sense.{noSense}
-use Rattle.drive.specs.State.{powerOn}
+use Rattle.drive.specs.State.{powerOnWithoutChange}
 use Rattle.table.specs.Layout.{bound}
 use Rattle.outcome.specs.Outcome.{stateOf}
 use Rattle.target.specs.Packet.{answer}
 
--- "powers on loaded": tray closed with a disc in
+-- "powers on loaded": tray closed with a disc in; K3: "A second form, which the listing program calls"
 abbrev pub loaded : Drive
-loaded = powerOn (record {
+loaded = powerOnWithoutChange (record {
   unit = record { power = false; change = false; sense = noSense };
   mechanics = record { «tray_open» = false; «disc_in» = true; lock = false };
 })

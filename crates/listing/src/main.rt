@@ -36,7 +36,7 @@ fn write(text: &[u8]) -> bool {
     false
 }
 
-// The drive after power-on, tray closed and a disc in.
+// The drive after the second form of power-on, tray closed and a disc in.
 fn loaded() -> Drive
     ensures { λ r. ⌜ r ≡ loaded ⌝ }
 {
@@ -50,7 +50,7 @@ fn loaded() -> Drive
         disc_in: true,
         lock: false,
     };
-    Drive { unit, mechanics }.power_on()
+    Drive { unit, mechanics }.power_on_without_change()
 }
 
 // How many packets were met, the state after the last of them, and whether that was the file's last: not so where a line could not be

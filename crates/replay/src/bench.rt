@@ -211,18 +211,21 @@ fn moved(letter: u8, m: Moved, bench: Bench, line: &mut [u8]) -> Turn {
     )
 }
 
-// Kinds 3 to 6: power-on, button, laying, lifting.
-fn call_tray(kind: u8, body: &[u8], bench: Bench, line: &mut [u8]) -> Turn {
+// Power-on is never refused.
+fn powered(letter: u8, state: Drive, bench: Bench, line: &mut [u8]) -> Turn {
+    moved(letter, Moved { number: 0, state }, bench, line)
+}
+
+// Kinds 3 to 6: power-on by default, button, laying, lifting; kind 11: the second form of power-on.
+fn call_drive(kind: u8, body: &[u8], bench: Bench, line: &mut [u8]) -> Turn {
     if body.len() == 0 {
         let d = bench.drive;
         return match kind {
-            3 => {
-                let state = d.power_on();
-                moved(b'o', Moved { number: 0, state }, bench, line)
-            }
+            3 => powered(b'o', d.power_on(), bench, line),
             4 => moved(b'b', d.button(), bench, line),
             5 => moved(b'd', d.lay(), bench, line),
-            _ => moved(b'u', d.lift(), bench, line),
+            6 => moved(b'u', d.lift(), bench, line),
+            _ => powered(b'q', d.power_on_without_change(), bench, line),
         };
     }
     bad(bench, line)
@@ -302,7 +305,7 @@ pub(crate) fn meet(
         0 => set_state(body, bench, line),
         1 => set_table(body, bench, table),
         2 => set_memory(body, bench, memory, line),
-        3..=6 => call_tray(kind, body, bench, line),
+        3..=6 | 11 => call_drive(kind, body, bench, line),
         7 => call_packet(body, bench, table, memory, line),
         8 => call_msf(body, bench, line),
         9 => call_block(body, bench, line),

@@ -1,4 +1,4 @@
--- `drive::state::Drive::power_on` meets its contract: unit and mechanics are what the two calls give.
+-- `drive::state::Drive::power_on` meets its contract: it is what both forms do, the change attention pending where the drive is loaded.
 use Rattle.drive.specs.State.{powerOn}
 use borrow.Author.Needs.{needs}
 use Rattle.drive.proofs.state.Drive.power_on.Statement.{statement}
