@@ -14,7 +14,7 @@ use Rattle.claims.specs.Call.{Call, Happening, answer, next, event, hist
 use Rattle.claims.specs.Device.{runs}
 use Rattle.claims.specs.DriveDevice.{drive, cause-attends, lend-alike, left-alike}
 
--- calls in common, then a power-on or a loading c, then calls that are alike, one by one, but for the fit tables lent:
+-- calls in common, then c, a power-on in either form or a loading, then calls that are alike, one by one, but for the fit tables lent:
 -- the events at place i have the same answer, with the memory that it leaves, and the same state after it,
 -- where each answer after c and before that place leaves an attention pending
 pub two-runs : (handed : Drive) (common : List Call) (c : Call) → isCause (event c (final handed common)) ≡ true
