@@ -77,7 +77,7 @@ pub fn needs_a_disc(code: u8) -> &'static str {
 /// Steps 1 and 2, loaded: what the packet does under the power attention, and
 /// under the change attention too.
 pub fn under_an_attention(code: u8) -> &'static str {
-    let power = State::READY.power_on();
+    let power = State::READY.power_on_without_change();
     let change = State {
         change: true,
         ..State::READY

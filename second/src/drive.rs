@@ -1,4 +1,5 @@
-//! "Drive state and what moves it": power-on, button, laying and lifting.
+//! "Drive state and what moves it": power-on in its two forms (K3), button,
+//! laying and lifting.
 
 use crate::refusal::Refusal;
 use crate::sense::{self, Sense};
@@ -34,9 +35,20 @@ impl State {
         self.disc_in && !self.tray_open
     }
 
-    /// "keeps the handed state's tray and disc and is never refused: lock off,
-    /// sense 00/00/00, power attention pending, change attention not."
+    /// K3, the default form: "Power-on with a loaded disc now leaves both
+    /// attentions pending by default". All else, and a drive that is not loaded,
+    /// is as under the second form.
     pub fn power_on(self) -> State {
+        State {
+            change: self.loaded(),
+            ..self.power_on_without_change()
+        }
+    }
+
+    /// K3: "A second form .. keeps 01's behaviour", that is "keeps the handed
+    /// state's tray and disc and is never refused: lock off, sense 00/00/00,
+    /// power attention pending, change attention not."
+    pub fn power_on_without_change(self) -> State {
         State {
             tray_open: self.tray_open,
             disc_in: self.disc_in,

@@ -1,5 +1,5 @@
 //! An independent second program for the packet target of the build
-//! definition (called "01" in the comments; K1, K5, K6 and K9 are the change
+//! definition (called "01" in the comments; K1, K3, K5, K6 and K9 are the change
 //! requests built on it). It shares no code with the target: the two meet
 //! through files only.
 

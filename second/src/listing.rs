@@ -15,8 +15,8 @@ pub fn print(table_file: &[u8], packet_file: &[u8]) -> String {
     // "A table file over the bound is cut one byte past it, and so unfit."
     let table = &table_file[..table_file.len().min(BOUND + 1)];
     let mut memory = vec![0u8; BOUND];
-    // "powers on loaded"
-    let mut state = State::READY.power_on();
+    // "powers on loaded"; K3: "A second form, which the listing program calls"
+    let mut state = State::READY.power_on_without_change();
     let mut out = "n st key asc ascq len data start count\n".to_string();
     // "a short last packet is handed on as it is"
     for (packet, n) in packet_file.chunks(PACKET).zip(1..) {

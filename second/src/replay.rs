@@ -23,6 +23,7 @@ pub const PACKET: u8 = 7;
 pub const TO_MSF: u8 = 8;
 pub const TO_ADDRESS: u8 = 9;
 pub const PART: u8 = 10;
+pub const POWER_ON_WITHOUT_CHANGE: u8 = 11;
 
 /// Anything that ends the run with the line `bad record`.
 pub struct BadRecord;
@@ -134,8 +135,13 @@ impl Bench {
                 }
                 self.memory = vec![fill; length];
             }
+            // K3: "kind 3 is the default form (`o`), kind 11 the second form,
+            // line `q 0 STATE`"
             (POWER_ON, []) => {
                 self.moved('o', Ok(self.state.power_on()));
+            }
+            (POWER_ON_WITHOUT_CHANGE, []) => {
+                self.moved('q', Ok(self.state.power_on_without_change()));
             }
             (BUTTON, []) => self.moved('b', self.state.button()),
             (LAY, []) => self.moved('d', self.state.lay()),

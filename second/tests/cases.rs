@@ -11,9 +11,12 @@ use second::cases::pairs::{each_rule, pair};
 use second::cases::several::alone;
 use second::cases::sheet::{disc_e, fullest};
 use second::cases::stream::Stream;
+use second::drive::State;
 use second::table::{self, Row};
 use second::tally::{self, Met};
 use second::{examples, listing, replay, sense, stored};
+
+const READY: State = State::READY;
 
 /// The kinds of line: letter and number, and the triples told.
 fn seen(lines: &str) -> (BTreeSet<String>, BTreeSet<String>) {
@@ -31,8 +34,8 @@ fn seen(lines: &str) -> (BTreeSet<String>, BTreeSet<String>) {
 fn covers_all(lines: &str) {
     let (kinds, told) = seen(lines);
     for kind in [
-        "o 0", "b 0", "b 2", "b 5", "d 0", "d 2", "d 6", "u 0", "u 2", "u 7", "p 0", "p 1", "p 2",
-        "p 3", "a 0", "a 8", "c 0", "c 8", "s 0", "s 10",
+        "o 0", "q 0", "b 0", "b 2", "b 5", "d 0", "d 2", "d 6", "u 0", "u 2", "u 7", "p 0", "p 1",
+        "p 2", "p 3", "a 0", "a 8", "c 0", "c 8", "s 0", "s 10",
     ] {
         assert!(kinds.contains(kind), "{kind}");
     }
@@ -256,6 +259,27 @@ fn tally_counts() {
     assert!(tally::print(&stream.bytes).starts_with(head));
 }
 
+/// Power-ons count by their form, tray and disc.
+#[test]
+fn tally_counts_power_ons() {
+    let mut stream = Stream::new();
+    for (n, state) in [(1, READY), (2, READY.opened()), (3, State::ZERO)] {
+        for _ in 0..n {
+            stream.state(state);
+            stream.power_on();
+        }
+    }
+    stream.button();
+    stream.power_on_without_change();
+    stream.lay();
+    stream.power_on_without_change();
+    stream.button();
+    stream.power_on_without_change();
+    stream.power_on();
+    let tail = "form loaded disc-in-open-tray closed-empty open-empty\no 2 2 3 0\nq 1 1 0 1\n";
+    assert!(tally::print(&stream.bytes).ends_with(tail));
+}
+
 #[test]
 fn examples_show_the_marked_results() {
     let files = examples::files();
@@ -278,7 +302,8 @@ fn listed(packets: &[Packet]) -> Vec<String> {
     out.lines().skip(1).map(String::from).collect()
 }
 
-/// "powers on loaded": the power-on is told first, then the disc is there.
+/// "powers on loaded": the power-on is told first, then the disc is there. K3:
+/// by the second form, so no change is told.
 #[test]
 fn listing_powers_on_loaded() {
     let lines = listed(&[test_ready(), test_ready(), capacity()]);

@@ -34,6 +34,7 @@ fn line_forms() {
     stream.table(&disc_e().bytes());
     stream.state(State::READY);
     stream.power_on();
+    stream.power_on_without_change();
     stream.packet(&test_ready());
     stream.packet(&capacity());
     stream.button();
@@ -46,7 +47,7 @@ fn line_forms() {
     stream.to_address(0, 1, 74);
     stream.part(1);
     stream.part(2);
-    assert_eq!(stream.calls, 15);
+    assert_eq!(stream.calls, 16);
     let lines = run(&stream.bytes);
     let table = disc_e().bytes();
     let mut memory = vec![0; 6_538];
@@ -55,7 +56,8 @@ fn line_forms() {
     let expected = [
         "p 3 00 0 0 0 00000 00 00 00 - 00000001".to_string(),
         "s 4.1 0 00000001".to_string(),
-        "o 0 01010 00 00 00".to_string(),
+        "o 0 01011 00 00 00".to_string(),
+        "q 0 01010 00 00 00".to_string(),
         format!("p 0 02 0 0 0 01000 06 29 00 - {blank:08X}"),
         format!(
             "p 0 00 8 0 0 01000 00 00 00 0000012B00000800 {:08X}",
@@ -107,6 +109,16 @@ fn each_bad_record_ends_the_run() {
         stream.extend(&bytes);
         assert_eq!(run(&stream), format!("{good}bad record\n"), "{name}");
         assert_eq!(run(&bytes), "bad record\n", "{name}");
+    }
+}
+
+/// K3: "kind 11 the second form", its body empty as kind 3's; 12 is no kind yet.
+#[test]
+fn eleven_is_the_last_kind() {
+    assert_eq!(run(&[3, 0, 0]), "o 0 00010 00 00 00\n");
+    assert_eq!(run(&[11, 0, 0]), "q 0 00010 00 00 00\n");
+    for unknown in 12..=255 {
+        assert_eq!(run(&[unknown, 0, 0, 11, 0, 0]), "bad record\n");
     }
 }
 

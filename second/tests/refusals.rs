@@ -55,6 +55,7 @@ fn two_unknown_sense() {
             assert_eq!(number_of(&open.lay()), 2);
             assert_eq!(number_of(&open.lift()), 2);
             assert_eq!(open.power_on().sense, sense::NONE);
+            assert_eq!(open.power_on_without_change().sense, sense::NONE);
         }
     }
     for held in TEN {

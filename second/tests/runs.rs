@@ -14,6 +14,7 @@ use second::table::read;
 #[derive(Clone, Copy)]
 enum Call {
     PowerOn,
+    PowerOnWithoutChange,
     Button,
     Lay,
     Lift,
@@ -51,6 +52,7 @@ impl Bench {
                 return Given::Reply(reply);
             }
             Call::PowerOn => Ok(self.state.power_on()),
+            Call::PowerOnWithoutChange => Ok(self.state.power_on_without_change()),
             Call::Button => self.state.button(),
             Call::Lay => self.state.lay(),
             Call::Lift => self.state.lift(),
@@ -62,13 +64,18 @@ impl Bench {
 
 fn any_call(rng: &mut Rng, marks: &Marks) -> Call {
     match rng.below(12) {
-        0 => Call::PowerOn,
+        0 => any_power_on(rng),
         1 => Call::Button,
         2 => Call::Lay,
         3 => Call::Lift,
         4..=7 => Call::Packet(rng.pick(&one_of_each())),
         _ => Call::Packet(any_packet(rng, marks)),
     }
+}
+
+/// Either form of K3.
+fn any_power_on(rng: &mut Rng) -> Call {
+    rng.pick(&[Call::PowerOn, Call::PowerOnWithoutChange])
 }
 
 fn any_bench(rng: &mut Rng) -> (Bench, Marks) {
@@ -78,16 +85,16 @@ fn any_bench(rng: &mut Rng) -> (Bench, Marks) {
     (Bench::new(rng.pick(&flags), table), marks)
 }
 
-/// From a power-on two runs of the same calls, with different fit tables, give
-/// the same answers, states and memory, up to and with the answer that leaves
-/// nothing pending.
+/// From a power-on of either form two runs of the same calls, with different fit
+/// tables, give the same answers, states and memory, up to and with the answer
+/// that leaves nothing pending.
 #[test]
 fn two_runs_agree() {
     let mut rng = Rng::new(5);
     let (mut told, mut longest) = (0, 0);
     for _ in 0..3_000 {
         let (mut one, marks) = any_bench(&mut rng);
-        one.state = one.state.power_on();
+        one.call(any_power_on(&mut rng));
         let mut other = Bench::new(one.state, any_fit(&mut rng).bytes());
         for calls in 0..40 {
             let call = any_call(&mut rng, &marks);
@@ -141,20 +148,25 @@ fn told(packet: &Packet, held: Sense, reply: &Reply, power: bool, change: bool) 
 }
 
 /// An attention is pending exactly when it was caused at or since the last
-/// power-on and not told later: kept here from what each call shows.
+/// power-on and not told later: kept here from what each call shows. K3: "demand
+/// 3 counts such a power-on", of the default form and loaded, "as a cause of the
+/// change attention".
 #[test]
 fn pending_from_the_history() {
     let mut rng = Rng::new(7);
     for _ in 0..1_000 {
         let (mut bench, marks) = any_bench(&mut rng);
-        bench.call(Call::PowerOn);
-        let (mut power, mut change) = (true, false);
-        for _ in 0..40 {
-            let call = any_call(&mut rng, &marks);
+        let (mut power, mut change) = (false, false);
+        for made in 0..40 {
+            let call = match made {
+                0 => any_power_on(&mut rng),
+                _ => any_call(&mut rng, &marks),
+            };
             let before = bench.state;
             let given = bench.call(call);
             match (call, given) {
-                (Call::PowerOn, _) => (power, change) = (true, false),
+                (Call::PowerOn, _) => (power, change) = (true, before.disc_in && !before.tray_open),
+                (Call::PowerOnWithoutChange, _) => (power, change) = (true, false),
                 (Call::Packet(packet), Given::Reply(reply)) => {
                     match told(&packet, before.sense, &reply, power, change) {
                         Some(0x29) => power = false,

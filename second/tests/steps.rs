@@ -158,7 +158,10 @@ fn button_and_power_on() {
                 change: false,
                 sense: Sense::new(0, 0, 0),
             };
-            assert_eq!(on.power_on(), next);
+            assert_eq!(on.power_on_without_change(), next);
+            // K3: the default form differs in the change attention alone.
+            let change = !tray_open && disc_in;
+            assert_eq!(on.power_on(), State { change, ..next });
         }
     }
 }

@@ -8,11 +8,11 @@ use crate::rng::Rng;
 /// Records that end the run, each a bit of raw stream.
 pub fn bad_records() -> Vec<(&'static str, Vec<u8>)> {
     let mut list: Vec<(&'static str, Vec<u8>)> = Vec::new();
-    for kind in [11, 12, 100, 128, 255] {
+    for kind in [12, 24, 100, 128, 255] {
         list.push(("unknown kind", vec![kind, 0, 0]));
         list.push(("unknown kind with a body", vec![kind, 0, 1, 0]));
     }
-    for kind in [0, 1, 7, 10, 11] {
+    for kind in [0, 1, 7, 10, 11, 12] {
         list.push(("kind alone", vec![kind]));
         list.push(("half a length", vec![kind, 0]));
         list.push(("no body", vec![kind, 0, 1]));
@@ -20,7 +20,7 @@ pub fn bad_records() -> Vec<(&'static str, Vec<u8>)> {
     list.push(("body one byte short", vec![0, 0, 8, 0, 0, 0, 0, 0, 0, 0]));
     list.push(("table cut off", vec![1, 0, 59, 0, 57, 1, 1]));
     list.push(("packet cut off", vec![7, 0, 12, 0]));
-    for kind in [1, 2, 7, 11] {
+    for kind in [1, 2, 7, 11, 12] {
         for length in [8_192u16, 8_193, 65_535] {
             let mut long = vec![kind];
             long.extend(length.to_be_bytes());
@@ -36,7 +36,7 @@ pub fn bad_records() -> Vec<(&'static str, Vec<u8>)> {
             list.push(("flag", state));
         }
     }
-    let unsuited: [(u8, &[usize]); 9] = [
+    let unsuited: [(u8, &[usize]); 10] = [
         (replay::STATE, &[0, 1, 7, 9]),
         (replay::MEMORY, &[0, 1, 2, 4]),
         (replay::POWER_ON, &[1, 8]),
@@ -46,6 +46,7 @@ pub fn bad_records() -> Vec<(&'static str, Vec<u8>)> {
         (replay::TO_MSF, &[0, 3, 5]),
         (replay::TO_ADDRESS, &[0, 2, 4]),
         (replay::PART, &[0, 2]),
+        (replay::POWER_ON_WITHOUT_CHANGE, &[1, 8]),
     ];
     for (kind, lengths) in unsuited {
         for &length in lengths {

@@ -8,7 +8,8 @@ use crate::cases::pairs::{self, Pair};
 use crate::cases::sheet::{disc_e, two_sessions, Sheet};
 use crate::cases::stream::Stream;
 use crate::cases::{
-    mode_five, picked, picked_codes, picked_fields, picked_state, picked_tables, random, several,
+    mode_five, picked, picked_codes, picked_fields, picked_power, picked_state, picked_tables,
+    random, several,
 };
 use crate::examples;
 use crate::files::File;
@@ -49,7 +50,7 @@ macro_rules! named {
     };
 }
 
-const MAKERS: [(&str, Maker); 46] = [
+const MAKERS: [(&str, Maker); 52] = [
     named!(Start, picked_state::from_nothing),
     named!(Calls, picked_state::attentions),
     named!(Calls, picked_state::senses),
@@ -58,6 +59,11 @@ const MAKERS: [(&str, Maker); 46] = [
     named!(Calls, picked_state::memories),
     named!(Calls, picked_state::longest_answer),
     named!(Calls, picked_state::tray_traces),
+    named!(Calls, picked_power::every_state),
+    named!(Calls, picked_power::told_in_turn),
+    named!(Calls, picked_power::not_loaded),
+    named!(Calls, picked_power::one_after_another),
+    named!(Calls, picked_power::nothing_lent),
     named!(Calls, picked::conversions),
     named!(Calls, picked_fields::codes),
     named!(Calls, picked_codes::every_row),
@@ -78,6 +84,10 @@ const MAKERS: [(&str, Maker); 46] = [
     named!(
         random::trace_scene,
         Calls(|stream| scenes(stream, random::trace_scene))
+    ),
+    named!(
+        random::power_on_scene,
+        Calls(|stream| scenes(stream, random::power_on_scene))
     ),
     named!(
         random::broken_scene,

@@ -11,6 +11,7 @@ pub mod pairs;
 pub mod picked;
 pub mod picked_codes;
 pub mod picked_fields;
+pub mod picked_power;
 pub mod picked_state;
 pub mod picked_tables;
 pub mod random;

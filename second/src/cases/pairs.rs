@@ -130,7 +130,11 @@ pub fn stored_pair(seed: u64) -> Pair {
     let table = three_sittings().bytes();
     let marks = Marks::of(table::read(&table).ok().as_ref());
     let mut packets = Vec::new();
-    // Each command once before the telling has come, then again after it.
+    // K3: the power-on is told, and no change behind it.
+    for packet in [test_ready(), request_sense(18), test_ready()] {
+        packets.extend(packet);
+    }
+    // Each command twice; the packet behind the load among them is told of it.
     for packet in one_of_each().into_iter().chain(one_of_each()) {
         packets.extend(packet);
     }

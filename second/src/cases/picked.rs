@@ -1,7 +1,7 @@
 //! The lists picked by hand, one after the other.
 
 use crate::cases::stream::Stream;
-use crate::cases::{picked_codes, picked_fields, picked_state, picked_tables};
+use crate::cases::{picked_codes, picked_fields, picked_power, picked_state, picked_tables};
 
 /// Every hand-picked case, from the very start of a run.
 pub fn all(stream: &mut Stream) {
@@ -14,6 +14,11 @@ pub fn all(stream: &mut Stream) {
     picked_state::memories(stream);
     picked_state::longest_answer(stream);
     picked_state::tray_traces(stream);
+    picked_power::every_state(stream);
+    picked_power::told_in_turn(stream);
+    picked_power::not_loaded(stream);
+    picked_power::one_after_another(stream);
+    picked_power::nothing_lent(stream);
     picked_fields::codes(stream);
     picked_codes::every_row(stream);
     picked_codes::every_row_told(stream);

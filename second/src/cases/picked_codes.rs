@@ -67,7 +67,7 @@ pub fn every_row(stream: &mut Stream) {
 /// the rows of INQUIRY and REQUEST SENSE show here.
 pub fn every_row_told(stream: &mut Stream) {
     stream.table(&one_long_track().bytes());
-    let power = State::READY.power_on();
+    let power = State::READY.power_on_without_change();
     let change = State {
         change: true,
         ..State::READY

@@ -315,7 +315,7 @@ pub fn tray_traces(stream: &mut Stream) {
     }
     // Loaded with an unfit table: every packet is refused, the button not.
     stream.table(&e[..58]);
-    stream.state(State::READY.power_on());
+    stream.state(State::READY.power_on_without_change());
     for packet in one_of_each() {
         stream.packet(&packet);
     }

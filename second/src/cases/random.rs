@@ -21,7 +21,7 @@ pub fn fill(stream: &mut Stream, rng: &mut Rng, calls: usize) {
 }
 
 fn scene(stream: &mut Stream, rng: &mut Rng) {
-    match rng.below(50) {
+    match rng.below(52) {
         0..=11 => disc_scene(stream, rng),
         12..=18 => trace_scene(stream, rng),
         19..=27 => spoilt_scene(stream, rng),
@@ -32,6 +32,7 @@ fn scene(stream: &mut Stream, rng: &mut Rng) {
         36 | 37 => part_scene(stream, rng),
         38 if rng.one_in(3) => full_scene(stream, rng),
         38 | 39 => chaos_scene(stream, rng),
+        40 | 41 => power_on_scene(stream, rng),
         _ => broken_scene(stream, rng),
     }
 }
@@ -88,6 +89,15 @@ fn lend(stream: &mut Stream, sheet: &Sheet) -> Marks {
     Marks::of(table::read(&bytes).ok().as_ref())
 }
 
+/// A power-on by either form of K3.
+fn any_power_on(stream: &mut Stream, rng: &mut Rng) {
+    if rng.one_in(2) {
+        stream.power_on();
+    } else {
+        stream.power_on_without_change();
+    }
+}
+
 /// Packets on a fit disc.
 fn disc_scene(stream: &mut Stream, rng: &mut Rng) {
     let marks = lend(stream, &any_fit(rng));
@@ -112,7 +122,7 @@ pub fn trace_scene(stream: &mut Stream, rng: &mut Rng) {
     });
     for _ in 0..rng.range(20, 80) {
         match rng.below(20) {
-            0 => stream.power_on(),
+            0 => any_power_on(stream, rng),
             1..=3 => stream.button(),
             4 => stream.lay(),
             5 => {
@@ -227,8 +237,32 @@ fn state_scene(stream: &mut Stream, rng: &mut Rng) {
                 0 => stream.button(),
                 1 => stream.lay(),
                 2 => stream.lift(),
-                3 => stream.power_on(),
+                3 => any_power_on(stream, rng),
                 4 => stream.packet(&rng.pick(&one_of_each())),
+                _ => stream.packet(&any_packet(rng, &marks)),
+            }
+        }
+    }
+}
+
+/// Power-ons of any state, loaded ones most often, and behind each a few calls
+/// that tell what it left.
+pub fn power_on_scene(stream: &mut Stream, rng: &mut Rng) {
+    let marks = lend(stream, &any_fit(rng));
+    for _ in 0..rng.range(3, 10) {
+        stream.state(if rng.one_in(3) {
+            loaded_state(rng)
+        } else {
+            any_state(rng)
+        });
+        any_power_on(stream, rng);
+        for _ in 0..rng.range(2, 6) {
+            match rng.below(10) {
+                0 => stream.button(),
+                1 => any_power_on(stream, rng),
+                2 => stream.packet(&start_stop(LOAD)),
+                3 | 4 => stream.packet(&test_ready()),
+                5 | 6 => stream.packet(&rng.pick(&one_of_each())),
                 _ => stream.packet(&any_packet(rng, &marks)),
             }
         }
@@ -333,7 +367,7 @@ fn chaos_scene(stream: &mut Stream, rng: &mut Rng) {
             2 | 3 => stream.state(any_state(rng)),
             4 => stream.state(loaded_state(rng)),
             5 => lend_memory(stream, rng),
-            6 => stream.power_on(),
+            6 => any_power_on(stream, rng),
             7 => stream.button(),
             8 => stream.lay(),
             9 => stream.lift(),

@@ -51,6 +51,10 @@ impl Stream {
         self.record(replay::POWER_ON, &[]);
     }
 
+    pub fn power_on_without_change(&mut self) {
+        self.record(replay::POWER_ON_WITHOUT_CHANGE, &[]);
+    }
+
     pub fn button(&mut self) {
         self.record(replay::BUTTON, &[]);
     }
