@@ -152,7 +152,7 @@ module _ (d : Drive) where
     mechanics = record { «tray_open» = d .mechanics .«tray_open»; «disc_in» = d .mechanics .«disc_in»; lock = false };
   }
 
-  -- K3: "Power-on with a loaded disc now leaves both attentions pending by default"
+  -- K3: "Power-on with a loaded disc now leaves both attentions pending by default"; with any other drive, 01's "change attention not"
   pub refused-power : next (powering byDefault) d ≡ restarted (not (d .mechanics .«tray_open») and d .mechanics .«disc_in»)
   unfolding powerOn senseAt
   refused-power = refl

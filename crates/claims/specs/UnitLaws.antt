@@ -58,7 +58,7 @@ module _ {M : Type 0} where
   Honest loads m (frees r) = (loads m (nextOf m r) ≡ loadingOf r) × (loads m m ≡ false)
   Honest loads m (orders r) = (loads m (nextOf m r) ≡ loadingOf r) × (loads m m ≡ false)
 
--- ---- or with what is false, and of the change attention alone
+-- ---- `or` with false, and `only` of false
 
 pub or-none : (b : Bool) → b or false ≡ b
 unfolding _or_

@@ -52,7 +52,7 @@ holding d b = record { unit = d .unit; mechanics = withDisc (d .mechanics) b }
 abbrev pub powerOnWith : Drive → Bool → Drive
 powerOnWith d change = record { unit = poweredOn change; mechanics = withLock (d .mechanics) false }
 
--- K3: "Power-on with a loaded disc now leaves both attentions pending by default"
+-- K3: "Power-on with a loaded disc now leaves both attentions pending by default"; with any other drive, 01's "change attention not"
 unfoldable pub powerOn : Drive → Drive
 powerOn d = powerOnWith d (isLoaded (d .mechanics))
 

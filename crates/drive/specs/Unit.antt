@@ -4,7 +4,7 @@ use Rattle.ground.specs.Tests.{if_then_else_}
 use Rattle.drive.specs.declared.state.Unit.{Unit}
 use Rattle.drive.specs.Sense.{noSense}
 
--- "Power-on ..: .. sense 00/00/00, power attention pending"; whether the change attention is too, the form of K3 says
+-- "Power-on ..: .. sense 00/00/00, power attention pending"; the form of power-on (K3) says whether the change attention is pending too
 abbrev pub poweredOn : Bool → Unit
 poweredOn change = record { power = true; change = change; sense = noSense }
 

@@ -161,7 +161,7 @@ impl Drive {
         self.power_on_with(false)
     }
 
-    // What both forms do: tray and disc are kept, and of the rest the change attention alone differs.
+    // What both forms do: tray and disc kept, lock off, sense 00/00/00, power attention pending; they differ in `change` alone.
     fn power_on_with(self, change: bool) -> Drive
         ensures { λ r. ⌜ r ≡ powerOnWith self change ⌝ }
     {

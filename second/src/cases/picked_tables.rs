@@ -130,7 +130,7 @@ pub fn t134(stream: &mut Stream) {
     let sheet = draft_t134();
     stream.table(&sheet.bytes());
     stream.memory(MEMORY, 0x34);
-    stream.state(State::READY.power_on());
+    stream.state(State::READY.power_on_without_change());
     for packet in examples::t134() {
         stream.packet(&packet);
     }
