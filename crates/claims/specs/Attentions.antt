@@ -4,14 +4,14 @@ use mathlib.Core.Path.{_≡_, refl, _∙_}
 use mathlib.Core.Bool.{true, false}
 use mathlib.Core.List.{List, [], _∷_, _++_}
 use mathlib.Core.Logic.{_↔_}
+use Rattle.ground.specs.Tests.{or-left}
 use Rattle.drive.specs.declared.state.Drive.{Drive}
 use Rattle.drive.specs.State.{isLoaded}
-use Rattle.drive.specs.StateLaws.{powerOn-powered, powerOn-change}
-use Rattle.claims.specs.Telling.{Attention, power, change}
+use Rattle.claims.specs.Telling.{Attention}
 use Rattle.claims.specs.History.{Standing}
 use Rattle.claims.specs.Call.{Form, byDefault, Call, powering, answer, next, event, history, final, isPending, isPowerOn, causes, tells}
 use Rattle.claims.specs.Device.{pends, told-once}
-use Rattle.claims.specs.DriveDevice.{drive, drive-told}
+use Rattle.claims.specs.DriveDevice.{drive, drive-turns, drive-told, greeting-causes}
 use Rattle.claims.specs.RefusalLaws.{refused-silent}
 
 -- its cause happened at or since the last power-on, so that no power-on is later, and no later answer told it
@@ -25,8 +25,7 @@ attentions k f handed calls = pends drive k (powering f) handed calls refl
 
 -- K3: "Power-on with a loaded disc now leaves both attentions pending by default"
 pub attentions-greeted : (k : Attention) (d : Drive) → isLoaded (d .mechanics) ≡ true → isPending k (next (powering byDefault) d) ≡ true
-attentions-greeted power d l = powerOn-powered d .power
-attentions-greeted change d l = powerOn-change d ∙ l
+attentions-greeted k d l = drive-turns k (powering byDefault) d ∙ or-left _ _ (greeting-causes k d l)
 
 -- causes before one telling count as one: once an answer tells the attention, nothing of it stands, however many causes came before
 pub attentions-once : (k : Attention) (handed : Drive) (calls : List Call) (c : Call)

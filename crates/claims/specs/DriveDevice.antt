@@ -8,8 +8,8 @@ use lib.ListN.{length}
 use Rattle.ground.specs.Tests.{_and_, _or_, or-left, either}
 use Rattle.drive.specs.declared.state.Drive.{Drive}
 use Rattle.drive.specs.declared.state.Moved.{Moved}
-use Rattle.drive.specs.State.{button, lay, lift}
-use Rattle.drive.specs.StateLaws.{powerOn-powered, powerOn-change, powerOnWithoutChange-powered, powerOnWithoutChange-change}
+use Rattle.drive.specs.State.{isLoaded, button, lay, lift}
+use Rattle.drive.specs.StateLaws.{powerOn-with, powerOnWithoutChange-with}
 use Rattle.gate.specs.Gate.{Reply}
 use Rattle.drive.specs.declared.state.Mechanics.{Mechanics}
 use Rattle.outcome.specs.Outcome.{stateOf}
@@ -98,10 +98,10 @@ call-turns k c d h = rw (h, causes-only k c d h) (call-turn k c d h .turns)
 -- power-on: the power attention is pending in both forms, the change attention by default and with a loaded disc
 power-turns : (k : Attention) (f : Form) (d : Drive) → Turning k (powering f) d
 unfolding _and_ _or_
-power-turns power byDefault d = powerOn-powered d .power
-power-turns power withoutChange d = powerOnWithoutChange-powered d .power
-power-turns change byDefault d = powerOn-change d ∙ sym (or-none _)
-power-turns change withoutChange d = powerOnWithoutChange-change d
+power-turns power byDefault d = ap (isPending power) (powerOn-with d)
+power-turns power withoutChange d = ap (isPending power) (powerOnWithoutChange-with d)
+power-turns change byDefault d = ap (isPending change) (powerOn-with d) ∙ sym (or-none _)
+power-turns change withoutChange d = ap (isPending change) (powerOnWithoutChange-with d)
 
 pub drive-turns : (k : Attention) (c : Call) (d : Drive) → Turning k c d
 drive-turns k (powering f) d = power-turns k f d
@@ -176,6 +176,12 @@ drive = record {
 -- a power-on, in either form, or a loading leaves an attention pending
 pub cause-attends : (c : Call) (d : Drive) → isCause (event c d) ≡ true → isAttending (next c d) ≡ true
 cause-attends c d h = ⊎-elim (cause-lives drive power c d) (λ l. cause-lives drive change c d (or-left _ _ l)) (or-cases _ _ h)
+
+-- K3: power-on by default with a loaded disc is a cause of both attentions
+pub greeting-causes : (k : Attention) (d : Drive) → isLoaded (d .mechanics) ≡ true → causes k (event (powering byDefault) d) ≡ true
+unfolding _and_ _or_
+greeting-causes power d l = refl
+greeting-causes change d l = l
 
 -- ---- the response memory lent to alike calls
 

@@ -3,17 +3,16 @@ use mathlib.Core.Path.{_≡_, refl}
 use mathlib.Core.Bool.{true, false}
 use mathlib.Core.List.{List, _∷_}
 use Prim.Native.Nat.{ℕ}
-use Rattle.ground.specs.Tests.{_and_, _or_}
 use Rattle.drive.specs.declared.state.Drive.{Drive}
 use Rattle.drive.specs.State.{isLoaded}
 use Rattle.command.specs.Command.{decode, codeOf, needsDisc}
-use Rattle.claims.specs.Telling.{Attention, power, change, isGood}
+use Rattle.claims.specs.Telling.{Attention, isGood}
 use Rattle.claims.specs.History.{None, standing-here}
 use Rattle.claims.specs.Call.{Form, byDefault, Call, powering, packet, answer, next, event, history, final, isPending, isPowerOn, causes, tells, isNeeding, isSuccess}
 use Rattle.claims.specs.Attentions.{Stands}
 use Rattle.claims.specs.PacketLaws.{packet-needs}
 use Rattle.claims.specs.Device.{blocked}
-use Rattle.claims.specs.DriveDevice.{drive, packet-blocked}
+use Rattle.claims.specs.DriveDevice.{drive, packet-blocked, greeting-causes}
 
 -- in any state, with any table and memory: a packet that needs a disc is not answered GOOD while an attention is pending
 pub no-success : (k : Attention) (d : Drive) (p t m : List ℕ) → isPending k d ≡ true → isNeeding p ≡ true → isGood (answer (packet p t m) d) ≡ false
@@ -29,12 +28,8 @@ no-success-since k f handed calls c = blocked drive k (powering f) handed calls 
 pub no-success-greeted : (k : Attention) (handed : Drive) (calls : List Call) (c : Call) → isLoaded (handed .mechanics) ≡ true
     → None isPowerOn (history (next (powering byDefault) handed) calls) → None (tells k) (history (next (powering byDefault) handed) calls)
     → isSuccess (event c (final handed (powering byDefault ∷ calls))) ≡ false
-unfolding _and_ _or_
-no-success-greeted k handed calls c l n t = no-success-since k byDefault handed calls c (standing-here isPowerOn (causes k) (tells k) (caused k) n t)
-  where
-    caused : (k : Attention) → causes k (event (powering byDefault) handed) ≡ true
-    caused power = refl
-    caused change = l
+no-success-greeted k handed calls c l n t =
+    no-success-since k byDefault handed calls c (standing-here isPowerOn (causes k) (tells k) (greeting-causes k handed l) n t)
 
 -- the commands that need a disc, named by their codes, are those for which the drive looks for one
 pub no-success-needing : (p : List ℕ) → isNeeding p ≡ needsDisc (decode (codeOf p)) p

@@ -30,7 +30,7 @@ use Rattle.gate.specs.Unit.{pendingOf}
 use Rattle.gate.specs.Gate.{Result, fails, goes, Reply, gate}
 use Rattle.outcome.specs.Outcome.{stateOf}
 use Rattle.target.specs.Packet.{refusalOf, answer as replyTo}
-use Rattle.claims.specs.Telling.{Attention, power, change, Answer, answerOf, tellsTo}
+use Rattle.claims.specs.Telling.{Attention, Answer, answerOf, tellsTo}
 use Rattle.claims.specs.UnitLaws.{Kind, asks, frees, orders, reply, meets, only-none}
 use Rattle.claims.specs.Call.{Call, powering, pressing, laying, lifting, packet, memoryOf, answer, next, event, isPowering, closed, isLoading, causes, isRequestSense, tells}
 use Rattle.claims.specs.PacketLaws.{closed-still, kind, ruleOf, reply-kind}

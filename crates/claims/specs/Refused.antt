@@ -11,7 +11,8 @@ use Rattle.ground.specs.Tests.{_and_, _or_}
 use Rattle.address.specs.Address.{toMsf, toBlock, isMsf}
 use Rattle.drive.specs.declared.state.Drive.{Drive}
 use Rattle.drive.specs.Sense.{triple, senseAt, isKnown}
-use Rattle.drive.specs.State.{isLoaded, powerOn, powerOnWithoutChange}
+use Rattle.drive.specs.State.{isLoaded}
+use Rattle.drive.specs.StateLaws.{powerOn-with, powerOnWithoutChange-with}
 use Rattle.table.specs.Layout.{bound, lastSession, descriptors}
 use Rattle.sessions.specs.Session.{inOrder}
 use Rattle.disc.specs.Rules.{rule1, rule2, eachRow, rule7, isFit}
@@ -154,13 +155,13 @@ module _ (d : Drive) where
 
   -- K3: "Power-on with a loaded disc now leaves both attentions pending by default"; with any other drive, 01's "change attention not"
   pub refused-power : next (powering byDefault) d ≡ restarted (not (d .mechanics .«tray_open») and d .mechanics .«disc_in»)
-  unfolding powerOn senseAt
-  refused-power = refl
+  unfolding senseAt
+  refused-power = powerOn-with d
 
   -- K3: "A second form .. keeps 01's behaviour": "change attention not"
   pub refused-power-without-change : next (powering withoutChange) d ≡ restarted false
-  unfolding powerOnWithoutChange senseAt
-  refused-power-without-change = refl
+  unfolding senseAt
+  refused-power-without-change = powerOnWithoutChange-with d
 
   -- ---- "Button, laying and lifting test 2 before 5 to 7."
 

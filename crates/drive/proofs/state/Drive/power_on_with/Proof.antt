@@ -4,7 +4,7 @@ use Rattle.drive.proofs.state.Drive.power_on_with.Statement.{statement}
 use Rattle.drive.proofs.state.Drive.power_on_with.Tie as tie
 
 returns : tie.Need-returns
-returns c = cc
+returns c = rw (c .before .powered-on .ensures, c .with-lock .ensures)
 
 pub power-on-with-spec : {M : Type 1} → statement M
 power-on-with-spec = tie.close (tie.spec (λ c κs. search needs) (λ c κs. search needs) returns)

@@ -4,7 +4,7 @@ use Rattle.drive.proofs.state.Drive.with_disc.Statement.{statement}
 use Rattle.drive.proofs.state.Drive.with_disc.Tie as tie
 
 returns : tie.Need-returns
-returns c = cc
+returns c = rw (c .with-disc .ensures)
 
 pub with-disc-spec : {M : Type 1} → statement M
 with-disc-spec = tie.close (tie.spec (λ c κs. search needs) returns)

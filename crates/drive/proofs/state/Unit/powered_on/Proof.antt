@@ -4,7 +4,7 @@ use Rattle.drive.proofs.state.Unit.powered_on.Statement.{statement}
 use Rattle.drive.proofs.state.Unit.powered_on.Tie as tie
 
 returns : tie.Need-returns
-returns c = cc
+returns c = rw (c .sense-at .ensures)
 
 pub powered-on-spec : {M : Type 1} → statement M
 powered-on-spec = tie.close (tie.spec (λ c κs. search needs) returns)
