@@ -1,2 +1,3 @@
 pub mod Address
 pub mod Laws
+pub mod Shown

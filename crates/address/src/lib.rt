@@ -3,6 +3,8 @@ use ground::number::wide;
 ghost use mathlib.Core.Path.{_≡_};
 ghost use Rattle.address.specs.Address.{toMsf, toBlock, isMsf, frames, addressOf, msfMeaning, blockMeaning};
 
+pub mod shown;
+
 // The refusal of an address that no M:S:F has, or of an M:S:F that no block has.
 pub const REFUSED: u8 = 8;
 

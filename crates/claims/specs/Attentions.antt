@@ -24,7 +24,7 @@ pub attentions : (k : Attention) (f : Form) (handed : Drive) (calls : List Call)
 attentions k f handed calls = pends drive k (powering f) handed calls refl
 
 -- K3: "Power-on with a loaded disc now leaves both attentions pending by default"
-pub attentions-greeted : (k : Attention) (d : Drive) → isLoaded (d .mechanics) ≡ true → isPending k (next (powering byDefault) d) ≡ true
+pub attentions-greeted : (k : Attention) (d : Drive) → isLoaded (d .deck) ≡ true → isPending k (next (powering byDefault) d) ≡ true
 attentions-greeted k d l = drive-turns k (powering byDefault) d ∙ or-left _ _ (greeting-causes k d l)
 
 -- causes before one telling count as one: once an answer tells the attention, nothing of it stands, however many causes came before

@@ -4,14 +4,16 @@ use mathlib.Core.Bool.{true}
 use mathlib.Core.List.{List}
 use Prim.Native.Nat.{ℕ, _+_, _≤_, _<_}
 use native.Mathlib.Omega.{arith}
-use Rattle.ground.specs.Tests.{every}
+use Rattle.ground.specs.Tests.{_and_, every}
 use Rattle.table.specs.Layout.{lastSession, descriptors, rows, pointAt, isTrack}
 use Rattle.table.specs.Row.{addressAt}
 use Rattle.sessions.specs.Session.{tracks, session}
 use Rattle.sessions.specs.SessionLaws.{rowsBefore}
 use Rattle.disc.specs.Rules.{leadOut}
 use Rattle.disc.specs.RulesLaws.{Fit}
-use Rattle.tracks.specs.Track.{isData, outAt, noTrack, trackAt, trackOf, inData, allInData, runIsData}
+use Rattle.tracks.specs.declared.track.Track.{Track}
+use Rattle.tracks.specs.Track.{flagged, outAt, noTrack, trackAt, trackOf, isMode, inMode, allIn, runIs}
+use Rattle.tracks.specs.declared.track.Mode.{Mode}
 use Rattle.tracks.specs.TrackLaws.{Greatest, trackOf-of, trackOf-no, only-greatest}
 use Rattle.tracks.specs.SpreadLaws.{fit-spread, fit-out, fit-run-agrees}
 
@@ -52,7 +54,9 @@ module _ {t : List ℕ} (f : Fit t) where
       → outAt (descriptors t) (rowsBefore (descriptors t) k + (3 + m)) ≡ leadOut (session (descriptors t) k)
   block-lead-out {k} {m} h l = fit-out f h m (omega arith)
 
-  -- the run test, which never goes from block to block, is that every block lies in a data track
-  pub block-runs : (a n : ℕ) → runIsData (descriptors t) a n ≡ every n (λ i. isData (trackOf (descriptors t) (a + i) .flags))
-  unfolding allInData inData
-  block-runs a n = fit-run-agrees f a n
+  -- the run test, which never goes from block to block, is that every block belongs to a track, and to one of the mode
+  pub block-runs : (mode : Mode) (a n : ℕ) →
+      let u : ℕ → Track = λ i. trackOf (descriptors t) (a + i) in
+      runIs mode (descriptors t) a n ≡ every n (λ i. isTrack (u i .number) and flagged mode (u i .flags))
+  unfolding allIn inMode isMode
+  block-runs mode a n = fit-run-agrees f mode a n

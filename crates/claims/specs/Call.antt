@@ -1,4 +1,4 @@
--- The calls on the drive, and what an event tells: all of it read off calls, answers and mechanics, never off the attentions.
+-- The calls on the drive, and what an event tells: all of it read off calls, answers and deck, never off the attentions.
 use Prim.Native.Nat.{ℕ}
 use mathlib.Core.Path.{_≡_}
 use mathlib.Core.Bool.{Bool, true, false, not}
@@ -6,9 +6,9 @@ use mathlib.Core.List.{List, []}
 use lib.ListN.{length}
 use lib.Dec.{eqb}
 use Rattle.ground.specs.Tests.{_and_, _or_}
-use Rattle.drive.specs.declared.state.Mechanics.{Mechanics}
+use Rattle.drive.specs.declared.state.Deck.{Deck}
 use Rattle.drive.specs.declared.state.Drive.{Drive}
-use Rattle.drive.specs.State.{isLoaded, powerOn, powerOnWithoutChange, button, lay, lift}
+use Rattle.drive.specs.State.{isLoaded, powerOn, powerOnWithoutChange, button, lay, lift, moveOn}
 use Rattle.disc.specs.Rules.{isFit}
 use Rattle.command.specs.Command.{codeOf, loEj, start}
 use Rattle.outcome.specs.Outcome.{stateOf}
@@ -23,13 +23,14 @@ pub data Form : Type 0 where
   byDefault : Form
   withoutChange : Form
 
--- power-on in either form, button, laying, lifting, and a packet with its bytes, its lent table and its response memory:
--- "They and the packets are the calls on the drive."
+-- power-on in either form, button, laying, lifting, K2's outside call, by k blocks, and a packet with its bytes, its lent table and its
+-- response memory: "They and the packets are the calls on the drive."
 pub data Call : Type 0 where
   powering : Form → Call
   pressing : Call
   laying : Call
   lifting : Call
+  movingOn : (k : ℕ) → Call
   packet : (bytes table memory : List ℕ) → Call
 
 -- the response memory that is lent: a packet alone has one
@@ -38,6 +39,7 @@ memoryOf (powering f) = []
 memoryOf pressing = []
 memoryOf laying = []
 memoryOf lifting = []
+memoryOf (movingOn k) = []
 memoryOf (packet p t m) = m
 
 -- the answer of a call that is no packet: no rule stands beside its number
@@ -50,6 +52,7 @@ answer (powering f) d = numbered 0
 answer pressing d = numbered (button d .number)
 answer laying d = numbered (lay d .number)
 answer lifting d = numbered (lift d .number)
+answer (movingOn k) d = numbered (moveOn k d .number)
 answer (packet p t m) d = answerOf m (replyTo d p t (length m))
 
 -- the state after it
@@ -59,6 +62,7 @@ next (powering withoutChange) d = powerOnWithoutChange d
 next pressing d = button d .state
 next laying d = lay d .state
 next lifting d = lift d .state
+next (movingOn k) d = moveOn k d .state
 next (packet p t m) d = stateOf (replyTo d p t (length m))
 
 -- ---- the drive's histories
@@ -91,6 +95,7 @@ isPowering (powering f) = true
 isPowering pressing = false
 isPowering laying = false
 isPowering lifting = false
+isPowering (movingOn k) = false
 isPowering (packet p t m) = false
 
 -- "Power-on (also reset)", in either form
@@ -103,15 +108,16 @@ closes (powering f) = false
 closes pressing = true
 closes laying = false
 closes lifting = false
+closes (movingOn k) = false
 closes (packet p t m) = true
 
 -- the tray was open and is closed, with a disc in
-abbrev pub closed : Mechanics → Mechanics → Bool
+abbrev pub closed : Deck → Deck → Bool
 closed m n = m .«tray_open» and not (n .«tray_open») and n .«disc_in»
 
 -- "Loading is any closing of the tray, by button or packet, with a disc in"
 abbrev pub isLoading : Happening → Bool
-isLoading e = closes (e .call) and closed (e .old .mechanics) (e .new .mechanics)
+isLoading e = closes (e .call) and closed (e .old .deck) (e .new .deck)
 
 -- K3: power-on in the form "by default"
 abbrev pub greets : Call → Bool
@@ -120,11 +126,12 @@ greets (powering withoutChange) = false
 greets pressing = false
 greets laying = false
 greets lifting = false
+greets (movingOn k) = false
 greets (packet p t m) = false
 
 -- K3: "Power-on with a loaded disc .. by default": it meets a drive with the tray closed and a disc in
 abbrev pub isGreeting : Happening → Bool
-isGreeting e = greets (e .call) and isLoaded (e .old .mechanics)
+isGreeting e = greets (e .call) and isLoaded (e .old .deck)
 
 -- "a power-on or a loading"
 abbrev pub isCause : Happening → Bool
@@ -151,11 +158,12 @@ tells k e = toldBy (e .call)
     toldBy pressing = false
     toldBy laying = false
     toldBy lifting = false
+    toldBy (movingOn j) = false
     toldBy (packet p t m) = tellsTo k (isRequestSense p) (e .old .unit) (e .answer) (e .new .unit)
 
 -- ---- successes
 
--- "Needing one: 00h, 25h, 28h, 2Bh, 43h, A8h, and 1Bh with LoEj 0 and Start 1."
+-- "Needing one: 00h, 25h, 28h, 2Bh, 43h, A8h, and 1Bh with LoEj 0 and Start 1."; K2: 45h, 4Bh and 42h, "These commands need a disc."
 unfoldable pub isNeeding : List ℕ → Bool
 isNeeding p =
     eqb (codeOf p) 0x00
@@ -164,6 +172,9 @@ isNeeding p =
     or eqb (codeOf p) 0x2B
     or eqb (codeOf p) 0x43
     or eqb (codeOf p) 0xA8
+    or eqb (codeOf p) 0x45
+    or eqb (codeOf p) 0x4B
+    or eqb (codeOf p) 0x42
     or eqb (codeOf p) 0x1B and not (loEj p) and start p
 
 -- a packet that needs a disc was answered GOOD
@@ -175,6 +186,7 @@ isSuccess e = ofNeeding (e .call) and isGood (e .answer)
     ofNeeding pressing = false
     ofNeeding laying = false
     ofNeeding lifting = false
+    ofNeeding (movingOn k) = false
     ofNeeding (packet p t m) = isNeeding p
 
 -- ---- runs
@@ -190,6 +202,7 @@ lend memory (powering f) = powering f
 lend memory pressing = pressing
 lend memory laying = laying
 lend memory lifting = lifting
+lend memory (movingOn k) = movingOn k
 lend memory (packet p t m) = packet p t memory
 
 -- what a call with that answer leaves in the memory: one that is no packet leaves it as it was
@@ -198,6 +211,7 @@ left (powering f) a memory = memory
 left pressing a memory = memory
 left laying a memory = memory
 left lifting a memory = memory
+left (movingOn k) a memory = memory
 left (packet p t m) a memory = a .memory
 
 -- the drive with one response memory, each call lent what the one before left

@@ -8,34 +8,34 @@ use lib.ListN.{length}
 use Rattle.ground.specs.Tests.{_and_, _or_, or-left, either}
 use Rattle.drive.specs.declared.state.Drive.{Drive}
 use Rattle.drive.specs.declared.state.Moved.{Moved}
-use Rattle.drive.specs.State.{isLoaded, button, lay, lift}
+use Rattle.drive.specs.State.{isLoaded, button, lay, lift, moveOn}
 use Rattle.drive.specs.StateLaws.{powerOn-with, powerOnWithoutChange-with}
 use Rattle.gate.specs.Gate.{Reply}
-use Rattle.drive.specs.declared.state.Mechanics.{Mechanics}
+use Rattle.drive.specs.declared.state.Deck.{Deck}
 use Rattle.outcome.specs.Outcome.{stateOf}
 use Rattle.target.specs.Packet.{refusalOf}
 use Rattle.claims.specs.Telling.{Attention, power, change, Answer, answerOf, isGood, tellsTo}
 use Rattle.claims.specs.UnitLaws.{Turn, only, or-none, only-none, unmoved, attended, meets-turn, orders-blocks, any-pending}
-use Rattle.claims.specs.Call.{Form, byDefault, withoutChange, Call, powering, pressing, laying, lifting, packet, answer, next, event, isPending, isAttending, isPowering, isPowerOn, closed, isLoading, isCause, causes, tells, isNeeding, isSuccess, Alike, same, tables, lend, left}
+use Rattle.claims.specs.Call.{Form, byDefault, withoutChange, Call, powering, pressing, laying, lifting, movingOn, packet, answer, next, event, isPending, isAttending, isPowering, isPowerOn, closed, isLoading, isCause, causes, tells, isNeeding, isSuccess, Alike, same, tables, lend, left}
 use Rattle.claims.specs.PacketLaws.{kind, ruleOf, reply-kind, closed-still, packet-fair, packet-request, packet-orders, packet-blind}
 use Rattle.claims.specs.Device.{Device, or-cases, cause-lives}
 
 -- ---- how a call turns an attention
 
-press-turn : (k : Attention) (d : Drive) → Turn k (d .unit) false (closed (d .mechanics) (button d .state .mechanics)) (button d .state .unit)
+press-turn : (k : Attention) (d : Drive) → Turn k (d .unit) false (closed (d .deck) (button d .state .deck)) (button d .state .unit)
 unfolding button _and_
 press-turn k d =
     either P _
     (λ h. either P _
-    (λ t. rw t (attended k (d .unit) (d .unit .sense) (d .mechanics .«disc_in»)))
+    (λ t. rw t (attended k (d .unit) (d .unit .sense) (d .deck .«disc_in»)))
     (λ t. either P _ (λ l. here) (λ l. rw t (attended k (d .unit) (d .unit .sense) false))))
     (λ h. here)
   where
     P : Moved → Type 0
-    P r = Turn k (d .unit) false (closed (d .mechanics) (r .state .mechanics)) (r .state .unit)
+    P r = Turn k (d .unit) false (closed (d .deck) (r .state .deck)) (r .state .unit)
 
-    here : Turn k (d .unit) false (closed (d .mechanics) (d .mechanics)) (d .unit)
-    here = rw (closed-still (d .mechanics)) (unmoved k (d .unit) (d .unit .sense))
+    here : Turn k (d .unit) false (closed (d .deck) (d .deck)) (d .unit)
+    here = rw (closed-still (d .deck)) (unmoved k (d .unit) (d .unit .sense))
 
 lay-turn : (k : Attention) (d : Drive) → Turn k (d .unit) false false (lay d .state .unit)
 unfolding lay
@@ -57,15 +57,25 @@ lift-turn k d = either P _ (λ h. either P _ (λ t. here) (λ t. here)) (λ h. h
     here : Turn k (d .unit) false false (d .unit)
     here = unmoved k (d .unit) (d .unit .sense)
 
+moveOn-turn : (k : Attention) (n : ℕ) (d : Drive) → Turn k (d .unit) false false (moveOn n d .state .unit)
+unfolding moveOn
+moveOn-turn k n d = either P _ (λ h. here) (λ h. here)
+  where
+    P : Moved → Type 0
+    P r = Turn k (d .unit) false false (r .state .unit)
+
+    here : Turn k (d .unit) false false (d .unit)
+    here = unmoved k (d .unit) (d .unit .sense)
+
 packet-turn : (k : Attention) (p t m : List ℕ) (d : Drive)
     → Turn k (d .unit) (tells k (event (packet p t m) d)) (isLoading (event (packet p t m) d)) (next (packet p t m) d .unit)
 unfolding _and_
 packet-turn k p t m d =
-    let T : Bool → Reply Mechanics → Type 0 =
-    λ a r. Turn k (d .unit) (tellsTo k a (d .unit) (answerOf m r) (r .unit)) (closed (d .mechanics) (r .mechanics)) (r .unit) in
-    subst₂ T (packet-request p (d .mechanics) t) (sym (reply-kind d p t (length m)))
-    (meets-turn closed k m (d .mechanics) (refusalOf d p t (length m)) (ruleOf d p t (length m)) (kind p (d .mechanics) t) (d .unit)
-    (packet-fair p (d .mechanics) t))
+    let T : Bool → Reply Deck → Type 0 =
+    λ a r. Turn k (d .unit) (tellsTo k a (d .unit) (answerOf m r) (r .unit)) (closed (d .deck) (r .deck)) (r .unit) in
+    subst₂ T (packet-request p (d .deck) t) (sym (reply-kind d p t (length m)))
+    (meets-turn closed k m (d .deck) (refusalOf d p t (length m)) (ruleOf d p t (length m)) (kind p (d .deck) t) (d .unit)
+    (packet-fair p (d .deck) t))
 
 -- every call but power-on
 call-turn : (k : Attention) (c : Call) (d : Drive) → isPowering c ≡ false → Turn k (d .unit) (tells k (event c d)) (isLoading (event c d)) (next c d .unit)
@@ -74,6 +84,7 @@ call-turn k (powering f) d h = absurd (true≢false h)
 call-turn k pressing d h = press-turn k d
 call-turn k laying d h = lay-turn k d
 call-turn k lifting d h = lift-turn k d
+call-turn k (movingOn n) d h = moveOn-turn k n d
 call-turn k (packet p t m) d h = packet-turn k p t m d
 
 -- the causes of a call that is no power-on
@@ -84,6 +95,7 @@ causes-only change (powering f) d h = absurd (true≢false h)
 causes-only change pressing d h = or-none _
 causes-only change laying d h = or-none _
 causes-only change lifting d h = or-none _
+causes-only change (movingOn n) d h = or-none _
 causes-only change (packet p t m) d h = or-none _
 
 -- ---- the four laws
@@ -108,13 +120,14 @@ drive-turns k (powering f) d = power-turns k f d
 drive-turns k pressing d = call-turns k pressing d refl
 drive-turns k laying d = call-turns k laying d refl
 drive-turns k lifting d = call-turns k lifting d refl
+drive-turns k (movingOn n) d = call-turns k (movingOn n) d refl
 drive-turns k (packet p t m) d = call-turns k (packet p t m) d refl
 
 pub packet-blocked : (k : Attention) (d : Drive) (p t m : List ℕ) → isPending k d ≡ true → isNeeding p ≡ true → isGood (answer (packet p t m) d) ≡ false
 packet-blocked k d p t m h n =
-    let o = packet-orders p (d .mechanics) t n in
+    let o = packet-orders p (d .deck) t n in
     rw (reply-kind d p t (length m), o .1)
-    (orders-blocks (refusalOf d p t (length m)) (ruleOf d p t (length m)) (o .0) (d .unit) (d .mechanics) m (any-pending k (d .unit) h))
+    (orders-blocks (refusalOf d p t (length m)) (ruleOf d p t (length m)) (o .0) (d .unit) (d .deck) m (any-pending k (d .unit) h))
 
 pub drive-blocks : (k : Attention) (c : Call) (d : Drive) → isPending k d ≡ true → isSuccess (event c d) ≡ false
 unfolding _and_
@@ -122,6 +135,7 @@ drive-blocks k (powering f) d h = refl
 drive-blocks k pressing d h = refl
 drive-blocks k laying d h = refl
 drive-blocks k lifting d h = refl
+drive-blocks k (movingOn n) d h = refl
 drive-blocks k (packet p t m) d h = go (isNeeding p) refl
   where
     go : (b : Bool) → isNeeding p ≡ b → b and isGood (answer (packet p t m) d) ≡ false
@@ -154,6 +168,7 @@ drive-told k (powering f) d t = absurd (false≢true t)
 drive-told k pressing d t = absurd (false≢true t)
 drive-told k laying d t = absurd (false≢true t)
 drive-told k lifting d t = absurd (false≢true t)
+drive-told k (movingOn n) d t = absurd (false≢true t)
 drive-told k (packet p q m) d t = call-told k (packet p q m) d refl t
 
 -- ---- the device
@@ -178,7 +193,7 @@ pub cause-attends : (c : Call) (d : Drive) → isCause (event c d) ≡ true → 
 cause-attends c d h = ⊎-elim (cause-lives drive power c d) (λ l. cause-lives drive change c d (or-left _ _ l)) (or-cases _ _ h)
 
 -- K3: power-on by default with a loaded disc is a cause of both attentions
-pub greeting-causes : (k : Attention) (d : Drive) → isLoaded (d .mechanics) ≡ true → causes k (event (powering byDefault) d) ≡ true
+pub greeting-causes : (k : Attention) (d : Drive) → isLoaded (d .deck) ≡ true → causes k (event (powering byDefault) d) ≡ true
 unfolding _and_ _or_
 greeting-causes power d l = refl
 greeting-causes change d l = l

@@ -4,7 +4,9 @@ pub mod NoSuccess
 pub mod TwoRuns
 pub mod Refused
 pub mod Whole
+pub mod Sound
 pub mod Marked
+pub mod Played
 pub mod Addresses
 pub mod Block
 pub mod Unique
@@ -13,7 +15,7 @@ pub mod Served
 pub mod Call
 pub mod Telling
 pub mod History
--- their proofs: over any device, over any mechanics, for the drive
+-- their proofs: over any device, over any deck, for the drive
 pub mod Runs
 pub mod Device
 pub mod Carried
@@ -22,4 +24,5 @@ pub mod PacketLaws
 pub mod DriveDevice
 pub mod RefusalLaws
 pub mod WholeLaws
+pub mod SoundLaws
 pub mod AddressLaws

@@ -9,19 +9,23 @@ use Rattle.address.specs.Address.{isMsf, toMsf, toBlock}
 use Rattle.drive.specs.declared.sense.Sense.{Sense}
 use Rattle.drive.specs.declared.state.Drive.{Drive}
 use Rattle.drive.specs.Sense.{triple, senseAt, sameSense, among, isKnown}
+use Rattle.drive.specs.Play.{noPlay, isStatus, isPlay}
 use Rattle.drive.specs.Unit.{attend}
+use Rattle.drive.specs.State.{isSound}
 use Rattle.table.specs.Layout.{bound, isTrack, isExtra}
 use Rattle.table.specs.Row.{startOf, names, simple, free, plain, headA0, headA1, headed, addressed, rowTest}
 use Rattle.sessions.specs.Session.{one, size, listed, numbered, isSession, starts, before, follows, inPlace, inOrder}
 use Rattle.disc.specs.Rules.{rule1, rule2, eachRow, rises, outBefore, beginsAfter, rising, rule7, firstBroken, lateRules, rowRules, fault, isFit}
-use Rattle.tracks.specs.Track.{nextOut, outAt, covers, wanted, nextFound, found, trackOf, inData, allInData}
+use Rattle.tracks.specs.Track.{nextOut, outAt, covers, wanted, nextFound, found, trackOf, isMode, inMode, allIn}
 use Rattle.gate.specs.Unit.{pendingOf}
 use Rattle.gate.specs.Gate.{gate}
 use Rattle.command.specs.Command.{decode}
-use Rattle.toc.specs.Shown.{shownAddress, isShown, shownTrack, shownTracks}
+use Rattle.address.specs.Shown.{shownAddress}
+use Rattle.toc.specs.Shown.{isShown, shownTrack, shownTracks}
 use Rattle.toc.specs.Answer.{headed as tocHeaded, format0, tocBytes, tocBad}
-use Rattle.target.specs.ReadToc.{readToc}
-use Rattle.target.specs.Perform.{read, perform}
+use Rattle.command.specs.Done.{answering}
+use Rattle.blocks.specs.Range.{over, inRange, ranged}
+use Rattle.target.specs.Perform.{perform}
 use Rattle.outcome.specs.Outcome.{stateOf, bytesOf}
 use Rattle.target.specs.Packet.{refusalOf, answer}
 
@@ -40,7 +44,7 @@ tableE =
 abbrev pub loadedE : Drive
 loadedE = record {
   unit = record { power = false; change = false; sense = triple 0x00 0x00 0x00 };
-  mechanics = record { «tray_open» = false; «disc_in» = true; lock = false };
+  deck = record { «tray_open» = false; «disc_in» = true; lock = false; play = noPlay };
 }
 
 -- a packet to the loaded drive with Table E and 6,538 bytes of response memory; the address of M:S:F; the M:S:F of an address
@@ -170,5 +174,5 @@ marks =
     ∷ []
 
 pub marked : allMarked marks ≡ true
-unfolding allMarked sameOutcome sameBytes asked _and_ _or_ if_then_else_ every isMsf toMsf toBlock senseAt sameSense among isKnown attend isTrack isExtra startOf names simple free plain headA0 headA1 headed addressed rowTest one size listed numbered isSession starts before follows inPlace inOrder rule1 rule2 eachRow rises outBefore beginsAfter rising rule7 firstBroken lateRules rowRules fault isFit nextOut outAt covers wanted nextFound found trackOf inData allInData pendingOf gate decode shownAddress isShown shownTrack shownTracks tocHeaded format0 tocBytes tocBad readToc read perform refusalOf answer
+unfolding allMarked sameOutcome sameBytes asked _and_ _or_ if_then_else_ every isMsf toMsf toBlock senseAt sameSense among isKnown isStatus isPlay isSound attend isTrack isExtra startOf names simple free plain headA0 headA1 headed addressed rowTest one size listed numbered isSession starts before follows inPlace inOrder rule1 rule2 eachRow rises outBefore beginsAfter rising rule7 firstBroken lateRules rowRules fault isFit nextOut outAt covers wanted nextFound found trackOf isMode inMode allIn pendingOf gate decode shownAddress isShown shownTrack shownTracks tocHeaded format0 tocBytes tocBad answering over inRange ranged perform refusalOf answer
 marked = refl

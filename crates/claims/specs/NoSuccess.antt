@@ -25,7 +25,7 @@ no-success-since k f handed calls c = blocked drive k (powering f) handed calls 
 
 -- K3: after a power-on by default with a loaded disc and any calls without a further power-on, no call is such a success before each of
 -- the two attentions was told
-pub no-success-greeted : (k : Attention) (handed : Drive) (calls : List Call) (c : Call) → isLoaded (handed .mechanics) ≡ true
+pub no-success-greeted : (k : Attention) (handed : Drive) (calls : List Call) (c : Call) → isLoaded (handed .deck) ≡ true
     → None isPowerOn (history (next (powering byDefault) handed) calls) → None (tells k) (history (next (powering byDefault) handed) calls)
     → isSuccess (event c (final handed (powering byDefault ∷ calls))) ≡ false
 no-success-greeted k handed calls c l n t =

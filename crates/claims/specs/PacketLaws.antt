@@ -7,17 +7,20 @@ use lib.Dec.{eqb, eqb·suc-zero}
 use borrow.Author.Tests.{eqb-true}
 use Rattle.ground.specs.Tests.{_and_, _or_, if_then_else_, when, unless, either}
 use Rattle.drive.specs.declared.state.Unit.{Unit}
-use Rattle.drive.specs.declared.state.Mechanics.{Mechanics}
+use Rattle.drive.specs.declared.state.Deck.{Deck}
 use Rattle.drive.specs.declared.state.Drive.{Drive}
 use Rattle.disc.specs.Rules.{isFit}
 use Rattle.disc.specs.Part.{unfit, ruleWith}
 use Rattle.gate.specs.Gate.{Result, refuse, gate}
 use Rattle.command.specs.declared.decode.Command.{Command}
-use Rattle.command.specs.declared.decode.Command.the-variants.{TestUnitReady, RequestSense, Inquiry, StartStop, Prevent, ReadCapacity, Read10, Seek, ReadToc, Read12, Unknown}
+use Rattle.command.specs.declared.decode.Command.the-variants.{TestUnitReady, RequestSense, Inquiry, StartStop, Prevent, ReadCapacity, Read10, Seek, ReadToc, Read12, PlayAudio, PauseResume, ReadSubChannel, Unknown}
 use Rattle.command.specs.Command.{decode, byte, codeOf, needsDisc, loEj, start}
 use Rattle.command.specs.Tray.{eject, load, startStop}
-use Rattle.target.specs.ReadToc.{readToc}
-use Rattle.target.specs.Perform.{inquiry, seek, read, work, perform}
+use Rattle.command.specs.Done.{answering}
+use Rattle.blocks.specs.Range.{ranged}
+use Rattle.blocks.specs.Blocks.{seek}
+use Rattle.audio.specs.Audio.{started, pauseResume}
+use Rattle.target.specs.Perform.{work, perform}
 use Rattle.target.specs.Packet.{steps, refusalOf, answer as replyTo}
 use Rattle.target.specs.PacketLaws.{stepsOf}
 use Rattle.claims.specs.Telling.{anyPending}
@@ -35,13 +38,16 @@ isRequest Read10 = false
 isRequest Seek = false
 isRequest ReadToc = false
 isRequest Read12 = false
+isRequest PlayAudio = false
+isRequest PauseResume = false
+isRequest ReadSubChannel = false
 isRequest Unknown = false
 
 -- REQUEST SENSE, INQUIRY, or a command that meets the gate
 pub data Seen : Command → Type 0 where
   asking : Seen RequestSense
   freeing : Seen Inquiry
-  ordering : {c : Command} → isRequest c ≡ false → ((u : Unit) (m : Mechanics) (p t : List ℕ) → steps c u m p t ≡ gate u m (perform c p m t)) → Seen c
+  ordering : {c : Command} → isRequest c ≡ false → ((u : Unit) (m : Deck) (p t : List ℕ) → steps c u m p t ≡ gate u m (perform c p m t)) → Seen c
 
 pub seen : (c : Command) → Seen c
 seen TestUnitReady = ordering refl (λ u m p t. refl)
@@ -54,48 +60,51 @@ seen Read10 = ordering refl (λ u m p t. refl)
 seen Seek = ordering refl (λ u m p t. refl)
 seen ReadToc = ordering refl (λ u m p t. refl)
 seen Read12 = ordering refl (λ u m p t. refl)
+seen PlayAudio = ordering refl (λ u m p t. refl)
+seen PauseResume = ordering refl (λ u m p t. refl)
+seen ReadSubChannel = ordering refl (λ u m p t. refl)
 seen Unknown = ordering refl (λ u m p t. refl)
 
-abbrev pub kindOf : {c : Command} → Seen c → List ℕ → Result Mechanics → Kind Mechanics
+abbrev pub kindOf : {c : Command} → Seen c → List ℕ → Result Deck → Kind Deck
 kindOf asking p r = asks (byte p 4)
 kindOf freeing p r = frees r
 kindOf (ordering n g) p r = orders r
 
 -- what the packet comes to
-abbrev pub kind : List ℕ → Mechanics → List ℕ → Kind Mechanics
+abbrev pub kind : List ℕ → Deck → List ℕ → Kind Deck
 kind p m t = kindOf (seen (decode (codeOf p))) p (perform (decode (codeOf p)) p m t)
 
-kind-steps : {c : Command} (s : Seen c) (u : Unit) (m : Mechanics) (p t : List ℕ) → steps c u m p t ≡ reply (kindOf s p (perform c p m t)) u m
+kind-steps : {c : Command} (s : Seen c) (u : Unit) (m : Deck) (p t : List ℕ) → steps c u m p t ≡ reply (kindOf s p (perform c p m t)) u m
 kind-steps asking u m p t = refl
 kind-steps freeing u m p t = refl
 kind-steps (ordering n g) u m p t = g u m p t
 
-kind-request : {c : Command} (s : Seen c) (p : List ℕ) (r : Result Mechanics) → isAsking (kindOf s p r) ≡ isRequest c
+kind-request : {c : Command} (s : Seen c) (p : List ℕ) (r : Result Deck) → isAsking (kindOf s p r) ≡ isRequest c
 kind-request asking p r = refl
 kind-request freeing p r = refl
 kind-request (ordering n g) p r = sym n
 
-kind-needs : {c : Command} (s : Seen c) (p : List ℕ) (r : Result Mechanics) → needsDisc c p ≡ true → kindOf s p r ≡ orders r
+kind-needs : {c : Command} (s : Seen c) (p : List ℕ) (r : Result Deck) → needsDisc c p ≡ true → kindOf s p r ≡ orders r
 kind-needs asking p r h = absurd (false≢true h)
 kind-needs freeing p r h = absurd (false≢true h)
 kind-needs (ordering n g) p r h = refl
 
 -- while an attention is pending the lent table is not looked at
-kind-blind : {c : Command} (s : Seen c) (u : Unit) (m : Mechanics) (p t t′ : List ℕ) → anyPending u ≡ true
+kind-blind : {c : Command} (s : Seen c) (u : Unit) (m : Deck) (p t t′ : List ℕ) → anyPending u ≡ true
     → reply (kindOf s p (perform c p m t)) u m ≡ reply (kindOf s p (perform c p m t′)) u m
 unfolding perform _and_ if_then_else_
 kind-blind asking u m p t t′ l = refl
 kind-blind freeing u m p t t′ l = refl
 kind-blind (ordering n g) u m p t t′ l = gate-blind u m _ _ l
 
-pub steps-blind : (c : Command) (u : Unit) (m : Mechanics) (p t t′ : List ℕ) → anyPending u ≡ true → steps c u m p t ≡ steps c u m p t′
+pub steps-blind : (c : Command) (u : Unit) (m : Deck) (p t t′ : List ℕ) → anyPending u ≡ true → steps c u m p t ≡ steps c u m p t′
 steps-blind c u m p t t′ l =
     kind-steps (seen c) u m p t ∙ kind-blind (seen c) u m p t t′ l ∙ sym (kind-steps (seen c) u m p t′)
 
 -- ---- refused or not
 
-pub stepsOf-kind : (d : Drive) (p t : List ℕ) → stepsOf d p t ≡ reply (kind p (d .mechanics) t) (d .unit) (d .mechanics)
-stepsOf-kind d p t = kind-steps (seen (decode (codeOf p))) (d .unit) (d .mechanics) p t
+pub stepsOf-kind : (d : Drive) (p t : List ℕ) → stepsOf d p t ≡ reply (kind p (d .deck) t) (d .unit) (d .deck)
+stepsOf-kind d p t = kind-steps (seen (decode (codeOf p))) (d .unit) (d .deck) p t
 
 -- the rule beside a packet's number
 abbrev pub ruleOf : Drive → List ℕ → List ℕ → ℕ → ℕ
@@ -103,19 +112,19 @@ ruleOf d p t n = ruleWith (refusalOf d p t n) t
 
 -- the answer is that of the packet's kind, or the refusal
 pub reply-kind : (d : Drive) (p t : List ℕ) (n : ℕ)
-    → replyTo d p t n ≡ meets (refusalOf d p t n) (ruleOf d p t n) (kind p (d .mechanics) t) (d .unit) (d .mechanics)
+    → replyTo d p t n ≡ meets (refusalOf d p t n) (ruleOf d p t n) (kind p (d .deck) t) (d .unit) (d .deck)
 unfolding replyTo
 reply-kind d p t n = by-number (refusalOf d p t n)
   where
     by-number : (j : ℕ)
-        → (if eqb j 0 then stepsOf d p t else refuse j (ruleWith j t) (d .unit) (d .mechanics))
-        ≡ meets j (ruleWith j t) (kind p (d .mechanics) t) (d .unit) (d .mechanics)
+        → (if eqb j 0 then stepsOf d p t else refuse j (ruleWith j t) (d .unit) (d .deck))
+        ≡ meets j (ruleWith j t) (kind p (d .deck) t) (d .unit) (d .deck)
     by-number zero = when _ _ _ refl ∙ stepsOf-kind d p t
     by-number (suc j) = unless _ _ _ (eqb·suc-zero j)
 
 -- ---- no command but a closing is a loading
 
-pub closed-still : (m : Mechanics) → closed m m ≡ false
+pub closed-still : (m : Deck) → closed m m ≡ false
 unfolding _and_
 closed-still m = go (m .«tray_open») _
   where
@@ -124,45 +133,67 @@ closed-still m = go (m .«tray_open») _
     go false c = refl
 
 -- the result moves the tray only as it says
-abbrev Fair : Mechanics → Result Mechanics → Type 0
+abbrev Fair : Deck → Result Deck → Type 0
 Fair m r = closed m (nextOf m r) ≡ loadingOf r
 
-load-fair : (m : Mechanics) → Fair m (load m)
+load-fair : (m : Deck) → Fair m (load m)
 unfolding load _and_
 load-fair m = either (Fair m) _ (λ h. rw h) (λ h. closed-still m)
 
-eject-fair : (m : Mechanics) → Fair m (eject m)
+eject-fair : (m : Deck) → Fair m (eject m)
 unfolding eject _and_
 eject-fair m = either (Fair m) _ (λ h. closed-still m) (λ h. either (Fair m) _ (λ k. closed-still m) (λ k. rw h))
 
-startStop-fair : (b : ℕ) (m : Mechanics) → Fair m (startStop b m)
+startStop-fair : (b : ℕ) (m : Deck) → Fair m (startStop b m)
 unfolding startStop
 startStop-fair b m = either (Fair m) _ (λ h. either (Fair m) _ (λ k. load-fair m) (λ k. eject-fair m)) (λ h. closed-still m)
 
-work-fair : (c : Command) (p : List ℕ) (m : Mechanics) (t : List ℕ) → Fair m (work c p m t)
-unfolding inquiry seek read readToc
+answering-fair : (bad : Bool) (m next : Deck) (full : List ℕ) (limit : ℕ) → closed m next ≡ false → Fair m (answering bad next full limit)
+unfolding answering
+answering-fair bad m next full limit c = either (Fair m) bad (λ h. closed-still m) (λ h. c)
+
+ranged-fair : (all : Bool) (a n l : ℕ) (m : Deck) (r : Result Deck) → Fair m r → Fair m (ranged all a n l r)
+unfolding ranged
+ranged-fair all a n l m r f = either (Fair m) _ (λ h. either (Fair m) all (λ k. f) (λ k. closed-still m)) (λ h. closed-still m)
+
+seek-fair : (a l : ℕ) (m : Deck) → Fair m (seek a l m)
+unfolding seek
+seek-fair a l m = either (Fair m) _ (λ h. closed-still m) (λ h. closed-still m)
+
+started-fair : (a n : ℕ) (m : Deck) → closed m (started a n m) ≡ false
+unfolding started
+started-fair a n m = either (λ (k : Deck). closed m k ≡ false) _ (λ h. closed-still m) (λ h. closed-still m)
+
+pauseResume-fair : (resume : Bool) (m : Deck) → Fair m (pauseResume resume m)
+unfolding pauseResume
+pauseResume-fair resume m = either (Fair m) _ (λ h. closed-still m) (λ h. closed-still m)
+
+work-fair : (c : Command) (p : List ℕ) (m : Deck) (t : List ℕ) → Fair m (work c p m t)
 work-fair TestUnitReady p m t = closed-still m
 work-fair RequestSense p m t = closed-still m
-work-fair Inquiry p m t = either (Fair m) _ (λ h. closed-still m) (λ h. closed-still m)
+work-fair Inquiry p m t = answering-fair _ m m _ _ (closed-still m)
 work-fair StartStop p m t = startStop-fair (byte p 4) m
 work-fair Prevent p m t = closed-still m
-work-fair ReadCapacity p m t = closed-still m
-work-fair Read10 p m t = either (Fair m) _ (λ h. closed-still m) (λ h. either (Fair m) _ (λ k. closed-still m) (λ k. closed-still m))
-work-fair Seek p m t = either (Fair m) _ (λ h. closed-still m) (λ h. closed-still m)
-work-fair ReadToc p m t = either (Fair m) _ (λ h. closed-still m) (λ h. closed-still m)
-work-fair Read12 p m t = either (Fair m) _ (λ h. closed-still m) (λ h. either (Fair m) _ (λ k. closed-still m) (λ k. closed-still m))
+work-fair ReadCapacity p m t = answering-fair _ m m _ _ (closed-still m)
+work-fair Read10 p m t = ranged-fair _ _ _ _ m _ (closed-still m)
+work-fair Seek p m t = seek-fair _ _ m
+work-fair ReadToc p m t = answering-fair _ m m _ _ (closed-still m)
+work-fair Read12 p m t = ranged-fair _ _ _ _ m _ (closed-still m)
+work-fair PlayAudio p m t = ranged-fair _ _ _ _ m _ (started-fair _ _ m)
+work-fair PauseResume p m t = pauseResume-fair _ m
+work-fair ReadSubChannel p m t = answering-fair _ m _ _ _ (closed-still m)
 work-fair Unknown p m t = closed-still m
 
-perform-fair : (c : Command) (p : List ℕ) (m : Mechanics) (t : List ℕ) → Fair m (perform c p m t)
+perform-fair : (c : Command) (p : List ℕ) (m : Deck) (t : List ℕ) → Fair m (perform c p m t)
 unfolding perform
 perform-fair c p m t = either (Fair m) _ (λ h. closed-still m) (λ h. work-fair c p m t)
 
-kind-fair : {c : Command} (s : Seen c) (p : List ℕ) (m : Mechanics) (t : List ℕ) → Honest closed m (kindOf s p (perform c p m t))
+kind-fair : {c : Command} (s : Seen c) (p : List ℕ) (m : Deck) (t : List ℕ) → Honest closed m (kindOf s p (perform c p m t))
 kind-fair asking p m t = closed-still m
 kind-fair freeing p m t = (perform-fair Inquiry p m t, closed-still m)
 kind-fair (ordering {c} n g) p m t = (perform-fair c p m t, closed-still m)
 
-pub packet-fair : (p : List ℕ) (m : Mechanics) (t : List ℕ) → Honest closed m (kind p m t)
+pub packet-fair : (p : List ℕ) (m : Deck) (t : List ℕ) → Honest closed m (kind p m t)
 packet-fair p m t = kind-fair (seen (decode (codeOf p))) p m t
 
 -- ---- the packet's code
@@ -173,7 +204,8 @@ unfolding decode
 decode-request n =
     either P _ (λ h. at 0x00 h) (λ h. either P _ (λ h. h) (λ h₃. either P _ (λ h. h₃) (λ h.
     either P _ (λ h. h₃) (λ h. either P _ (λ h. h₃) (λ h. either P _ (λ h. h₃) (λ h. either P _ (λ h. h₃) (λ h.
-    either P _ (λ h. h₃) (λ h. either P _ (λ h. h₃) (λ h. either P _ (λ h. h₃) (λ h. h₃))))))))))
+    either P _ (λ h. h₃) (λ h. either P _ (λ h. h₃) (λ h. either P _ (λ h. h₃) (λ h. either P _ (λ h. h₃) (λ h.
+    either P _ (λ h. h₃) (λ h. either P _ (λ h. h₃) (λ h. h₃)))))))))))))
   where
     P : Command → Type 0
     P c = eqb n 0x03 ≡ isRequest c
@@ -181,26 +213,27 @@ decode-request n =
     at : (k : ℕ) → eqb n k ≡ true → eqb n 0x03 ≡ eqb k 0x03
     at k h = rw (eqb-true n k h)
 
-pub packet-request : (p : List ℕ) (m : Mechanics) (t : List ℕ) → isAsking (kind p m t) ≡ isRequestSense p
+pub packet-request : (p : List ℕ) (m : Deck) (t : List ℕ) → isAsking (kind p m t) ≡ isRequestSense p
 packet-request p m t = kind-request (seen (decode (codeOf p))) p _ ∙ sym (decode-request (codeOf p))
 
 decode-needs : (n : ℕ) (b : Bool) (p : List ℕ) → b ≡ not (loEj p) and start p
-    → eqb n 0x00 or eqb n 0x25 or eqb n 0x28 or eqb n 0x2B or eqb n 0x43 or eqb n 0xA8 or eqb n 0x1B and b ≡ needsDisc (decode n) p
+    → eqb n 0x00 or eqb n 0x25 or eqb n 0x28 or eqb n 0x2B or eqb n 0x43 or eqb n 0xA8 or eqb n 0x45 or eqb n 0x4B or eqb n 0x42 or eqb n 0x1B and b ≡ needsDisc (decode n) p
 unfolding decode _or_ _and_
 decode-needs n b p e =
     either P _ (λ h. rw h) (λ h0. either P _ (λ h. rw (eqb-true n _ h)) (λ h3. either P _ (λ h. rw (eqb-true n _ h)) (λ h12.
     either P _ (λ h. rw (eqb-true n _ h) e) (λ h1B. either P _ (λ h. rw (eqb-true n _ h)) (λ h1E. either P _ (λ h. rw (eqb-true n _ h)) (λ h25.
     either P _ (λ h. rw (eqb-true n _ h)) (λ h28. either P _ (λ h. rw (eqb-true n _ h)) (λ h2B. either P _ (λ h. rw (eqb-true n _ h)) (λ h43.
-    either P _ (λ h. rw (eqb-true n _ h)) (λ hA8. rw (h0, h1B, h25, h28, h2B, h43, hA8)))))))))))
+    either P _ (λ h. rw (eqb-true n _ h)) (λ hA8. either P _ (λ h. rw (eqb-true n _ h)) (λ h45. either P _ (λ h. rw (eqb-true n _ h)) (λ h4B.
+    either P _ (λ h. rw (eqb-true n _ h)) (λ h42. rw (h0, h1B, h25, h28, h2B, h43, hA8, h45, h4B, h42))))))))))))))
   where
     P : Command → Type 0
-    P c = eqb n 0x00 or eqb n 0x25 or eqb n 0x28 or eqb n 0x2B or eqb n 0x43 or eqb n 0xA8 or eqb n 0x1B and b ≡ needsDisc c p
+    P c = eqb n 0x00 or eqb n 0x25 or eqb n 0x28 or eqb n 0x2B or eqb n 0x43 or eqb n 0xA8 or eqb n 0x45 or eqb n 0x4B or eqb n 0x42 or eqb n 0x1B and b ≡ needsDisc c p
 
 pub packet-needs : (p : List ℕ) → isNeeding p ≡ needsDisc (decode (codeOf p)) p
 unfolding isNeeding
 packet-needs p = decode-needs (codeOf p) _ p refl
 
-pub packet-orders : (p : List ℕ) (m : Mechanics) (t : List ℕ) → isNeeding p ≡ true → (r : Result Mechanics) × (kind p m t ≡ orders r)
+pub packet-orders : (p : List ℕ) (m : Deck) (t : List ℕ) → isNeeding p ≡ true → (r : Result Deck) × (kind p m t ≡ orders r)
 packet-orders p m t h = (_, kind-needs (seen (decode (codeOf p))) p _ (sym (packet-needs p) ∙ h))
 
 -- ---- the lent table
@@ -214,4 +247,4 @@ ruleWith-fit n t f = either (λ x. x ≡ 0) (eqb n unfit) (λ h. eqb-true _ _ f)
 pub packet-blind : (d : Drive) (p t t′ : List ℕ) (n : ℕ) → isFit t ≡ true → isFit t′ ≡ true → anyPending (d .unit) ≡ true → replyTo d p t n ≡ replyTo d p t′ n
 unfolding replyTo refusalOf
 packet-blind d p t t′ n f g l =
-    rw (ruleWith-fit _ t f, ruleWith-fit _ t′ g, f, g, steps-blind (decode (codeOf p)) (d .unit) (d .mechanics) p t t′ l)
+    rw (ruleWith-fit _ t f, ruleWith-fit _ t′ g, f, g, steps-blind (decode (codeOf p)) (d .unit) (d .deck) p t t′ l)

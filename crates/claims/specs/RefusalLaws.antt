@@ -12,13 +12,12 @@ use lib.Dec.{eqb, ltb, leb, eqb·suc-zero}
 use Rattle.ground.specs.Tests.{_and_, _or_, if_then_else_, and-tail, and-both, and-assoc}
 use Rattle.ground.specs.Memory.{fill-none}
 use Rattle.drive.specs.declared.state.Unit.{Unit}
-use Rattle.drive.specs.declared.state.Mechanics.{Mechanics}
+use Rattle.drive.specs.declared.state.Deck.{Deck}
 use Rattle.drive.specs.declared.state.Drive.{Drive}
 use Rattle.drive.specs.declared.state.Moved.{Moved}
 use Rattle.drive.specs.declared.sense.Sense.{Sense}
-use Rattle.drive.specs.Sense.{isKnown}
-use Rattle.drive.specs.State.{isLoaded, button, lay, lift}
-use Rattle.drive.specs.StateLaws.{button-unknown, button-closes, button-locked, button-opens, button-refused, lay-unknown, lay-closed, lay-full, lay-lays, lay-refused, lift-unknown, lift-closed, lift-empty, lift-lifts, lift-refused}
+use Rattle.drive.specs.State.{isSound, isLoaded, button, lay, lift, moveOn}
+use Rattle.drive.specs.StateLaws.{button-unknown, button-closes, button-locked, button-opens, button-refused, lay-unknown, lay-closed, lay-full, lay-lays, lay-refused, lift-unknown, lift-closed, lift-empty, lift-lifts, lift-refused, moveOn-unknown, moveOn-moves, moveOn-refused}
 use Rattle.table.specs.Layout.{bound, lastSession}
 use Rattle.disc.specs.Rules.{fault, isFit}
 use Rattle.disc.specs.RulesLaws.{fault-first}
@@ -32,7 +31,7 @@ use Rattle.outcome.specs.Outcome.{stateOf}
 use Rattle.target.specs.Packet.{refusalOf, answer as replyTo}
 use Rattle.claims.specs.Telling.{Attention, Answer, answerOf, tellsTo}
 use Rattle.claims.specs.UnitLaws.{Kind, asks, frees, orders, reply, meets, only-none}
-use Rattle.claims.specs.Call.{Call, powering, pressing, laying, lifting, packet, memoryOf, answer, next, event, isPowering, closed, isLoading, causes, isRequestSense, tells}
+use Rattle.claims.specs.Call.{Call, powering, pressing, laying, lifting, movingOn, packet, memoryOf, answer, next, event, isPowering, closed, isLoading, causes, isRequestSense, tells}
 use Rattle.claims.specs.PacketLaws.{closed-still, kind, ruleOf, reply-kind}
 use Rattle.claims.specs.DriveDevice.{causes-only}
 
@@ -69,11 +68,11 @@ meets-numbered (suc j) t k u m = (refl, refl)
 abbrev pub refusing : ℕ → ℕ → List ℕ → Answer
 refusing n rule m = record { number = n; rule = rule; status = 0; full = []; limit = 0; start = 0; count = 0; memory = m }
 
-abbrev Unchanged : Drive → List ℕ → Reply Mechanics → Type 0
+abbrev Unchanged : Drive → List ℕ → Reply Deck → Type 0
 Unchanged d m r = (r .number ≡ 0 → ⊥) → (stateOf r ≡ d) × (answerOf m r ≡ refusing (r .number) (r .rule) m)
 
-meets-unchanged : (j rule : ℕ) (k : Kind Mechanics) (d : Drive) (m : List ℕ) → Unchanged d m (meets j rule k (d .unit) (d .mechanics))
-meets-unchanged zero rule k d m n = absurd (n (reply-numbered k (d .unit) (d .mechanics) .0))
+meets-unchanged : (j rule : ℕ) (k : Kind Deck) (d : Drive) (m : List ℕ) → Unchanged d m (meets j rule k (d .unit) (d .deck))
+meets-unchanged zero rule k d m n = absurd (n (reply-numbered k (d .unit) (d .deck) .0))
 meets-unchanged (suc j) rule k d m n = (refl, ap (λ (l : List ℕ). refusing (suc j) rule l) (fill-none m))
 
 pub call-unchanged : (c : Call) (d : Drive) → (answer c d .number ≡ 0 → ⊥)
@@ -82,8 +81,9 @@ call-unchanged (powering f) d n = absurd (n refl)
 call-unchanged pressing d n = (button-refused d n, refl)
 call-unchanged laying d n = (lay-refused d n, refl)
 call-unchanged lifting d n = (lift-refused d n, refl)
+call-unchanged (movingOn k) d n = (moveOn-refused d k n, refl)
 call-unchanged (packet p t m) d n =
-    let e = meets-unchanged (refusalOf d p t (length m)) (ruleOf d p t (length m)) (kind p (d .mechanics) t) d m in
+    let e = meets-unchanged (refusalOf d p t (length m)) (ruleOf d p t (length m)) (kind p (d .deck) t) d m in
     let u : Unchanged d m (replyTo d p t (length m)) = rw (reply-kind d p t (length m)) e in
     u n
 
@@ -96,16 +96,18 @@ refused-untold k false old new a h = rw h
 refused-unloaded : (c : Call) (d : Drive) → next c d ≡ d → isLoading (event c d) ≡ false
 unfolding _and_
 refused-unloaded (powering f) d h = refl
-refused-unloaded pressing d h = rw h (closed-still (d .mechanics))
+refused-unloaded pressing d h = rw h (closed-still (d .deck))
 refused-unloaded laying d h = refl
 refused-unloaded lifting d h = refl
-refused-unloaded (packet p t m) d h = ap (λ (e : Drive). closed (d .mechanics) (e .mechanics)) h ∙ closed-still (d .mechanics)
+refused-unloaded (movingOn k) d h = refl
+refused-unloaded (packet p t m) d h = ap (λ (e : Drive). closed (d .deck) (e .deck)) h ∙ closed-still (d .deck)
 
 refused-on : (c : Call) (d : Drive) → (answer c d .number ≡ 0 → ⊥) → isPowering c ≡ false
 refused-on (powering f) d n = absurd (n refl)
 refused-on pressing d n = refl
 refused-on laying d n = refl
 refused-on lifting d n = refl
+refused-on (movingOn k) d n = refl
 refused-on (packet p t m) d n = refl
 
 refused-causes : (k : Attention) (c : Call) (d : Drive) → (answer c d .number ≡ 0 → ⊥) → causes k (event c d) ≡ false
@@ -116,6 +118,7 @@ refused-tells k (powering f) d n = refl
 refused-tells k pressing d n = refl
 refused-tells k laying d n = refl
 refused-tells k lifting d n = refl
+refused-tells k (movingOn j) d n = refl
 refused-tells k (packet p t m) d n =
     refused-untold k (isRequestSense p) (d .unit) (next (packet p t m) d .unit) (answer (packet p t m) d) (ne-eqb (answer (packet p t m) d .number) 0 n)
 
@@ -171,9 +174,9 @@ pub record Ordered (twelve known short unfit : Bool) (n : ℕ) : Type 0 where
   pub most : n ≤ 4
 
 module _ (d : Drive) (p t : List ℕ) (n : ℕ) where
-  pub refusal-ordered : Ordered (eqb (length p) 12) (isKnown (d .unit .sense)) (ltb n bound) (isLoaded (d .mechanics) and not (isFit t)) (refusalOf d p t n)
+  pub refusal-ordered : Ordered (eqb (length p) 12) (isSound d) (ltb n bound) (isLoaded (d .deck) and not (isFit t)) (refusalOf d p t n)
   unfolding refusalOf if_then_else_ _and_
-  refusal-ordered = by-tests (eqb (length p) 12) (isKnown (d .unit .sense)) (ltb n bound) (isLoaded (d .mechanics) and not (isFit t))
+  refusal-ordered = by-tests (eqb (length p) 12) (isSound d) (ltb n bound) (isLoaded (d .deck) and not (isFit t))
     where
       by-tests : (twelve known short unfit : Bool)
           → Ordered twelve known short unfit (if not twelve then 1 else (if not known then 2 else (if short then 3 else (if unfit then 4 else 0))))
@@ -185,14 +188,14 @@ module _ (d : Drive) (p t : List ℕ) (n : ℕ) where
 
   -- the answer's number is that of the refusal, and the rule that beside it
   reply-refusal : Numbered (refusalOf d p t n) (ruleOf d p t n) (replyTo d p t n)
-  reply-refusal = rw (reply-kind d p t n) (meets-numbered (refusalOf d p t n) t (kind p (d .mechanics) t) (d .unit) (d .mechanics))
+  reply-refusal = rw (reply-kind d p t n) (meets-numbered (refusalOf d p t n) t (kind p (d .deck) t) (d .unit) (d .deck))
 
-  pub reply-ordered : Ordered (eqb (length p) 12) (isKnown (d .unit .sense)) (ltb n bound) (isLoaded (d .mechanics) and not (isFit t)) (replyTo d p t n .number)
+  pub reply-ordered : Ordered (eqb (length p) 12) (isSound d) (ltb n bound) (isLoaded (d .deck) and not (isFit t)) (replyTo d p t n .number)
   reply-ordered = rw (reply-refusal .0) refusal-ordered
 
   -- the packet's table is looked at
   abbrev looked : Bool
-  looked = eqb (length p) 12 and isKnown (d .unit .sense) and not (ltb n bound) and isLoaded (d .mechanics)
+  looked = eqb (length p) 12 and isSound d and not (ltb n bound) and isLoaded (d .deck)
 
   refusal-unfit : eqb (refusalOf d p t n) 4 ≡ looked and not (isFit t)
   refusal-unfit = refusal-ordered .four ∙ sym (simp and-assoc)
@@ -242,7 +245,7 @@ neither false true = refl
 neither false false = refl
 
 module _ (d : Drive) where
-  press-number : (k t l : Bool) → isKnown (d .unit .sense) ≡ k → d .mechanics .«tray_open» ≡ t → d .mechanics .lock ≡ l
+  press-number : (k t l : Bool) → isSound d ≡ k → d .deck .«tray_open» ≡ t → d .deck .lock ≡ l
       → button d .number ≡ numberFor k (t or not l) 5
   unfolding _or_
   press-number false t l h i j = ap numberIn (button-unknown d h)
@@ -250,7 +253,7 @@ module _ (d : Drive) where
   press-number true false true h i j = ap numberIn (button-locked d h i j)
   press-number true false false h i j = ap numberIn (button-opens d h i j)
 
-  lay-number : (k t i : Bool) → isKnown (d .unit .sense) ≡ k → d .mechanics .«tray_open» ≡ t → d .mechanics .«disc_in» ≡ i
+  lay-number : (k t i : Bool) → isSound d ≡ k → d .deck .«tray_open» ≡ t → d .deck .«disc_in» ≡ i
       → lay d .number ≡ numberFor k (t and not i) 6
   unfolding _and_
   lay-number false t i h j l = ap numberIn (lay-unknown d h)
@@ -258,7 +261,7 @@ module _ (d : Drive) where
   lay-number true true true h j l = ap numberIn (lay-full d h j l)
   lay-number true true false h j l = ap numberIn (lay-lays d h j l)
 
-  lift-number : (k t i : Bool) → isKnown (d .unit .sense) ≡ k → d .mechanics .«tray_open» ≡ t → d .mechanics .«disc_in» ≡ i
+  lift-number : (k t i : Bool) → isSound d ≡ k → d .deck .«tray_open» ≡ t → d .deck .«disc_in» ≡ i
       → lift d .number ≡ numberFor k (t and i) 7
   unfolding _and_
   lift-number false t i h j l = ap numberIn (lift-unknown d h)
@@ -266,18 +269,31 @@ module _ (d : Drive) where
   lift-number true true true h j l = ap numberIn (lift-lifts d h j l)
   lift-number true true false h j l = ap numberIn (lift-empty d h j l)
 
-  pub press-tested : Tested (isKnown (d .unit .sense)) (d .mechanics .«tray_open» or not (d .mechanics .lock)) 5 (button d .number)
+  pub press-tested : Tested (isSound d) (d .deck .«tray_open» or not (d .deck .lock)) 5 (button d .number)
   press-tested = rw (press-number _ _ _ refl refl refl) (number-tested _ _ 5 (omega arith))
 
   -- a closed tray that is locked
-  pub press-locked : eqb (button d .number) 5 ≡ isKnown (d .unit .sense) and not (d .mechanics .«tray_open») and d .mechanics .lock
-  press-locked = press-tested .next ∙ ap (λ (b : Bool). isKnown (d .unit .sense) and b) (neither (d .mechanics .«tray_open») (d .mechanics .lock))
+  pub press-locked : eqb (button d .number) 5 ≡ isSound d and not (d .deck .«tray_open») and d .deck .lock
+  press-locked = press-tested .next ∙ ap (λ (b : Bool). isSound d and b) (neither (d .deck .«tray_open») (d .deck .lock))
 
-  pub lay-tested : Tested (isKnown (d .unit .sense)) (d .mechanics .«tray_open» and not (d .mechanics .«disc_in»)) 6 (lay d .number)
+  pub lay-tested : Tested (isSound d) (d .deck .«tray_open» and not (d .deck .«disc_in»)) 6 (lay d .number)
   lay-tested = rw (lay-number _ _ _ refl refl refl) (number-tested _ _ 6 (omega arith))
 
-  pub lift-tested : Tested (isKnown (d .unit .sense)) (d .mechanics .«tray_open» and d .mechanics .«disc_in») 7 (lift d .number)
+  pub lift-tested : Tested (isSound d) (d .deck .«tray_open» and d .deck .«disc_in») 7 (lift d .number)
   lift-tested = rw (lift-number _ _ _ refl refl refl) (number-tested _ _ 7 (omega arith))
+
+-- n is the number of a call that tests 2 alone
+pub record TestedAlone (known : Bool) (n : ℕ) : Type 0 where
+  pub zero : eqb n 0 ≡ known
+  pub two : eqb n 2 ≡ not known
+  pub four : eqb n 4 ≡ false
+
+pub move-tested : (d : Drive) (k : ℕ) → TestedAlone (isSound d) (moveOn k d .number)
+move-tested d k = go (isSound d) refl
+  where
+    go : (b : Bool) → isSound d ≡ b → TestedAlone b (moveOn k d .number)
+    go true h = rw (moveOn-moves d h k) (record { zero = refl; two = refl; four = refl })
+    go false h = rw (moveOn-unknown d k h) (record { zero = refl; two = refl; four = refl })
 
 -- the rule of every call
 pub call-beside : (c : Call) (d : Drive) → Beside (eqb (answer c d .number) 4) (answer c d .rule)
@@ -285,6 +301,7 @@ call-beside (powering f) d = beside-none _ refl
 call-beside pressing d = beside-none _ (press-tested d .four)
 call-beside laying d = beside-none _ (lay-tested d .four)
 call-beside lifting d = beside-none _ (lift-tested d .four)
+call-beside (movingOn k) d = beside-none _ (move-tested d k .four)
 call-beside (packet p t m) d = reply-beside d p t (length m)
 
 -- ---- the session part and the addresses

@@ -11,15 +11,16 @@ use Rattle.ground.specs.Tests.{_and_, _or_}
 use Rattle.address.specs.Address.{toMsf, toBlock, isMsf}
 use Rattle.drive.specs.declared.state.Drive.{Drive}
 use Rattle.drive.specs.Sense.{triple, senseAt, isKnown}
-use Rattle.drive.specs.State.{isLoaded}
+use Rattle.drive.specs.Play.{isStatus, isPlay}
+use Rattle.drive.specs.State.{isSound, isLoaded}
 use Rattle.drive.specs.StateLaws.{powerOn-with, powerOnWithoutChange-with}
 use Rattle.table.specs.Layout.{bound, lastSession, descriptors}
 use Rattle.sessions.specs.Session.{inOrder}
 use Rattle.disc.specs.Rules.{rule1, rule2, eachRow, rule7, isFit}
 use Rattle.disc.specs.RulesLaws.{fault-first}
 use Rattle.disc.specs.Part.{partRefused}
-use Rattle.claims.specs.Call.{byDefault, withoutChange, Call, powering, pressing, laying, lifting, packet, memoryOf, answer, next}
-use Rattle.claims.specs.RefusalLaws.{call-unchanged, call-beside, reply-ordered, reply-broken, press-tested, press-locked, lay-tested, lift-tested, part-parted, part-beside, part-broken, toMsf-number, toBlock-number}
+use Rattle.claims.specs.Call.{byDefault, withoutChange, Call, powering, pressing, laying, lifting, movingOn, packet, memoryOf, answer, next}
+use Rattle.claims.specs.RefusalLaws.{call-unchanged, call-beside, reply-ordered, reply-broken, press-tested, press-locked, lay-tested, lift-tested, move-tested, part-parted, part-beside, part-broken, toMsf-number, toBlock-number}
 
 -- a call with a number other than 0 leaves the state as it was, and answers "status 0, 0 bytes, start 0, count 0" with the memory as it was
 pub refused-unchanged : (c : Call) (d : Drive) → (answer c d .number ≡ 0 → ⊥)
@@ -80,9 +81,27 @@ module _ (d : Drive) where
       → (leb 1 (answer c d .rule) and leb (answer c d .rule) 7 ≡ gives c 4) × (eqb (answer c d .rule) 0 ≡ not (gives c 4))
   refused-rule c = let b = call-beside c d in (b .one, b .none)
 
+  -- ---- 2: "held sense is none of the ten below"; K2: "2 also covers another status, a position past its end, or an end over 449,849"
+
+  -- none of that holds of the state
+  abbrev isState : Bool
+  isState = isSound d
+
   -- the held sense is one of the ten
   abbrev isOfTen : Bool
   isOfTen = isKnown (d .unit .sense)
+
+  -- the status is one of the four
+  abbrev isOfFour : Bool
+  isOfFour =
+      eqb (d .deck .play .status) 0x11
+      or eqb (d .deck .play .status) 0x12
+      or eqb (d .deck .play .status) 0x13
+      or eqb (d .deck .play .status) 0x15
+
+  pub refused-2-state : isState ≡ isOfTen and isOfFour and leb (d .deck .play .position) (d .deck .play .end) and leb (d .deck .play .end) 449849
+  unfolding isSound isPlay isStatus
+  refused-2-state = refl
 
   -- ---- "Packets test 1, 2, 3, 4, then the steps below"; K9: and nothing more
 
@@ -97,23 +116,23 @@ module _ (d : Drive) where
 
     -- "loaded .. and the table is not fit"
     abbrev isUnfit : Bool
-    isUnfit = isLoaded (d .mechanics) and not (isFit t)
+    isUnfit = isLoaded (d .deck) and not (isFit t)
 
     pub refused-1 : gives (packet p t m) 1 ≡ not isTwelve
     refused-1 = reply-ordered d p t (length m) .one
 
-    pub refused-2 : gives (packet p t m) 2 ≡ isTwelve and not isOfTen
+    pub refused-2 : gives (packet p t m) 2 ≡ isTwelve and not isState
     refused-2 = reply-ordered d p t (length m) .two
 
-    pub refused-3 : gives (packet p t m) 3 ≡ isTwelve and isOfTen and isUnder
+    pub refused-3 : gives (packet p t m) 3 ≡ isTwelve and isState and isUnder
     refused-3 = reply-ordered d p t (length m) .three
 
-    pub refused-4 : gives (packet p t m) 4 ≡ isTwelve and isOfTen and not isUnder and isUnfit
+    pub refused-4 : gives (packet p t m) 4 ≡ isTwelve and isState and not isUnder and isUnfit
     refused-4 = reply-ordered d p t (length m) .four
 
     -- K6: with the broken rule beside it, where the table is looked at
     abbrev isLooked : Bool
-    isLooked = isTwelve and isOfTen and not isUnder and isLoaded (d .mechanics)
+    isLooked = isTwelve and isState and not isUnder and isLoaded (d .deck)
 
     pub refused-4-rule1 : breaks (packet p t m) 1 ≡ isLooked and isFirst1 t
     refused-4-rule1 = reply-broken d p t (length m) 1 refl (fault-first t .one)
@@ -136,7 +155,7 @@ module _ (d : Drive) where
     pub refused-4-rule7 : breaks (packet p t m) 7 ≡ isLooked and isFirst7 t
     refused-4-rule7 = reply-broken d p t (length m) 7 refl (fault-first t .seven)
 
-    pub refused-not : gives (packet p t m) 0 ≡ isTwelve and isOfTen and not isUnder and not isUnfit
+    pub refused-not : gives (packet p t m) 0 ≡ isTwelve and isState and not isUnder and not isUnfit
     refused-not = reply-ordered d p t (length m) .zero
 
     -- K9: and no other number
@@ -145,16 +164,21 @@ module _ (d : Drive) where
 
   -- ---- power-on
 
-  -- "Power-on .. keeps the handed state's tray and disc and is never refused: lock off, sense 00/00/00, power attention pending": of
-  -- every state, also with a held sense that is none of the ten. It hands back the state alone, and no number.
+  -- "Power-on .. keeps the handed state's tray and disc and is never refused: lock off, sense 00/00/00, power attention pending"; K2:
+  -- "Power-on .. set 15h, position 0 and end 0": of every state, also one that refusal 2 meets. It hands back the state alone, and no number.
   abbrev restarted : Bool → Drive
   restarted change = record {
     unit = record { power = true; change = change; sense = triple 0x00 0x00 0x00 };
-    mechanics = record { «tray_open» = d .mechanics .«tray_open»; «disc_in» = d .mechanics .«disc_in»; lock = false };
+    deck = record {
+      «tray_open» = d .deck .«tray_open»;
+      «disc_in» = d .deck .«disc_in»;
+      lock = false;
+      play = record { status = 0x15; position = 0; end = 0 };
+    };
   }
 
   -- K3: "Power-on with a loaded disc now leaves both attentions pending by default"; with any other drive, 01's "change attention not"
-  pub refused-power : next (powering byDefault) d ≡ restarted (not (d .mechanics .«tray_open») and d .mechanics .«disc_in»)
+  pub refused-power : next (powering byDefault) d ≡ restarted (not (d .deck .«tray_open») and d .deck .«disc_in»)
   unfolding senseAt
   refused-power = powerOn-with d
 
@@ -166,34 +190,41 @@ module _ (d : Drive) where
   -- ---- "Button, laying and lifting test 2 before 5 to 7."
 
   -- "an open tray closes; a closed one opens, unless locked (5)"
-  pub refused-button-2 : gives pressing 2 ≡ not isOfTen
+  pub refused-button-2 : gives pressing 2 ≡ not isState
   refused-button-2 = press-tested d .two
 
-  pub refused-5 : gives pressing 5 ≡ isOfTen and not (d .mechanics .«tray_open») and d .mechanics .lock
+  pub refused-5 : gives pressing 5 ≡ isState and not (d .deck .«tray_open») and d .deck .lock
   refused-5 = press-locked d
 
-  pub refused-button-not : gives pressing 0 ≡ isOfTen and (d .mechanics .«tray_open» or not (d .mechanics .lock))
+  pub refused-button-not : gives pressing 0 ≡ isState and (d .deck .«tray_open» or not (d .deck .lock))
   refused-button-not = press-tested d .zero
 
   -- "Laying a disc needs an open tray without one (6)"
-  pub refused-lay-2 : gives laying 2 ≡ not isOfTen
+  pub refused-lay-2 : gives laying 2 ≡ not isState
   refused-lay-2 = lay-tested d .two
 
-  pub refused-6 : gives laying 6 ≡ isOfTen and not (d .mechanics .«tray_open» and not (d .mechanics .«disc_in»))
+  pub refused-6 : gives laying 6 ≡ isState and not (d .deck .«tray_open» and not (d .deck .«disc_in»))
   refused-6 = lay-tested d .next
 
-  pub refused-lay-not : gives laying 0 ≡ isOfTen and d .mechanics .«tray_open» and not (d .mechanics .«disc_in»)
+  pub refused-lay-not : gives laying 0 ≡ isState and d .deck .«tray_open» and not (d .deck .«disc_in»)
   refused-lay-not = lay-tested d .zero
 
   -- "lifting needs an open tray with one (7)"
-  pub refused-lift-2 : gives lifting 2 ≡ not isOfTen
+  pub refused-lift-2 : gives lifting 2 ≡ not isState
   refused-lift-2 = lift-tested d .two
 
-  pub refused-7 : gives lifting 7 ≡ isOfTen and not (d .mechanics .«tray_open» and d .mechanics .«disc_in»)
+  pub refused-7 : gives lifting 7 ≡ isState and not (d .deck .«tray_open» and d .deck .«disc_in»)
   refused-7 = lift-tested d .next
 
-  pub refused-lift-not : gives lifting 0 ≡ isOfTen and d .mechanics .«tray_open» and d .mechanics .«disc_in»
+  pub refused-lift-not : gives lifting 0 ≡ isState and d .deck .«tray_open» and d .deck .«disc_in»
   refused-lift-not = lift-tested d .zero
+
+  -- K2: "An outside call, testing 2": and nothing else
+  pub refused-move-2 : (k : ℕ) → gives (movingOn k) 2 ≡ not isState
+  refused-move-2 k = move-tested d k .two
+
+  pub refused-move-not : (k : ℕ) → gives (movingOn k) 0 ≡ isState
+  refused-move-not k = move-tested d k .zero
 
 -- ---- "The session part tests fitness (4, empty part) before 10": "a session asked for is 0 or over S"
 

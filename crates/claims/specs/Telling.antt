@@ -1,4 +1,4 @@
--- The two attentions, what a packet answers, and when an answer tells an attention: over any mechanics.
+-- The two attentions, what a packet answers, and when an answer tells an attention: over any deck.
 use Prim.Native.Nat.{ℕ}
 use mathlib.Core.Bool.{Bool}
 use mathlib.Core.List.{List}

@@ -14,16 +14,19 @@ use Rattle.address.specs.declared.Msf.{Msf}
 use Rattle.address.specs.declared.Msf.the-variants as msf
 use Rattle.address.specs.declared.Block.{Block}
 use Rattle.address.specs.declared.Block.the-variants as block
+use Rattle.address.specs.Shown.{shownAddress}
 use Rattle.address.specs.Address.{MsfAnswer, BlockAnswer, msfMeaning, blockMeaning, toMsf, toBlock, addressOf, isMsf}
 use Rattle.drive.specs.declared.sense.Sense.{Sense}
 use Rattle.drive.specs.declared.state.Unit.{Unit}
-use Rattle.drive.specs.declared.state.Mechanics.{Mechanics}
+use Rattle.drive.specs.declared.state.Deck.{Deck}
 use Rattle.drive.specs.declared.state.Drive.{Drive}
 use Rattle.drive.specs.declared.state.Shifted.{Shifted}
 use Rattle.drive.specs.declared.state.Moved.{Moved}
 use Rattle.drive.specs.Sense.{senseAt, sameSense, isKnown}
+use Rattle.drive.specs.declared.play.Play.{Play}
+use Rattle.drive.specs.Play.{noPlay, withStatus, isPlay}
 use Rattle.drive.specs.Unit.{poweredOn, attend}
-use Rattle.drive.specs.State.{isLoaded, opening, closing, withDisc, withLock, shift, powerOn, powerOnWithoutChange, button, lay, lift}
+use Rattle.drive.specs.State.{isSound, isLoaded, opening, closing, withDisc, withLock, withPlay, shift, powerOn, powerOnWithoutChange, button, lay, lift, moveOn}
 use Rattle.gate.specs.declared.fault.Fault.{Fault}
 use Rattle.gate.specs.declared.unit.Pending.{Pending}
 use Rattle.gate.specs.declared.unit.Giving.{Giving}
@@ -42,14 +45,21 @@ use Rattle.sessions.specs.declared.session.Session.{Session}
 use Rattle.sessions.specs.Session.{size, starts, readSession}
 use Rattle.disc.specs.Rules.{fault}
 use Rattle.disc.specs.Part.{PartOf, partRefused, partStart, partSize}
-use Rattle.tracks.specs.Track.{isData, trackOf, trackNumbered, runIsData}
+use Rattle.tracks.specs.declared.track.Mode.{Mode}
+use Rattle.tracks.specs.Track.{isData, isMode, trackOf, trackNumbered, runIs}
 use Rattle.disc.specs.Disc.{reading}
 use Rattle.command.specs.declared.decode.Command.{Command}
 use Rattle.command.specs.declared.decode.Kind.{Kind}
 use Rattle.command.specs.declared.done.Done.{Done}
-use Rattle.command.specs.Command.{decode, kindOf, needing, bit0, bit1}
-use Rattle.command.specs.Tray.{done, startStop, prevent, noMedium}
-use Rattle.command.specs.Done.{doneOf}
+use Rattle.command.specs.Command.{decode, kindOf, needing, bit0, bit1, bit6}
+use Rattle.command.specs.Tray.{startStop, prevent, noMedium}
+use Rattle.command.specs.Inquiry.{inquiryBytes}
+use Rattle.command.specs.Done.{done, doneOf}
+use Rattle.blocks.specs.Range.{over, inRange}
+use Rattle.blocks.specs.Blocks.{capacity, seek, read}
+use Rattle.audio.specs.declared.sub_channel.SubAsk.{SubAsk}
+use Rattle.audio.specs.Audio.{play, pauseResume}
+use Rattle.audio.specs.SubChannel.{subAsk, subBad, positionBytes, statusBytes, reported}
 use Rattle.toc.specs.Answer.{tocBytes, tocBad}
 use Rattle.outcome.specs.declared.Outcome.{Outcome}
 use Rattle.outcome.specs.Outcome.{Answered, refused, checked, granted, finished}
@@ -74,7 +84,7 @@ part-once {s} {r} {q} a b =
     rw (e, o, l)
 
 -- an answer with memory
-pub answer-once : {a : Reply Mechanics} {m m₁ m₂ : List ℕ} {r s : Outcome} → Answered a m r m₁ → Answered a m s m₂ → (r ≡ s) × (m₁ ≡ m₂)
+pub answer-once : {a : Reply Deck} {m m₁ m₂ : List ℕ} {r s : Outcome} → Answered a m r m₁ → Answered a m s m₂ → (r ≡ s) × (m₁ ≡ m₂)
 answer-once a b = (a .outcome ∙ sym (b .outcome), a .memory ∙ sym (b .memory))
 
 -- an enum through its meaning: the two conversions' answers
@@ -131,6 +141,9 @@ unique-address-of m n f r s = value-once
 pub unique-is-msf : (m n f : ℕ) (r s : Bool) → r ≡ isMsf m n f → s ≡ isMsf m n f → r ≡ s
 unique-is-msf m n f r s = value-once
 
+pub unique-shown-address : (msf : Bool) (a : ℕ) (r s : List ℕ) → r ≡ shownAddress msf a → s ≡ shownAddress msf a → r ≡ s
+unique-shown-address msf a r s = value-once
+
 -- ---- drive
 
 pub unique-sense-at : (i : ℕ) (r s : Sense) → r ≡ senseAt i → s ≡ senseAt i → r ≡ s
@@ -142,26 +155,41 @@ unique-same a b r s = value-once
 pub unique-is-known : (a : Sense) (r s : Bool) → r ≡ isKnown a → s ≡ isKnown a → r ≡ s
 unique-is-known a r s = value-once
 
+pub unique-no-play : (r s : Play) → r ≡ noPlay → s ≡ noPlay → r ≡ s
+unique-no-play r s = value-once
+
+pub unique-is-play : (a : Play) (r s : Bool) → r ≡ isPlay a → s ≡ isPlay a → r ≡ s
+unique-is-play a r s = value-once
+
+pub unique-with-status : (a : Play) (n : ℕ) (r s : Play) → r ≡ withStatus a n → s ≡ withStatus a n → r ≡ s
+unique-with-status a n r s = value-once
+
 pub unique-powered-on : (change : Bool) (r s : Unit) → r ≡ poweredOn change → s ≡ poweredOn change → r ≡ s
 unique-powered-on change r s = value-once
 
 pub unique-attend : (u : Unit) (b : Bool) (r s : Unit) → r ≡ attend b u → s ≡ attend b u → r ≡ s
 unique-attend u b r s = value-once
 
-pub unique-is-loaded : (m : Mechanics) (r s : Bool) → r ≡ isLoaded m → s ≡ isLoaded m → r ≡ s
+pub unique-is-loaded : (m : Deck) (r s : Bool) → r ≡ isLoaded m → s ≡ isLoaded m → r ≡ s
 unique-is-loaded m r s = value-once
 
-pub unique-opening : (m : Mechanics) (r s : Shifted) → r ≡ opening m → s ≡ opening m → r ≡ s
+pub unique-opening : (m : Deck) (r s : Shifted) → r ≡ opening m → s ≡ opening m → r ≡ s
 unique-opening m r s = value-once
 
-pub unique-closing : (m : Mechanics) (r s : Shifted) → r ≡ closing m → s ≡ closing m → r ≡ s
+pub unique-closing : (m : Deck) (r s : Shifted) → r ≡ closing m → s ≡ closing m → r ≡ s
 unique-closing m r s = value-once
 
-pub unique-with-disc : (m : Mechanics) (b : Bool) (r s : Mechanics) → r ≡ withDisc m b → s ≡ withDisc m b → r ≡ s
+pub unique-with-disc : (m : Deck) (b : Bool) (r s : Deck) → r ≡ withDisc m b → s ≡ withDisc m b → r ≡ s
 unique-with-disc m b r s = value-once
 
-pub unique-with-lock : (m : Mechanics) (b : Bool) (r s : Mechanics) → r ≡ withLock m b → s ≡ withLock m b → r ≡ s
+pub unique-with-lock : (m : Deck) (b : Bool) (r s : Deck) → r ≡ withLock m b → s ≡ withLock m b → r ≡ s
 unique-with-lock m b r s = value-once
+
+pub unique-with-play : (m : Deck) (a : Play) (r s : Deck) → r ≡ withPlay m a → s ≡ withPlay m a → r ≡ s
+unique-with-play m a r s = value-once
+
+pub unique-is-sound : (d : Drive) (r s : Bool) → r ≡ isSound d → s ≡ isSound d → r ≡ s
+unique-is-sound d r s = value-once
 
 pub unique-shift : (d : Drive) (m : Shifted) (r s : Drive) → r ≡ shift d m → s ≡ shift d m → r ≡ s
 unique-shift d m r s = value-once
@@ -180,6 +208,9 @@ unique-lay d r s = value-once
 
 pub unique-lift : (d : Drive) (r s : Moved) → r ≡ lift d → s ≡ lift d → r ≡ s
 unique-lift d r s = value-once
+
+pub unique-move-on : (k : ℕ) (d : Drive) (r s : Moved) → r ≡ moveOn k d → s ≡ moveOn k d → r ≡ s
+unique-move-on k d r s = value-once
 
 -- ---- gate
 
@@ -286,8 +317,12 @@ unique-track-of t b r s = value-once
 pub unique-track-numbered : (t : List ℕ) (n : ℕ) (r s : Track) → r ≡ trackNumbered (descriptors t) n → s ≡ trackNumbered (descriptors t) n → r ≡ s
 unique-track-numbered t n r s = value-once
 
-pub unique-run-is-data : (t : List ℕ) (a n : ℕ) (r s : Bool) → r ≡ runIsData (descriptors t) a n → s ≡ runIsData (descriptors t) a n → r ≡ s
-unique-run-is-data t a n r s = value-once
+pub unique-is-mode : (mode : Mode) (u : Track) (r s : Bool) → r ≡ isMode mode u → s ≡ isMode mode u → r ≡ s
+unique-is-mode mode u r s = value-once
+
+pub unique-run-is : (mode : Mode) (t : List ℕ) (a n : ℕ) (r s : Bool)
+    → r ≡ runIs mode (descriptors t) a n → s ≡ runIs mode (descriptors t) a n → r ≡ s
+unique-run-is mode t a n r s = value-once
 
 -- ---- command
 
@@ -306,34 +341,40 @@ unique-bit0 b r s = value-once
 pub unique-bit1 : (b : ℕ) (r s : Bool) → r ≡ bit1 b → s ≡ bit1 b → r ≡ s
 unique-bit1 b r s = value-once
 
-pub unique-done : (m : Mechanics) (r s : Done) → r ≡ doneOf (done m) → s ≡ doneOf (done m) → r ≡ s
-unique-done m r s = value-once
+pub unique-bit6 : (b : ℕ) (r s : Bool) → r ≡ bit6 b → s ≡ bit6 b → r ≡ s
+unique-bit6 b r s = value-once
 
-pub unique-start-stop : (b : ℕ) (m : Mechanics) (r s : Done) → r ≡ doneOf (startStop b m) → s ≡ doneOf (startStop b m) → r ≡ s
+pub unique-done-with : (m : Deck) (r s : Done) → r ≡ doneOf (done m) → s ≡ doneOf (done m) → r ≡ s
+unique-done-with m r s = value-once
+
+pub unique-start-stop : (b : ℕ) (m : Deck) (r s : Done) → r ≡ doneOf (startStop b m) → s ≡ doneOf (startStop b m) → r ≡ s
 unique-start-stop b m r s = value-once
 
-pub unique-prevent : (b : ℕ) (m : Mechanics) (r s : Done) → r ≡ doneOf (prevent b m) → s ≡ doneOf (prevent b m) → r ≡ s
+pub unique-prevent : (b : ℕ) (m : Deck) (r s : Done) → r ≡ doneOf (prevent b m) → s ≡ doneOf (prevent b m) → r ≡ s
 unique-prevent b m r s = value-once
 
-pub unique-no-medium : (m : Mechanics) (r s : Fault) → r ≡ noMedium m → s ≡ noMedium m → r ≡ s
+pub unique-no-medium : (m : Deck) (r s : Fault) → r ≡ noMedium m → s ≡ noMedium m → r ≡ s
 unique-no-medium m r s = value-once
+
+pub unique-inquiry-bytes : (r s : List ℕ) → r ≡ inquiryBytes → s ≡ inquiryBytes → r ≡ s
+unique-inquiry-bytes r s = value-once
 
 -- ---- outcome
 
 pub unique-refuse : (n rule : ℕ) (d : Drive) (r s : Outcome) → r ≡ refused n rule d → s ≡ refused n rule d → r ≡ s
 unique-refuse n rule d r s = value-once
 
-pub unique-check : (a : Sense) (u : Unit) (m : Mechanics) (r s : Outcome) → r ≡ checked a u m → s ≡ checked a u m → r ≡ s
+pub unique-check : (a : Sense) (u : Unit) (m : Deck) (r s : Outcome) → r ≡ checked a u m → s ≡ checked a u m → r ≡ s
 unique-check a u m r s = value-once
 
-pub unique-good : (len start count : ℕ) (u : Unit) (m : Mechanics) (r s : Outcome)
+pub unique-good : (len start count : ℕ) (u : Unit) (m : Deck) (r s : Outcome)
     → r ≡ granted len start count u m → s ≡ granted len start count u m → r ≡ s
 unique-good len start count u m r s = value-once
 
-pub unique-finish : (u v : Unit) (m : Mechanics) (d : Done) (r s : Outcome) → r ≡ finished u v m d → s ≡ finished u v m d → r ≡ s
+pub unique-finish : (u v : Unit) (m : Deck) (d : Done) (r s : Outcome) → r ≡ finished u v m d → s ≡ finished u v m d → r ≡ s
 unique-finish u v m d r s = value-once
 
-pub unique-tell : (a : Pending) (u : Unit) (m : Mechanics) (r s : Outcome)
+pub unique-tell : (a : Pending) (u : Unit) (m : Deck) (r s : Outcome)
     → r ≡ checked (attentionSense a) (told a u) m → s ≡ checked (attentionSense a) (told a u) m → r ≡ s
 unique-tell a u m r s = value-once
 
@@ -345,6 +386,49 @@ unique-toc-bad disc f n r s = value-once
 pub unique-put-toc : (disc : Disc) (f : ℕ) (msf : Bool) (n room : ℕ) (d m m₁ m₂ : List ℕ) (r s : ℕ)
     → Laid m (take room (tocBytes disc f msf n d)) r m₁ → Laid m (take room (tocBytes disc f msf n d)) s m₂ → (r ≡ s) × (m₁ ≡ m₂)
 unique-put-toc disc f msf n room d m m₁ m₂ r s = laying-once
+
+-- ---- blocks
+
+pub unique-over : (a l : ℕ) (r s : Bool) → r ≡ over a l → s ≡ over a l → r ≡ s
+unique-over a l r s = value-once
+
+pub unique-in-range : (a n l : ℕ) (r s : Bool) → r ≡ inRange a n l → s ≡ inRange a n l → r ≡ s
+unique-in-range a n l r s = value-once
+
+pub unique-capacity-bytes : (l : ℕ) (r s : List ℕ) → r ≡ capacity l → s ≡ capacity l → r ≡ s
+unique-capacity-bytes l r s = value-once
+
+pub unique-seek : (a l : ℕ) (m : Deck) (r s : Done) → r ≡ doneOf (seek a l m) → s ≡ doneOf (seek a l m) → r ≡ s
+unique-seek a l m r s = value-once
+
+pub unique-read-blocks : (all : Bool) (a n l : ℕ) (m : Deck) (r s : Done)
+    → r ≡ doneOf (read all a n l m) → s ≡ doneOf (read all a n l m) → r ≡ s
+unique-read-blocks all a n l m r s = value-once
+
+-- ---- audio
+
+pub unique-play-blocks : (all : Bool) (a n l : ℕ) (m : Deck) (r s : Done)
+    → r ≡ doneOf (play all a n l m) → s ≡ doneOf (play all a n l m) → r ≡ s
+unique-play-blocks all a n l m r s = value-once
+
+pub unique-pause-resume : (resume : Bool) (m : Deck) (r s : Done)
+    → r ≡ doneOf (pauseResume resume m) → s ≡ doneOf (pauseResume resume m) → r ≡ s
+unique-pause-resume resume m r s = value-once
+
+pub unique-sub-ask : (a b c : ℕ) (r s : SubAsk) → r ≡ subAsk a b c → s ≡ subAsk a b c → r ≡ s
+unique-sub-ask a b c r s = value-once
+
+pub unique-sub-bad : (ask : SubAsk) (r s : Bool) → r ≡ subBad ask → s ≡ subBad ask → r ≡ s
+unique-sub-bad ask r s = value-once
+
+pub unique-position-bytes : (msf : Bool) (u : Track) (a : Play) (r s : List ℕ) → r ≡ positionBytes msf u a → s ≡ positionBytes msf u a → r ≡ s
+unique-position-bytes msf u a r s = value-once
+
+pub unique-status-bytes : (a : Play) (r s : List ℕ) → r ≡ statusBytes a → s ≡ statusBytes a → r ≡ s
+unique-status-bytes a r s = value-once
+
+pub unique-reported : (a r s : Play) → r ≡ reported a → s ≡ reported a → r ≡ s
+unique-reported a r s = value-once
 
 -- ---- target
 

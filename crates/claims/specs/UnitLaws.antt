@@ -1,4 +1,4 @@
--- The attention unit beside any mechanics: how each kind of packet turns the attentions, and what it may tell.
+-- The attention unit beside any deck: how each kind of packet turns the attentions, and what it may tell.
 use mathlib.Core.Path.{_≡_, refl}
 use mathlib.Core.Bool.{Bool, true, false, not, false≢true}
 use mathlib.Core.List.{List}
@@ -43,7 +43,7 @@ module _ {M : Type 0} where
   meets zero rule k u m = reply k u m
   meets (suc n) rule k u m = refuse (suc n) rule u m
 
-  -- the mechanics after a result, and whether it was a loading
+  -- the deck after a result, and whether it was a loading
   abbrev pub nextOf : M → Result M → M
   nextOf m (fails f) = m
   nextOf m (goes next loading full limit start count) = next
@@ -52,7 +52,7 @@ module _ {M : Type 0} where
   loadingOf (fails f) = false
   loadingOf (goes next loading full limit start count) = loading
 
-  -- `loads` reads a loading off the mechanics before and after: the packet's result says the same, and where nothing moves there is none
+  -- `loads` reads a loading off the deck before and after: the packet's result says the same, and where nothing moves there is none
   abbrev pub Honest : (M → M → Bool) → M → Kind M → Type 0
   Honest loads m (asks limit) = loads m m ≡ false
   Honest loads m (frees r) = (loads m (nextOf m r) ≡ loadingOf r) × (loads m m ≡ false)
@@ -131,7 +131,7 @@ give-turn a u false e = rw e (unmoved a u noSense)
 module _ {M : Type 0} (loads : M → M → Bool) (a : Attention) (memory : List ℕ) (m : M) where
   -- how the answer r to a packet turns the attention
   abbrev Turns : Bool → Unit → Reply M → Type 0
-  Turns asking u r = Turn a u (tellsTo a asking u (answerOf memory r) (r .unit)) (loads m (r .mechanics)) (r .unit)
+  Turns asking u r = Turn a u (tellsTo a asking u (answerOf memory r) (r .unit)) (loads m (r .deck)) (r .unit)
 
   asks-turn : (limit : ℕ) (u : Unit) → loads m m ≡ false → Turns true u (requestSense limit u m)
   unfolding _and_ _or_ senseAt

@@ -8,11 +8,13 @@ use lib.ListN.{length, take, drop, length-take}
 use borrow.Author.Tests.{le-ltb}
 use Rattle.ground.specs.Tests.{_and_, _or_, if_then_else_}
 use Rattle.ground.specs.Memory.{fill-fits}
-use Rattle.drive.specs.declared.state.Mechanics.{Mechanics}
+use Rattle.drive.specs.declared.state.Deck.{Deck}
 use Rattle.drive.specs.declared.state.Drive.{Drive}
-use Rattle.drive.specs.Sense.{senseAt, isKnown}
+use Rattle.drive.specs.Sense.{senseAt}
 use Rattle.drive.specs.SenseLaws.{isKnown-at}
-use Rattle.drive.specs.State.{isLoaded}
+use Rattle.drive.specs.PlayLaws.{noPlay-sound}
+use Rattle.drive.specs.State.{isSound, isLoaded}
+use Rattle.drive.specs.StateLaws.{sound-isSound}
 use Rattle.table.specs.Layout.{bound, lastSession, descriptors}
 use Rattle.disc.specs.Rules.{isFit}
 use Rattle.disc.specs.RulesLaws.{isFit-true, fit-numbered}
@@ -22,17 +24,17 @@ use Rattle.gate.specs.Unit.{pendingOf}
 use Rattle.gate.specs.Gate.{Reply, gate}
 use Rattle.command.specs.Command.{codeOf, decode}
 use Rattle.toc.specs.Answer.{format2, tocBytes, tocBad}
-use Rattle.target.specs.ReadToc.{readToc}
+use Rattle.command.specs.Done.{answering}
 use Rattle.target.specs.Perform.{perform}
 use Rattle.target.specs.Packet.{steps}
 use Rattle.target.specs.PacketLaws.{stepsOf, answer-steps}
-use Rattle.claims.specs.Call.{Call, powering, pressing, laying, lifting, packet, answer}
+use Rattle.claims.specs.Call.{Call, powering, pressing, laying, lifting, movingOn, packet, answer}
 use Rattle.claims.specs.Marked.{loadedE}
 use Rattle.claims.specs.WholeLaws.{fit-where-loaded, stepsOf-bounded, reply-held, format2-length}
 
 -- of a fit table, or of a drive that is not loaded: no full answer, before cutting, passes the bound, whatever the packet and the state
-pub full-answers-bounded : (d : Drive) (p t : List ℕ) → isFit t or not (isLoaded (d .mechanics)) ≡ true
-    → length (steps (decode (codeOf p)) (d .unit) (d .mechanics) p t .full) ≤ bound
+pub full-answers-bounded : (d : Drive) (p t : List ℕ) → isFit t or not (isLoaded (d .deck)) ≡ true
+    → length (steps (decode (codeOf p)) (d .unit) (d .deck) p t .full) ≤ bound
 full-answers-bounded d p t h = let b = stepsOf-bounded d p t (fit-where-loaded _ _ h) in omega arith
 
 -- and so no call's does, of any table and memory: what is refused has no bytes
@@ -41,6 +43,7 @@ answers-bounded (powering f) d = omega arith
 answers-bounded pressing d = omega arith
 answers-bounded laying d = omega arith
 answers-bounded lifting d = omega arith
+answers-bounded (movingOn k) d = omega arith
 answers-bounded (packet p t m) d = reply-held d p t (length m) .0
 
 -- a memory that passes refusal 3 holds every answer whole: none is longer than the memory that was lent, and a refused one is empty
@@ -65,17 +68,17 @@ wholeToc = 0x43 ∷ 0x00 ∷ 0x02 ∷ 0x00 ∷ 0x00 ∷ 0x00 ∷ 0x01 ∷ 0x19 �
 
 -- of a drive "Loaded, nothing pending" the steps answer it whole
 stepsOf-whole : (t : List ℕ) → isFit t ≡ true → stepsOf loadedE wholeToc t .full ≡ format2 (discOf t) 1 (descriptors t)
-unfolding decode if_then_else_ gate pendingOf perform readToc tocBad tocBytes _and_
+unfolding decode if_then_else_ gate pendingOf perform answering tocBad tocBytes _and_
 stepsOf-whole t f = rw (le-ltb (lastSession t) 1 (fit-numbered (isFit-true f) .low))
 
-loadedE-known : isKnown (loadedE .unit .sense) ≡ true
+loadedE-sound : isSound loadedE ≡ true
 unfolding senseAt
-loadedE-known = isKnown-at 0
+loadedE-sound = sound-isSound loadedE (isKnown-at 0) noPlay-sound
 
 -- and so does the drive, into a memory that passes refusal 3: of any fit table the answer is as long as the table
 pub format2-as-long : (t m : List ℕ) → isFit t ≡ true → bound ≤ length m → length (answer (packet wholeToc t m) loadedE .full) ≡ length t
 format2-as-long t m f h =
-    ap (λ (r : Reply Mechanics). length (r .full)) (answer-steps loadedE wholeToc t (length m) refl loadedE-known h (λ l. f)) ∙ ap length (stepsOf-whole t f) ∙ format2-length t f
+    ap (λ (r : Reply Deck). length (r .full)) (answer-steps loadedE wholeToc t (length m) refl loadedE-sound h (λ l. f)) ∙ ap length (stepsOf-whole t f) ∙ format2-length t f
 
 -- 99 sessions of one track with a B0h and a C0h each are 594 descriptors, and fit: their answer has 6,538 bytes
 pub bound-reached : (m : List ℕ) → bound ≤ length m → length (answer (packet wholeToc longest m) loadedE .full) ≡ bound

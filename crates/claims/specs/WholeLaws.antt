@@ -9,10 +9,9 @@ use lib.Dec.{eqb, ltb}
 use borrow.Author.Tests.{ltb-false}
 use Rattle.ground.specs.Tests.{_and_, _or_, either, and-head, and-tail}
 use Rattle.drive.specs.declared.state.Unit.{Unit}
-use Rattle.drive.specs.declared.state.Mechanics.{Mechanics}
+use Rattle.drive.specs.declared.state.Deck.{Deck}
 use Rattle.drive.specs.declared.state.Drive.{Drive}
-use Rattle.drive.specs.Sense.{isKnown}
-use Rattle.drive.specs.State.{isLoaded}
+use Rattle.drive.specs.State.{isSound, isLoaded}
 use Rattle.table.specs.Layout.{bound, header, descriptors, lastSession}
 use Rattle.sessions.specs.Session.{session}
 use Rattle.disc.specs.Rules.{isFit}
@@ -24,15 +23,19 @@ use Rattle.gate.specs.declared.unit.Pending.the-variants.{Power, Change, Nothin
 use Rattle.gate.specs.Unit.{pendingOf}
 use Rattle.gate.specs.Gate.{Result, fails, goes, Reply, settle, pass, meet, gate}
 use Rattle.command.specs.declared.decode.Command.{Command}
-use Rattle.command.specs.declared.decode.Command.the-variants.{TestUnitReady, RequestSense, Inquiry, StartStop, Prevent, ReadCapacity, Read10, Seek, ReadToc, Read12, Unknown}
+use Rattle.command.specs.declared.decode.Command.the-variants.{TestUnitReady, RequestSense, Inquiry, StartStop, Prevent, ReadCapacity, Read10, Seek, ReadToc, Read12, PlayAudio, PauseResume, ReadSubChannel, Unknown}
 use Rattle.command.specs.declared.decode.Kind.{Kind}
 use Rattle.command.specs.declared.decode.Kind.the-variants.{Asks, Passes, Gates}
-use Rattle.command.specs.Command.{byte, bit0, needsDisc, addressIn, count10, count12, codeOf, decode, kindOf}
-use Rattle.toc.specs.Answer.{tocBad, whole, format2}
+use Rattle.command.specs.Command.{byte, bit0, needsDisc, addressIn, codeOf, decode, kindOf}
+use Rattle.toc.specs.Answer.{whole, format2}
 use Rattle.toc.specs.AnswerLaws.{headOf, headed-one, whole-fit, tocBytes-within}
-use Rattle.target.specs.ReadToc.{readToc, formatIn, msfIn, numberIn}
-use Rattle.target.specs.Perform.{L, inquiry, work, perform}
-use Rattle.target.specs.PerformLaws.{fullOf, startStop-quiet, seek-quiet, read-quiet}
+use Rattle.command.specs.Done.{answering}
+use Rattle.tracks.specs.Track.{trackOf}
+use Rattle.audio.specs.SubChannel.{subAskIn}
+use Rattle.audio.specs.SubChannelLaws.{subBytes-length}
+use Rattle.target.specs.ReadToc.{formatIn, msfIn, numberIn}
+use Rattle.target.specs.Perform.{L, work, perform}
+use Rattle.target.specs.PerformLaws.{fullOf, startStop-quiet, seek-quiet, ranged-quiet, pauseResume-quiet}
 use Rattle.target.specs.Packet.{stepsBy, refusalOf, answer as replyTo}
 use Rattle.target.specs.PacketLaws.{stepsOf}
 use Rattle.claims.specs.UnitLaws.{meets}
@@ -46,7 +49,7 @@ not-true true h = sym h
 not-true false h = refl
 
 -- the first does not hold without the second
-second-holds : (a b : Bool) → a and not b ≡ false → a ≡ true → b ≡ true
+pub second-holds : (a b : Bool) → a and not b ≡ false → a ≡ true → b ≡ true
 unfolding _and_
 second-holds true true h e = refl
 second-holds true false h e = sym h
@@ -65,54 +68,54 @@ abbrev Short : List ℕ → Type 0
 Short t = header + length (descriptors t) ≤ bound
 
 -- the result's full answer is not either
-abbrev Bounded : Result Mechanics → Type 0
+abbrev Bounded : Result Deck → Type 0
 Bounded r = length (fullOf r) ≤ bound
 
-inquiry-bounded : (p : List ℕ) (m : Mechanics) → Bounded (inquiry p m)
-unfolding inquiry
-inquiry-bounded p m = either Bounded (bit0 (byte p 1)) (λ h. omega arith) (λ h. omega arith)
-
-readToc-bounded : (p : List ℕ) (m : Mechanics) (t : List ℕ) → Short t → Bounded (readToc p m t)
-unfolding readToc
-readToc-bounded p m t s =
-    either Bounded (tocBad (discOf t) (formatIn p) (numberIn p)) (λ h. omega arith)
-    (λ h. tocBytes-within (discOf t) (formatIn p) (msfIn p) (numberIn p) (descriptors t) s)
+answering-bounded : (bad : Bool) (next : Deck) (full : List ℕ) (limit : ℕ) → length full ≤ bound → Bounded (answering bad next full limit)
+unfolding answering
+answering-bounded bad next full limit h = either Bounded bad (λ b. omega arith) (λ b. h)
 
 -- of a command that has what it needs
-work-bounded : (c : Command) (p : List ℕ) (m : Mechanics) (t : List ℕ) → (needsDisc c p ≡ true → Short t) → Bounded (work c p m t)
+work-bounded : (c : Command) (p : List ℕ) (m : Deck) (t : List ℕ) → (needsDisc c p ≡ true → Short t) → Bounded (work c p m t)
 work-bounded TestUnitReady p m t s = omega arith
 work-bounded RequestSense p m t s = omega arith
-work-bounded Inquiry p m t s = inquiry-bounded p m
+work-bounded Inquiry p m t s = answering-bounded _ m _ _ (omega arith)
 work-bounded StartStop p m t s = rw (startStop-quiet (byte p 4) m) (omega arith)
 work-bounded Prevent p m t s = omega arith
-work-bounded ReadCapacity p m t s = omega arith
-work-bounded Read10 p m t s = rw (read-quiet (addressIn p) (count10 p) m t) (omega arith)
-work-bounded Seek p m t s = rw (seek-quiet (addressIn p) m (L t)) (omega arith)
-work-bounded ReadToc p m t s = readToc-bounded p m t (s refl)
-work-bounded Read12 p m t s = rw (read-quiet (addressIn p) (count12 p) m t) (omega arith)
+work-bounded ReadCapacity p m t s = answering-bounded _ m _ _ (omega arith)
+work-bounded Read10 p m t s = rw (ranged-quiet _ _ _ _ _ refl) (omega arith)
+work-bounded Seek p m t s = rw (seek-quiet (addressIn p) (L t) m) (omega arith)
+work-bounded ReadToc p m t s =
+    answering-bounded _ m _ _ (tocBytes-within (discOf t) (formatIn p) (msfIn p) (numberIn p) (descriptors t) (s refl))
+work-bounded Read12 p m t s = rw (ranged-quiet _ _ _ _ _ refl) (omega arith)
+work-bounded PlayAudio p m t s = rw (ranged-quiet _ _ _ _ _ refl) (omega arith)
+work-bounded PauseResume p m t s = rw (pauseResume-quiet (bit0 (byte p 8)) m) (omega arith)
+work-bounded ReadSubChannel p m t s =
+    let l = subBytes-length (subAskIn p) (trackOf (descriptors t) (m .play .position)) (m .play) in
+    answering-bounded _ _ _ _ (omega arith)
 work-bounded Unknown p m t s = omega arith
 
-perform-bounded : (c : Command) (p : List ℕ) (m : Mechanics) (t : List ℕ) → (isLoaded m ≡ true → Short t) → Bounded (perform c p m t)
+perform-bounded : (c : Command) (p : List ℕ) (m : Deck) (t : List ℕ) → (isLoaded m ≡ true → Short t) → Bounded (perform c p m t)
 unfolding perform
 perform-bounded c p m t s =
     either Bounded (needsDisc c p and not (isLoaded m)) (λ h. omega arith) (λ h. work-bounded c p m t (λ n. s (second-holds _ _ h n)))
 
 -- ---- and what the steps make of it
 
-settle-bounded : (u : Unit) (m : Mechanics) (r : Result Mechanics) → Bounded r → length (settle u m r .full) ≤ bound
+settle-bounded : (u : Unit) (m : Deck) (r : Result Deck) → Bounded r → length (settle u m r .full) ≤ bound
 settle-bounded u m (fails f) h = omega arith
 settle-bounded u m (goes next loading full limit start count) h = h
 
-pass-bounded : (u : Unit) (m : Mechanics) (r : Result Mechanics) → Bounded r → length (pass u m r .full) ≤ bound
+pass-bounded : (u : Unit) (m : Deck) (r : Result Deck) → Bounded r → length (pass u m r .full) ≤ bound
 pass-bounded u m (fails f) h = omega arith
 pass-bounded u m (goes next loading full limit start count) h = h
 
-meet-bounded : (a : Pending) (u : Unit) (m : Mechanics) (r : Result Mechanics) → Bounded r → length (meet a u m r .full) ≤ bound
+meet-bounded : (a : Pending) (u : Unit) (m : Deck) (r : Result Deck) → Bounded r → length (meet a u m r .full) ≤ bound
 meet-bounded Power u m r h = omega arith
 meet-bounded Change u m r h = omega arith
 meet-bounded Nothing u m r h = settle-bounded u m r h
 
-stepsBy-bounded : (k : Kind) (c : Command) (u : Unit) (m : Mechanics) (p t : List ℕ) → Bounded (perform c p m t) → length (stepsBy k c u m p t .full) ≤ bound
+stepsBy-bounded : (k : Kind) (c : Command) (u : Unit) (m : Deck) (p t : List ℕ) → Bounded (perform c p m t) → length (stepsBy k c u m p t .full) ≤ bound
 unfolding gate
 stepsBy-bounded Asks c u m p t h = omega arith
 stepsBy-bounded Passes c u m p t h = pass-bounded u m (perform c p m t) h
@@ -122,23 +125,23 @@ stepsBy-bounded Gates c u m p t h = meet-bounded (pendingOf u) u m (perform c p 
 fit-short : (t : List ℕ) → isFit t ≡ true → Short t
 fit-short t h = let s = fit-sized (isFit-true h) in let a = s .least in let b = s .most in let l = length-drop header t in omega arith
 
-pub stepsOf-bounded : (d : Drive) (p t : List ℕ) → (isLoaded (d .mechanics) ≡ true → isFit t ≡ true) → length (stepsOf d p t .full) ≤ bound
+pub stepsOf-bounded : (d : Drive) (p t : List ℕ) → (isLoaded (d .deck) ≡ true → isFit t ≡ true) → length (stepsOf d p t .full) ≤ bound
 stepsOf-bounded d p t f =
     let c = decode (codeOf p) in
-    stepsBy-bounded (kindOf c) c (d .unit) (d .mechanics) p t (perform-bounded c p (d .mechanics) t (λ l. fit-short t (f l)))
+    stepsBy-bounded (kindOf c) c (d .unit) (d .deck) p t (perform-bounded c p (d .deck) t (λ l. fit-short t (f l)))
 
 -- ---- an answer is no longer than the memory that was lent
 
 -- the answer passes neither the bound nor a memory of n bytes
-abbrev pub Held : ℕ → Reply Mechanics → Type 0
+abbrev pub Held : ℕ → Reply Deck → Type 0
 Held n r = (length (r .full) ≤ bound) × (length (r .full) ≤ n)
 
 -- one that is refused has no bytes, and any other has passed refusal 3
 pub reply-held : (d : Drive) (p t : List ℕ) (n : ℕ) → Held n (replyTo d p t n)
 reply-held d p t n = rw (reply-kind d p t n) (by-number (refusalOf d p t n) (refusal-ordered d p t n .zero))
   where
-    by-number : (j : ℕ) → eqb j 0 ≡ eqb (length p) 12 and isKnown (d .unit .sense) and not (ltb n bound) and not (isLoaded (d .mechanics) and not (isFit t))
-        → Held n (meets j (ruleOf d p t n) (kind p (d .mechanics) t) (d .unit) (d .mechanics))
+    by-number : (j : ℕ) → eqb j 0 ≡ eqb (length p) 12 and isSound d and not (ltb n bound) and not (isLoaded (d .deck) and not (isFit t))
+        → Held n (meets j (ruleOf d p t n) (kind p (d .deck) t) (d .unit) (d .deck))
     by-number zero e =
         let h = and-tail _ _ (and-tail _ _ (sym e)) in
         let m = ltb-false n bound (not-true _ (and-head _ _ h)) in

@@ -1,4 +1,4 @@
--- The ten packets, by operation code, and the fields that stand in them (READ TOC's own with its answer).
+-- The packets, by operation code, and the fields that stand in them (those of READ TOC and READ SUB-CHANNEL with their answers).
 use Prim.Native.Nat.{ℕ, _+_, _/_, _%_}
 use mathlib.Core.Bool.{Bool, true, false, not}
 use mathlib.Core.List.{List}
@@ -9,10 +9,10 @@ use Rattle.ground.specs.Number.{word16, word32}
 use Rattle.command.specs.declared.decode.Command.{Command}
 use Rattle.command.specs.declared.decode.Kind.{Kind}
 use Rattle.command.specs.declared.decode.Kind.the-variants.{Asks, Passes, Gates}
-use Rattle.command.specs.declared.decode.Command.the-variants.{TestUnitReady, RequestSense, Inquiry, StartStop, Prevent, ReadCapacity, Read10, Seek, ReadToc, Read12, Unknown}
+use Rattle.command.specs.declared.decode.Command.the-variants.{TestUnitReady, RequestSense, Inquiry, StartStop, Prevent, ReadCapacity, Read10, Seek, ReadToc, Read12, PlayAudio, PauseResume, ReadSubChannel, Unknown}
 
 -- "TEST UNIT READY 00h, REQUEST SENSE 03h, INQUIRY 12h, START/STOP UNIT 1Bh, PREVENT/ALLOW 1Eh, READ CAPACITY 25h, READ(10) 28h,
--- SEEK(10) 2Bh, READ TOC 43h, READ(12) A8h"
+-- SEEK(10) 2Bh, READ TOC 43h, READ(12) A8h"; K2: "PLAY AUDIO(10) 45h, PAUSE/RESUME 4Bh and READ SUB-CHANNEL 42h"
 unfoldable pub decode : ℕ → Command
 decode code =
     if eqb code 0x00 then TestUnitReady else (
@@ -24,7 +24,10 @@ decode code =
     if eqb code 0x28 then Read10 else (
     if eqb code 0x2B then Seek else (
     if eqb code 0x43 then ReadToc else (
-    if eqb code 0xA8 then Read12 else Unknown)))))))))
+    if eqb code 0xA8 then Read12 else (
+    if eqb code 0x45 then PlayAudio else (
+    if eqb code 0x4B then PauseResume else (
+    if eqb code 0x42 then ReadSubChannel else Unknown))))))))))))
 
 -- byte k of a packet, and the numbers that stand in it
 abbrev pub byte : List ℕ → ℕ → ℕ
@@ -40,6 +43,10 @@ bit0 b = eqb (b % 2) 1
 abbrev pub bit1 : ℕ → Bool
 bit1 b = eqb (b / 2 % 2) 1
 
+-- bit 6 of a byte
+abbrev pub bit6 : ℕ → Bool
+bit6 b = eqb (b / 64 % 2) 1
+
 -- the number in a packet's four bytes from i on
 abbrev pub wordAt : List ℕ → ℕ → ℕ
 wordAt p i = word32 (byte p i) (byte p (i + 1)) (byte p (i + 2)) (byte p (i + 3))
@@ -48,12 +55,16 @@ wordAt p i = word32 (byte p i) (byte p (i + 1)) (byte p (i + 2)) (byte p (i + 3)
 abbrev pub addressIn : List ℕ → ℕ
 addressIn p = wordAt p 2
 
--- "count in 7 to 8 (28h) or 6 to 9 (A8h)"
+-- "count in 7 to 8 (28h) or 6 to 9 (A8h)"; K2: PLAY AUDIO(10)'s stands where READ(10)'s does
 abbrev pub count10 : List ℕ → ℕ
 count10 p = word16 (byte p 7) (byte p 8)
 
 abbrev pub count12 : List ℕ → ℕ
 count12 p = wordAt p 6
+
+-- "length in 7 to 8" (43h); K2: 42h's stands there too
+abbrev pub lengthIn : List ℕ → ℕ
+lengthIn p = word16 (byte p 7) (byte p 8)
 
 -- "1Bh: byte 4 bit 1 LoEj, bit 0 Start"
 abbrev pub loEj : List ℕ → Bool
@@ -66,7 +77,7 @@ start p = bit0 (byte p 4)
 abbrev pub starting : ℕ → Bool
 starting b = not (bit1 b) and bit0 b
 
--- "Needing one: 00h, 25h, 28h, 2Bh, 43h, A8h, and 1Bh with LoEj 0 and Start 1." b is the packet's byte 4.
+-- "Needing one: 00h, 25h, 28h, 2Bh, 43h, A8h, and 1Bh with LoEj 0 and Start 1."; K2: "These commands need a disc." b is the packet's byte 4.
 abbrev pub needing : Command → ℕ → Bool
 needing TestUnitReady b = true
 needing RequestSense b = false
@@ -78,6 +89,9 @@ needing Read10 b = true
 needing Seek b = true
 needing ReadToc b = true
 needing Read12 b = true
+needing PlayAudio b = true
+needing PauseResume b = true
+needing ReadSubChannel b = true
 needing Unknown b = false
 
 abbrev pub needsDisc : Command → List ℕ → Bool
@@ -95,4 +109,7 @@ kindOf Read10 = Gates
 kindOf Seek = Gates
 kindOf ReadToc = Gates
 kindOf Read12 = Gates
+kindOf PlayAudio = Gates
+kindOf PauseResume = Gates
+kindOf ReadSubChannel = Gates
 kindOf Unknown = Gates

@@ -1,5 +1,6 @@
 pub mod Command
 pub mod Class
 pub mod ClassLaws
-pub mod Tray
 pub mod Done
+pub mod Tray
+pub mod Inquiry

@@ -40,6 +40,15 @@ const READ_TOC: u8 = 9;
 // READ(12)
 const READ_12: u8 = 10;
 
+// PLAY AUDIO(10)
+const PLAY_AUDIO: u8 = 11;
+
+// PAUSE/RESUME
+const PAUSE_RESUME: u8 = 12;
+
+// READ SUB-CHANNEL
+const READ_SUB_CHANNEL: u8 = 13;
+
 // Row `code` holds the class of that operation code.
 const ROWS: [u8; 256] = [
     TEST_UNIT_READY, // 00h
@@ -108,16 +117,16 @@ const ROWS: [u8; 256] = [
     UNKNOWN, // 3Fh
     UNKNOWN, // 40h
     UNKNOWN, // 41h
-    UNKNOWN, // 42h
+    READ_SUB_CHANNEL, // 42h
     READ_TOC, // 43h
     UNKNOWN, // 44h
-    UNKNOWN, // 45h
+    PLAY_AUDIO, // 45h
     UNKNOWN, // 46h
     UNKNOWN, // 47h
     UNKNOWN, // 48h
     UNKNOWN, // 49h
     UNKNOWN, // 4Ah
-    UNKNOWN, // 4Bh
+    PAUSE_RESUME, // 4Bh
     UNKNOWN, // 4Ch
     UNKNOWN, // 4Dh
     UNKNOWN, // 4Eh
@@ -329,6 +338,9 @@ pub(crate) fn command_of(class: u8) -> Command
         SEEK => Command::Seek,
         READ_TOC => Command::ReadToc,
         READ_12 => Command::Read12,
+        PLAY_AUDIO => Command::PlayAudio,
+        PAUSE_RESUME => Command::PauseResume,
+        READ_SUB_CHANNEL => Command::ReadSubChannel,
         _ => Command::Unknown,
     }
 }

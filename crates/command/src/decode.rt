@@ -17,6 +17,9 @@ pub enum Command {
     Seek,
     ReadToc,
     Read12,
+    PlayAudio,
+    PauseResume,
+    ReadSubChannel,
     Unknown,
 }
 
@@ -51,6 +54,9 @@ pub fn kind_of(c: Command) -> Kind
         Command::Seek => Kind::Gates,
         Command::ReadToc => Kind::Gates,
         Command::Read12 => Kind::Gates,
+        Command::PlayAudio => Kind::Gates,
+        Command::PauseResume => Kind::Gates,
+        Command::ReadSubChannel => Kind::Gates,
         Command::Unknown => Kind::Gates,
     }
 }
@@ -80,6 +86,9 @@ pub fn needs_disc(c: Command, b: u8) -> bool
         Command::Seek => true,
         Command::ReadToc => true,
         Command::Read12 => true,
+        Command::PlayAudio => true,
+        Command::PauseResume => true,
+        Command::ReadSubChannel => true,
         Command::Unknown => false,
     }
 }

@@ -1,33 +1,21 @@
 // What the commands do that look at the drive alone: the tray, the lock, and a drive with no disc.
 use crate::done::Done;
 use crate::done::Went;
+use crate::done::done_with;
 use crate::field::bit0;
 use crate::field::bit1;
-use drive::state::Mechanics;
+use drive::state::Deck;
 use drive::state::Shifted;
 use gate::fault::Fault;
 ghost use mathlib.Core.Path.{_≡_};
-ghost use Rattle.command.specs.Tray.{done, moving, eject, load, startStop, prevent, noMedium};
+ghost use Rattle.command.specs.Tray.{moving, eject, load, startStop, prevent, noMedium};
 ghost use Rattle.command.specs.Done.{doneOf};
-
-// It went well, with nothing written and no blocks named.
-pub fn done(m: Mechanics) -> Done
-    ensures { λ r. ⌜ r ≡ doneOf (done m) ⌝ }
-{
-    Done::Goes(Went {
-        next: m,
-        loading: false,
-        len: 0,
-        start: 0,
-        count: 0,
-    })
-}
 
 // The tray moved.
 fn moving(s: Shifted) -> Done
     ensures { λ r. ⌜ r ≡ doneOf (moving s) ⌝ }
 {
-    let next = s.mechanics;
+    let next = s.deck;
     Done::Goes(Went {
         next,
         loading: s.loading,
@@ -38,11 +26,11 @@ fn moving(s: Shifted) -> Done
 }
 
 // Eject: an open tray is GOOD; a closed one opens, unless locked.
-fn eject(m: Mechanics) -> Done
+fn eject(m: Deck) -> Done
     ensures { λ r. ⌜ r ≡ doneOf (eject m) ⌝ }
 {
     if m.tray_open {
-        return done(m);
+        return done_with(m);
     }
     if m.lock {
         return Done::Fails(Fault::RemovalPrevented);
@@ -51,17 +39,17 @@ fn eject(m: Mechanics) -> Done
 }
 
 // Load: closes an open tray; a closed one is GOOD.
-fn load(m: Mechanics) -> Done
+fn load(m: Deck) -> Done
     ensures { λ r. ⌜ r ≡ doneOf (load m) ⌝ }
 {
     if m.tray_open {
         return moving(m.closing());
     }
-    done(m)
+    done_with(m)
 }
 
 // START/STOP UNIT: with LoEj the tray moves, else nothing does.
-pub fn start_stop(b: u8, m: Mechanics) -> Done
+pub fn start_stop(b: u8, m: Deck) -> Done
     ensures { λ r. ⌜ r ≡ doneOf (startStop b m) ⌝ }
 {
     if bit1(b) {
@@ -70,18 +58,18 @@ pub fn start_stop(b: u8, m: Mechanics) -> Done
         }
         return eject(m);
     }
-    done(m)
+    done_with(m)
 }
 
 // PREVENT/ALLOW: the lock becomes bit 0.
-pub fn prevent(b: u8, m: Mechanics) -> Done
+pub fn prevent(b: u8, m: Deck) -> Done
     ensures { λ r. ⌜ r ≡ doneOf (prevent b m) ⌝ }
 {
-    done(m.with_lock(bit0(b)))
+    done_with(m.with_lock(bit0(b)))
 }
 
 // No medium: the tray tells which.
-pub fn no_medium(m: Mechanics) -> Fault
+pub fn no_medium(m: Deck) -> Fault
     ensures { λ r. ⌜ r ≡ noMedium m ⌝ }
 {
     if m.tray_open {

@@ -2,16 +2,18 @@
 use Prim.Native.Nat.{ℕ}
 use mathlib.Core.Bool.{Bool, true, false, not}
 use Rattle.ground.specs.Tests.{_and_, if_then_else_}
-use Rattle.drive.specs.declared.state.Mechanics.{Mechanics}
+use Rattle.drive.specs.declared.state.Deck.{Deck}
 use Rattle.drive.specs.declared.state.Drive.{Drive}
 use Rattle.drive.specs.declared.state.Shifted.{Shifted}
 use Rattle.drive.specs.declared.state.Moved.{Moved}
+use Rattle.drive.specs.declared.play.Play.{Play}
 use Rattle.drive.specs.Sense.{isKnown}
+use Rattle.drive.specs.Play.{noPlay, isPlay, movedOn}
 use Rattle.drive.specs.Unit.{poweredOn, attend}
 
 -- the refusals of these calls
-abbrev pub unknownSense : ℕ
-unknownSense = 2
+abbrev pub unknownState : ℕ
+unknownState = 2
 
 abbrev pub locked : ℕ
 locked = 5
@@ -22,39 +24,59 @@ cannotLay = 6
 abbrev pub cannotLift : ℕ
 cannotLift = 7
 
+-- "2: held sense is none of the ten"; K2: "2 also covers another status, a position past its end, or an end over 449,849": none of that
+unfoldable pub isSound : Drive → Bool
+isSound d = isKnown (d .unit .sense) and isPlay (d .deck .play)
+
 -- "Loaded means tray closed with a disc in."
-abbrev pub isLoaded : Mechanics → Bool
+abbrev pub isLoaded : Deck → Bool
 isLoaded m = not (m .«tray_open») and m .«disc_in»
 
--- the tray opens, by button or packet: no loading
-abbrev pub opening : Mechanics → Shifted
-opening m = record { mechanics = record { «tray_open» = true; «disc_in» = m .«disc_in»; lock = m .lock }; loading = false }
+-- the tray opens, by button or packet: no loading; K2: "opening set 15h, position 0 and end 0"
+abbrev pub opening : Deck → Shifted
+opening m = record { deck = record { «tray_open» = true; «disc_in» = m .«disc_in»; lock = m .lock; play = noPlay }; loading = false }
+
+-- K2: "loading .. set 15h, position 0 and end 0": the record after a closing, which without a disc is no loading
+abbrev pub closedPlay : Deck → Play
+closedPlay m = if m .«disc_in» then noPlay else m .play
 
 -- the tray closes, by button or packet: "Loading is any closing of the tray .. with a disc in"
-abbrev pub closing : Mechanics → Shifted
-closing m = record { mechanics = record { «tray_open» = false; «disc_in» = m .«disc_in»; lock = m .lock }; loading = m .«disc_in» }
+abbrev pub closing : Deck → Shifted
+closing m =
+    record { deck = record { «tray_open» = false; «disc_in» = m .«disc_in»; lock = m .lock; play = closedPlay m }; loading = m .«disc_in» }
 
-abbrev pub withDisc : Mechanics → Bool → Mechanics
-withDisc m b = record { «tray_open» = m .«tray_open»; «disc_in» = b; lock = m .lock }
+abbrev pub withDisc : Deck → Bool → Deck
+withDisc m b = record { «tray_open» = m .«tray_open»; «disc_in» = b; lock = m .lock; play = m .play }
 
-abbrev pub withLock : Mechanics → Bool → Mechanics
-withLock m b = record { «tray_open» = m .«tray_open»; «disc_in» = m .«disc_in»; lock = b }
+abbrev pub withLock : Deck → Bool → Deck
+withLock m b = record { «tray_open» = m .«tray_open»; «disc_in» = m .«disc_in»; lock = b; play = m .play }
+
+abbrev pub withPlay : Deck → Play → Deck
+withPlay m r = record { «tray_open» = m .«tray_open»; «disc_in» = m .«disc_in»; lock = m .lock; play = r }
 
 -- the state after the tray moved: a loading is attended to
 abbrev pub shift : Drive → Shifted → Drive
-shift d s = record { unit = attend (s .loading) (d .unit); mechanics = s .mechanics }
+shift d s = record { unit = attend (s .loading) (d .unit); deck = s .deck }
 
 -- the state with a disc laid or lifted
 abbrev pub holding : Drive → Bool → Drive
-holding d b = record { unit = d .unit; mechanics = withDisc (d .mechanics) b }
+holding d b = record { unit = d .unit; deck = withDisc (d .deck) b }
 
--- "Power-on (also reset) keeps the handed state's tray and disc and is never refused: lock off, .."; in both forms of K3
+-- the state with that play record
+abbrev pub showing : Drive → Play → Drive
+showing d r = record { unit = d .unit; deck = withPlay (d .deck) r }
+
+-- "Power-on (also reset) keeps the handed state's tray and disc and is never refused: lock off, .."; K2: "Power-on .. set 15h,
+-- position 0 and end 0"; in both forms of K3
 abbrev pub powerOnWith : Drive → Bool → Drive
-powerOnWith d change = record { unit = poweredOn change; mechanics = withLock (d .mechanics) false }
+powerOnWith d change = record {
+  unit = poweredOn change;
+  deck = record { «tray_open» = d .deck .«tray_open»; «disc_in» = d .deck .«disc_in»; lock = false; play = noPlay };
+}
 
 -- K3: "Power-on with a loaded disc now leaves both attentions pending by default"; with any other drive, 01's "change attention not"
 unfoldable pub powerOn : Drive → Drive
-powerOn d = powerOnWith d (isLoaded (d .mechanics))
+powerOn d = powerOnWith d (isLoaded (d .deck))
 
 -- K3: "A second form, which the listing program calls, keeps 01's behaviour": "change attention not"
 unfoldable pub powerOnWithoutChange : Drive → Drive
@@ -70,20 +92,20 @@ moves d = record { number = 0; state = d }
 
 -- "Button, laying and lifting test 2 before 5 to 7."
 abbrev pub tested : Drive → Moved → Moved
-tested d r = if isKnown (d .unit .sense) then r else refuse unknownSense d
+tested d r = if isSound d then r else refuse unknownState d
 
 -- "Button: an open tray closes; a closed one opens, unless locked (5). The lock never stops closing."
 unfoldable pub button : Drive → Moved
 button d =
     tested d
-    (if d .mechanics .«tray_open» then moves (shift d (closing (d .mechanics)))
-    else (if d .mechanics .lock then refuse locked d else moves (shift d (opening (d .mechanics)))))
+    (if d .deck .«tray_open» then moves (shift d (closing (d .deck)))
+    else (if d .deck .lock then refuse locked d else moves (shift d (opening (d .deck)))))
 
 -- "Laying a disc needs an open tray without one (6)"
 unfoldable pub lay : Drive → Moved
 lay d =
     tested d
-    (if d .mechanics .«tray_open» and not (d .mechanics .«disc_in»)
+    (if d .deck .«tray_open» and not (d .deck .«disc_in»)
     then moves (holding d true)
     else refuse cannotLay d)
 
@@ -91,6 +113,10 @@ lay d =
 unfoldable pub lift : Drive → Moved
 lift d =
     tested d
-    (if d .mechanics .«tray_open» and d .mechanics .«disc_in»
+    (if d .deck .«tray_open» and d .deck .«disc_in»
     then moves (holding d false)
     else refuse cannotLift d)
+
+-- K2: "An outside call, testing 2, moves a playing position on by k blocks"
+unfoldable pub moveOn : ℕ → Drive → Moved
+moveOn k d = tested d (moves (showing d (movedOn k (d .deck .play))))

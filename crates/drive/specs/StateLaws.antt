@@ -2,15 +2,31 @@
 use mathlib.Core.Path.{_≡_, refl, _∙_}
 use mathlib.Core.Bool.{true, false}
 use Prim.Native.Nat.{ℕ}
-use Rattle.ground.specs.Tests.{_and_, when, unless, either}
+use Rattle.ground.specs.Tests.{_and_, and-head, and-tail, and-both, when, unless, either}
 use Rattle.drive.specs.declared.state.Drive.{Drive}
 use Rattle.drive.specs.declared.state.Moved.{Moved}
 use Rattle.drive.specs.Sense.{isKnown}
-use Rattle.drive.specs.State.{unknownSense, locked, cannotLay, cannotLift, isLoaded, opening, closing, shift, holding, powerOnWith, powerOn, powerOnWithoutChange, refuse, moves, button, lay, lift}
+use Rattle.drive.specs.Play.{movedOn}
+use Rattle.drive.specs.PlayLaws.{Sound, isPlay-sound, sound-isPlay}
+use Rattle.drive.specs.State.{unknownState, locked, cannotLay, cannotLift, isSound, isLoaded, opening, closing, shift, holding, showing, powerOnWith, powerOn, powerOnWithoutChange, refuse, moves, button, lay, lift, moveOn}
 
 -- a call with a number other than 0 hands back the state as it came
 abbrev pub Unmoved : Drive → Moved → Type 0
 Unmoved d r = (r .number ≡ 0 → ⊥) → r .state ≡ d
+
+-- ---- refusal 2
+
+pub isSound-sense : (d : Drive) → isSound d ≡ true → isKnown (d .unit .sense) ≡ true
+unfolding isSound
+isSound-sense d h = and-head _ _ h
+
+pub isSound-play : (d : Drive) → isSound d ≡ true → Sound (d .deck .play)
+unfolding isSound
+isSound-play d h = isPlay-sound _ (and-tail _ _ h)
+
+pub sound-isSound : (d : Drive) → isKnown (d .unit .sense) ≡ true → Sound (d .deck .play) → isSound d ≡ true
+unfolding isSound
+sound-isSound d h k = and-both _ _ h (sound-isPlay k)
 
 -- ---- the two ways in which a call ends
 
@@ -23,7 +39,7 @@ stood d n h = refl
 module _ (d : Drive) where
   -- ---- the two forms of power-on: the same but for the change attention
 
-  pub powerOn-with : powerOn d ≡ powerOnWith d (isLoaded (d .mechanics))
+  pub powerOn-with : powerOn d ≡ powerOnWith d (isLoaded (d .deck))
   unfolding powerOn
   powerOn-with = refl
 
@@ -33,52 +49,60 @@ module _ (d : Drive) where
 
   -- ---- each case of the other calls
 
-  pub button-unknown : isKnown (d .unit .sense) ≡ false → button d ≡ refuse unknownSense d
+  pub button-unknown : isSound d ≡ false → button d ≡ refuse unknownState d
   unfolding button
   button-unknown h = unless _ _ _ h
 
-  pub lay-unknown : isKnown (d .unit .sense) ≡ false → lay d ≡ refuse unknownSense d
+  pub lay-unknown : isSound d ≡ false → lay d ≡ refuse unknownState d
   unfolding lay
   lay-unknown h = unless _ _ _ h
 
-  pub lift-unknown : isKnown (d .unit .sense) ≡ false → lift d ≡ refuse unknownSense d
+  pub lift-unknown : isSound d ≡ false → lift d ≡ refuse unknownState d
   unfolding lift
   lift-unknown h = unless _ _ _ h
 
-  module _ (k : isKnown (d .unit .sense) ≡ true) where
-    pub button-closes : d .mechanics .«tray_open» ≡ true → button d ≡ moves (shift d (closing (d .mechanics)))
+  pub moveOn-unknown : (n : ℕ) → isSound d ≡ false → moveOn n d ≡ refuse unknownState d
+  unfolding moveOn
+  moveOn-unknown n h = unless _ _ _ h
+
+  module _ (k : isSound d ≡ true) where
+    pub moveOn-moves : (n : ℕ) → moveOn n d ≡ moves (showing d (movedOn n (d .deck .play)))
+    unfolding moveOn
+    moveOn-moves n = when _ _ _ k
+
+    pub button-closes : d .deck .«tray_open» ≡ true → button d ≡ moves (shift d (closing (d .deck)))
     unfolding button
     button-closes t = when _ _ _ k ∙ when _ _ _ t
 
-    pub button-locked : d .mechanics .«tray_open» ≡ false → d .mechanics .lock ≡ true → button d ≡ refuse locked d
+    pub button-locked : d .deck .«tray_open» ≡ false → d .deck .lock ≡ true → button d ≡ refuse locked d
     unfolding button
     button-locked t l = when _ _ _ k ∙ unless _ _ _ t ∙ when _ _ _ l
 
-    pub button-opens : d .mechanics .«tray_open» ≡ false → d .mechanics .lock ≡ false → button d ≡ moves (shift d (opening (d .mechanics)))
+    pub button-opens : d .deck .«tray_open» ≡ false → d .deck .lock ≡ false → button d ≡ moves (shift d (opening (d .deck)))
     unfolding button
     button-opens t l = when _ _ _ k ∙ unless _ _ _ t ∙ unless _ _ _ l
 
-    pub lay-closed : d .mechanics .«tray_open» ≡ false → lay d ≡ refuse cannotLay d
+    pub lay-closed : d .deck .«tray_open» ≡ false → lay d ≡ refuse cannotLay d
     unfolding lay _and_
     lay-closed t = when _ _ _ k ∙ unless _ _ _ (rw t)
 
-    pub lay-full : d .mechanics .«tray_open» ≡ true → d .mechanics .«disc_in» ≡ true → lay d ≡ refuse cannotLay d
+    pub lay-full : d .deck .«tray_open» ≡ true → d .deck .«disc_in» ≡ true → lay d ≡ refuse cannotLay d
     unfolding lay _and_
     lay-full t i = when _ _ _ k ∙ unless _ _ _ (rw (t, i))
 
-    pub lay-lays : d .mechanics .«tray_open» ≡ true → d .mechanics .«disc_in» ≡ false → lay d ≡ moves (holding d true)
+    pub lay-lays : d .deck .«tray_open» ≡ true → d .deck .«disc_in» ≡ false → lay d ≡ moves (holding d true)
     unfolding lay _and_
     lay-lays t i = when _ _ _ k ∙ when _ _ _ (rw (t, i))
 
-    pub lift-closed : d .mechanics .«tray_open» ≡ false → lift d ≡ refuse cannotLift d
+    pub lift-closed : d .deck .«tray_open» ≡ false → lift d ≡ refuse cannotLift d
     unfolding lift _and_
     lift-closed t = when _ _ _ k ∙ unless _ _ _ (rw t)
 
-    pub lift-empty : d .mechanics .«tray_open» ≡ true → d .mechanics .«disc_in» ≡ false → lift d ≡ refuse cannotLift d
+    pub lift-empty : d .deck .«tray_open» ≡ true → d .deck .«disc_in» ≡ false → lift d ≡ refuse cannotLift d
     unfolding lift _and_
     lift-empty t i = when _ _ _ k ∙ unless _ _ _ (rw (t, i))
 
-    pub lift-lifts : d .mechanics .«tray_open» ≡ true → d .mechanics .«disc_in» ≡ true → lift d ≡ moves (holding d false)
+    pub lift-lifts : d .deck .«tray_open» ≡ true → d .deck .«disc_in» ≡ true → lift d ≡ moves (holding d false)
     unfolding lift _and_
     lift-lifts t i = when _ _ _ k ∙ when _ _ _ (rw (t, i))
 
@@ -95,3 +119,7 @@ module _ (d : Drive) where
   pub lift-refused : Unmoved d (lift d)
   unfolding lift
   lift-refused = either (Unmoved d) _ (λ k. either (Unmoved d) _ (λ t. went d _) (λ t. stood d _)) (λ k. stood d _)
+
+  pub moveOn-refused : (n : ℕ) → Unmoved d (moveOn n d)
+  unfolding moveOn
+  moveOn-refused n = either (Unmoved d) _ (λ k. went d _) (λ k. stood d _)

@@ -1,4 +1,4 @@
--- The attention unit: power attention, change attention and held sense, beside any mechanics.
+-- The attention unit: power attention, change attention and held sense, beside any deck.
 use mathlib.Core.Bool.{Bool, true, false}
 use Rattle.ground.specs.Tests.{if_then_else_}
 use Rattle.drive.specs.declared.state.Unit.{Unit}

@@ -1,11 +1,13 @@
-// The state: an attention unit beside the mechanics. Each call takes it by value and hands back the next one.
+// The state: an attention unit beside the deck. Each call takes it by value and hands back the next one.
+use crate::play::Play;
+use crate::play::no_play;
 use crate::sense::NO_SENSE;
 use crate::sense::Sense;
 use crate::sense::is_known;
 use crate::sense::sense_at;
 ghost use mathlib.Core.Path.{_≡_};
 ghost use Rattle.drive.specs.Unit.{poweredOn, attend};
-ghost use Rattle.drive.specs.State.{opening, closing, withDisc, withLock, isLoaded, shift, holding, powerOnWith, powerOn, powerOnWithoutChange, moves, refuse, button, lay, lift};
+ghost use Rattle.drive.specs.State.{isSound, opening, closedPlay, closing, withDisc, withLock, withPlay, isLoaded, shift, holding, showing, powerOnWith, powerOn, powerOnWithoutChange, moves, refuse, button, lay, lift, moveOn};
 
 // What is pending and what is held: this is the same for every device that stands behind the gate.
 pub struct Unit {
@@ -14,21 +16,22 @@ pub struct Unit {
     pub sense: Sense,
 }
 
-// Tray open or closed; disc in or not; lock.
-pub struct Mechanics {
+// Tray open or closed; disc in or not; lock; the play record.
+pub struct Deck {
     pub tray_open: bool,
     pub disc_in: bool,
     pub lock: bool,
+    pub play: Play,
 }
 
 pub struct Drive {
     pub unit: Unit,
-    pub mechanics: Mechanics,
+    pub deck: Deck,
 }
 
-// The mechanics after the tray moved, and whether that was a loading.
+// The deck after the tray moved, and whether that was a loading.
 pub struct Shifted {
-    pub mechanics: Mechanics,
+    pub deck: Deck,
     pub loading: bool,
 }
 
@@ -38,8 +41,8 @@ pub struct Moved {
     pub state: Drive,
 }
 
-// The refusals that button, laying and lifting give.
-pub const UNKNOWN_SENSE: u8 = 2;
+// The refusals that the calls give which are no packets.
+pub const UNKNOWN_STATE: u8 = 2;
 
 pub const LOCKED: u8 = 5;
 
@@ -75,7 +78,7 @@ impl Unit {
     }
 }
 
-impl Mechanics {
+impl Deck {
     // Tray closed with a disc in.
     pub fn is_loaded(self) -> bool
         ensures { λ r. ⌜ r ≡ isLoaded self ⌝ }
@@ -86,18 +89,29 @@ impl Mechanics {
         self.disc_in
     }
 
-    // The tray opens, by button or packet.
+    // The tray opens, by button or packet: nothing is played.
     pub fn opening(self) -> Shifted
         ensures { λ r. ⌜ r ≡ opening self ⌝ }
     {
         Shifted {
-            mechanics: Mechanics {
+            deck: Deck {
                 tray_open: true,
                 disc_in: self.disc_in,
                 lock: self.lock,
+                play: no_play(),
             },
             loading: false,
         }
+    }
+
+    // The play record after a closing: none after a loading.
+    fn closed_play(self) -> Play
+        ensures { λ r. ⌜ r ≡ closedPlay self ⌝ }
+    {
+        if self.disc_in {
+            return no_play();
+        }
+        self.play
     }
 
     // The tray closes, by button or packet: with a disc in that is a loading.
@@ -105,45 +119,71 @@ impl Mechanics {
         ensures { λ r. ⌜ r ≡ closing self ⌝ }
     {
         Shifted {
-            mechanics: Mechanics {
+            deck: Deck {
                 tray_open: false,
                 disc_in: self.disc_in,
                 lock: self.lock,
+                play: self.closed_play(),
             },
             loading: self.disc_in,
         }
     }
 
-    pub fn with_disc(self, disc_in: bool) -> Mechanics
+    pub fn with_disc(self, disc_in: bool) -> Deck
         ensures { λ r. ⌜ r ≡ withDisc self disc_in ⌝ }
     {
-        Mechanics {
+        let play = self.play;
+        Deck {
             tray_open: self.tray_open,
             disc_in,
             lock: self.lock,
+            play,
         }
     }
 
-    pub fn with_lock(self, lock: bool) -> Mechanics
+    pub fn with_lock(self, lock: bool) -> Deck
         ensures { λ r. ⌜ r ≡ withLock self lock ⌝ }
     {
-        Mechanics {
+        let play = self.play;
+        Deck {
             tray_open: self.tray_open,
             disc_in: self.disc_in,
             lock,
+            play,
+        }
+    }
+
+    pub fn with_play(self, play: Play) -> Deck
+        ensures { λ r. ⌜ r ≡ withPlay self play ⌝ }
+    {
+        Deck {
+            tray_open: self.tray_open,
+            disc_in: self.disc_in,
+            lock: self.lock,
+            play,
         }
     }
 }
 
 impl Drive {
+    // The state is one that refusal 2 does not meet: its sense is one of the ten, and its play record is one.
+    pub fn is_sound(self) -> bool
+        ensures { λ r. ⌜ r ≡ isSound self ⌝ }
+    {
+        if is_known(self.unit.sense) {
+            return self.deck.play.is_play();
+        }
+        false
+    }
+
     // The state after the tray moved.
     pub fn shift(self, s: Shifted) -> Drive
         ensures { λ r. ⌜ r ≡ shift self s ⌝ }
     {
-        let mechanics = s.mechanics;
+        let deck = s.deck;
         Drive {
             unit: self.unit.attend(s.loading),
-            mechanics,
+            deck,
         }
     }
 
@@ -151,7 +191,7 @@ impl Drive {
     pub fn power_on(self) -> Drive
         ensures { λ r. ⌜ r ≡ powerOn self ⌝ }
     {
-        self.power_on_with(self.mechanics.is_loaded())
+        self.power_on_with(self.deck.is_loaded())
     }
 
     // The second form of power-on: the power attention alone, also with a loaded disc.
@@ -161,13 +201,19 @@ impl Drive {
         self.power_on_with(false)
     }
 
-    // What both forms do: tray and disc kept, lock off, sense 00/00/00, power attention pending; they differ in `change` alone.
+    // What both forms do: tray and disc kept, lock off, nothing played, sense 00/00/00, power attention pending; they differ in `change`
+    // alone.
     fn power_on_with(self, change: bool) -> Drive
         ensures { λ r. ⌜ r ≡ powerOnWith self change ⌝ }
     {
         Drive {
             unit: self.unit.powered_on(change),
-            mechanics: self.mechanics.with_lock(false),
+            deck: Deck {
+                tray_open: self.deck.tray_open,
+                disc_in: self.deck.disc_in,
+                lock: false,
+                play: no_play(),
+            },
         }
     }
 
@@ -175,46 +221,66 @@ impl Drive {
     pub fn button(self) -> Moved
         ensures { λ r. ⌜ r ≡ button self ⌝ }
     {
-        if is_known(self.unit.sense) {
-            if self.mechanics.tray_open {
-                return moves(self.shift(self.mechanics.closing()));
+        if self.is_sound() {
+            if self.deck.tray_open {
+                return moves(self.shift(self.deck.closing()));
             }
-            if self.mechanics.lock {
+            if self.deck.lock {
                 return refuse(LOCKED, self);
             }
-            return moves(self.shift(self.mechanics.opening()));
+            return moves(self.shift(self.deck.opening()));
         }
-        refuse(UNKNOWN_SENSE, self)
+        refuse(UNKNOWN_STATE, self)
     }
 
     pub fn lay(self) -> Moved
         ensures { λ r. ⌜ r ≡ lay self ⌝ }
     {
-        if is_known(self.unit.sense) {
-            if self.mechanics.tray_open {
-                if self.mechanics.disc_in {
+        if self.is_sound() {
+            if self.deck.tray_open {
+                if self.deck.disc_in {
                     return refuse(CANNOT_LAY, self);
                 }
                 return moves(self.with_disc(true));
             }
             return refuse(CANNOT_LAY, self);
         }
-        refuse(UNKNOWN_SENSE, self)
+        refuse(UNKNOWN_STATE, self)
     }
 
     pub fn lift(self) -> Moved
         ensures { λ r. ⌜ r ≡ lift self ⌝ }
     {
-        if is_known(self.unit.sense) {
-            if self.mechanics.tray_open {
-                if self.mechanics.disc_in {
+        if self.is_sound() {
+            if self.deck.tray_open {
+                if self.deck.disc_in {
                     return moves(self.with_disc(false));
                 }
                 return refuse(CANNOT_LIFT, self);
             }
             return refuse(CANNOT_LIFT, self);
         }
-        refuse(UNKNOWN_SENSE, self)
+        refuse(UNKNOWN_STATE, self)
+    }
+
+    // A playing position moves on by k blocks.
+    pub fn move_on(self, k: usize) -> Moved
+        ensures { λ r. ⌜ r ≡ moveOn k self ⌝ }
+    {
+        if self.is_sound() {
+            return moves(self.with_play(self.deck.play.moved_on(k)));
+        }
+        refuse(UNKNOWN_STATE, self)
+    }
+
+    fn with_play(self, play: Play) -> Drive
+        ensures { λ r. ⌜ r ≡ showing self play ⌝ }
+    {
+        let unit = self.unit;
+        Drive {
+            unit,
+            deck: self.deck.with_play(play),
+        }
     }
 
     fn with_disc(self, disc_in: bool) -> Drive
@@ -223,7 +289,7 @@ impl Drive {
         let unit = self.unit;
         Drive {
             unit,
-            mechanics: self.mechanics.with_disc(disc_in),
+            deck: self.deck.with_disc(disc_in),
         }
     }
 }

@@ -1,4 +1,4 @@
--- "Steps for a packet", over any mechanics: a command's result names no attention, and the gate decides what is told.
+-- "Steps for a packet", over any deck: a command's result names no attention, and the gate decides what is told.
 use Prim.Native.Nat.{ℕ}
 use mathlib.Core.Bool.{Bool}
 use mathlib.Core.List.{List, [], _∷_}
@@ -11,7 +11,7 @@ use Rattle.gate.specs.declared.unit.Pending.the-variants.{Power, Change,
 use Rattle.gate.specs.Fault.{senseOf}
 use Rattle.gate.specs.Unit.{hold, clear, pendingOf, attentionSense, told, give}
 
--- what a command comes to: it fails, or it goes well with the next mechanics, whether that was a loading, its full answer,
+-- what a command comes to: it fails, or it goes well with the next deck, whether that was a loading, its full answer,
 -- how many bytes of it are asked for, and the blocks that it names
 pub data Result (M : Type 0) : Type 0 where
   fails : Fault → Result M
@@ -27,7 +27,7 @@ pub record Reply (M : Type 0) : Type 0 where
   pub start : ℕ
   pub count : ℕ
   pub unit : Unit
-  pub mechanics : M
+  pub deck : M
 
 -- "18 bytes, byte 0 70h, 2 key, 7 0Ah, 12 ASC, 13 ASCQ, others 0"
 abbrev pub senseBytes : Sense → List ℕ
@@ -37,16 +37,16 @@ senseBytes s =
 module _ {M : Type 0} where
   -- a refusal: "status 0, 0 bytes, start 0, count 0", and the state unchanged
   abbrev pub refuse : ℕ → ℕ → Unit → M → Reply M
-  refuse n r u m = record { number = n; rule = r; status = 0; full = []; limit = 0; start = 0; count = 0; unit = u; mechanics = m }
+  refuse n r u m = record { number = n; rule = r; status = 0; full = []; limit = 0; start = 0; count = 0; unit = u; deck = m }
 
   -- "CHECK CONDITION is status 02h, no bytes, .., the triple held as sense and, save for the attention in step 2, nothing else changed."
   abbrev pub check : Sense → Unit → M → Reply M
-  check s u m = record { number = 0; rule = 0; status = 0x02; full = []; limit = 0; start = 0; count = 0; unit = hold s u; mechanics = m }
+  check s u m = record { number = 0; rule = 0; status = 0x02; full = []; limit = 0; start = 0; count = 0; unit = hold s u; deck = m }
 
   -- "GOOD is status 00h"
   abbrev pub good : List ℕ → ℕ → ℕ → ℕ → Unit → M → Reply M
   good full limit start count u m =
-      record { number = 0; rule = 0; status = 0x00; full = full; limit = limit; start = start; count = count; unit = u; mechanics = m }
+      record { number = 0; rule = 0; status = 0x00; full = full; limit = limit; start = start; count = count; unit = u; deck = m }
 
   -- a command's result becomes the answer: GOOD clears the sense, and a loading makes the change attention pending
   abbrev pub settle : Unit → M → Result M → Reply M

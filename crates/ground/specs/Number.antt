@@ -1,8 +1,9 @@
 -- Numbers in bytes, the high byte first ("Multi-byte numbers are big-endian").
-use mathlib.Core.Path.{_≡_}
+use mathlib.Core.Path.{_≡_, refl}
 use mathlib.Core.List.{List, [], _∷_}
 use Prim.Native.Nat.{ℕ, _+_, _*_, _/_, _%_, _<_}
 use native.Mathlib.Omega.{arith}
+use lib.ListN.{length, getD}
 use native.Mathlib.Nat.{div-div-eq-div-mul}
 
 -- r is the byte b as a wide number
@@ -46,3 +47,12 @@ word16-exact a b h k =
     let p : word16 a b / 256 % 256 ≡ a = omega arith in
     let q : word16 a b % 256 ≡ b = omega arith in
     rw (p, q)
+
+-- a list of four is its elements
+pub four : (l : List ℕ) → length l ≡ 4 → getD l 0 0 ∷ getD l 1 0 ∷ getD l 2 0 ∷ getD l 3 0 ∷ [] ≡ l
+four [] h = absurd (omega arith)
+four (a ∷ []) h = absurd (omega arith)
+four (a ∷ b ∷ []) h = absurd (omega arith)
+four (a ∷ b ∷ c ∷ []) h = absurd (omega arith)
+four (a ∷ b ∷ c ∷ d ∷ []) h = refl
+four (a ∷ b ∷ c ∷ d ∷ e ∷ l) h = absurd (omega arith)

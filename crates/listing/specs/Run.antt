@@ -5,6 +5,7 @@ use mathlib.Core.List.{List}
 use lib.ListN.{take, drop}
 use Rattle.drive.specs.declared.state.Drive.{Drive}
 use Rattle.drive.specs.Sense.{noSense}
+use Rattle.drive.specs.Play.{noPlay}
 use Rattle.drive.specs.State.{powerOnWithoutChange}
 use Rattle.table.specs.Layout.{bound}
 use Rattle.outcome.specs.Outcome.{stateOf}
@@ -14,7 +15,7 @@ use Rattle.target.specs.Packet.{answer}
 abbrev pub loaded : Drive
 loaded = powerOnWithoutChange (record {
   unit = record { power = false; change = false; sense = noSense };
-  mechanics = record { «tray_open» = false; «disc_in» = true; lock = false };
+  deck = record { «tray_open» = false; «disc_in» = true; lock = false; play = noPlay };
 })
 
 -- packet k of the file f, counted from 0: 12 bytes; "a short last packet is handed on as it is"

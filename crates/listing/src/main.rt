@@ -2,10 +2,11 @@
 mod file;
 mod line;
 
+use drive::play::no_play;
 use drive::sense::NO_SENSE;
 use drive::sense::sense_at;
+use drive::state::Deck;
 use drive::state::Drive;
-use drive::state::Mechanics;
 use drive::state::Unit;
 use file::load;
 use libc::STDERR_FILENO;
@@ -45,12 +46,13 @@ fn loaded() -> Drive
         change: false,
         sense: sense_at(NO_SENSE),
     };
-    let mechanics = Mechanics {
+    let deck = Deck {
         tray_open: false,
         disc_in: true,
         lock: false,
+        play: no_play(),
     };
-    Drive { unit, mechanics }.power_on_without_change()
+    Drive { unit, deck }.power_on_without_change()
 }
 
 // How many packets were met, the state after the last of them, and whether that was the file's last: not so where a line could not be

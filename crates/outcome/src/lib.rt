@@ -1,8 +1,8 @@
 // What a packet hands back: a refusal, CHECK CONDITION or GOOD.
 use command::done::Done;
 use drive::sense::Sense;
+use drive::state::Deck;
 use drive::state::Drive;
-use drive::state::Mechanics;
 use drive::state::Unit;
 use gate::fault::sense_of;
 use gate::unit::Pending;
@@ -41,8 +41,8 @@ pub fn refuse(number: u8, rule: u8, state: Drive) -> Outcome
 }
 
 // CHECK CONDITION: the triple held as sense.
-pub fn check(sense: Sense, unit: Unit, mechanics: Mechanics) -> Outcome
-    ensures { λ r. ⌜ r ≡ checked sense unit mechanics ⌝ }
+pub fn check(sense: Sense, unit: Unit, deck: Deck) -> Outcome
+    ensures { λ r. ⌜ r ≡ checked sense unit deck ⌝ }
 {
     Outcome {
         number: 0,
@@ -53,14 +53,14 @@ pub fn check(sense: Sense, unit: Unit, mechanics: Mechanics) -> Outcome
         count: 0,
         state: Drive {
             unit: hold(unit, sense),
-            mechanics,
+            deck,
         },
     }
 }
 
 // GOOD: what was written, the blocks that a READ names, and the state after it.
-pub fn good(len: usize, start: usize, count: usize, unit: Unit, mechanics: Mechanics) -> Outcome
-    ensures { λ r. ⌜ r ≡ granted len start count unit mechanics ⌝ }
+pub fn good(len: usize, start: usize, count: usize, unit: Unit, deck: Deck) -> Outcome
+    ensures { λ r. ⌜ r ≡ granted len start count unit deck ⌝ }
 {
     Outcome {
         number: 0,
@@ -69,16 +69,16 @@ pub fn good(len: usize, start: usize, count: usize, unit: Unit, mechanics: Mecha
         len,
         start,
         count,
-        state: Drive { unit, mechanics },
+        state: Drive { unit, deck },
     }
 }
 
 // A command's end: CHECK CONDITION over the unit u, or GOOD over the unit v, attending to a loading.
-pub fn finish(u: Unit, v: Unit, mechanics: Mechanics, done: Done) -> Outcome
-    ensures { λ r. ⌜ r ≡ finished u v mechanics done ⌝ }
+pub fn finish(u: Unit, v: Unit, deck: Deck, done: Done) -> Outcome
+    ensures { λ r. ⌜ r ≡ finished u v deck done ⌝ }
 {
     match done {
-        Done::Fails(f) => check(sense_of(f), u, mechanics),
+        Done::Fails(f) => check(sense_of(f), u, deck),
         Done::Goes(w) => {
             let next = w.next;
             good(w.len, w.start, w.count, v.attend(w.loading), next)
@@ -87,8 +87,8 @@ pub fn finish(u: Unit, v: Unit, mechanics: Mechanics, done: Done) -> Outcome
 }
 
 // A telling: CHECK CONDITION with the attention's triple, and it stops being pending.
-pub fn tell(a: Pending, unit: Unit, mechanics: Mechanics) -> Outcome
-    ensures { λ r. ⌜ r ≡ checked (attentionSense a) (told a unit) mechanics ⌝ }
+pub fn tell(a: Pending, unit: Unit, deck: Deck) -> Outcome
+    ensures { λ r. ⌜ r ≡ checked (attentionSense a) (told a unit) deck ⌝ }
 {
-    check(sense_of_pending(a), told(unit, a), mechanics)
+    check(sense_of_pending(a), told(unit, a), deck)
 }

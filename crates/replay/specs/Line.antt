@@ -11,6 +11,7 @@ use Rattle.print.specs.Hex.{hexByte, shown}
 use Rattle.print.specs.Decimal.{decimal}
 use Rattle.print.specs.Sum.{adler32}
 use Rattle.drive.specs.declared.sense.Sense.{Sense}
+use Rattle.drive.specs.declared.play.Play.{Play}
 use Rattle.drive.specs.declared.state.Drive.{Drive}
 use Rattle.disc.specs.Part.{unfit}
 use Rattle.outcome.specs.declared.Outcome.{Outcome}
@@ -29,16 +30,20 @@ triple s = spaced (hexByte (s .key)) next spaced (hexByte (s .asc)) next spaced 
 -- tray, disc, lock, power and change, as `0` or `1`
 abbrev pub flags : Drive → List ℕ
 flags d =
-    digit (d .mechanics .tray_open)
-    ∷ digit (d .mechanics .disc_in)
-    ∷ digit (d .mechanics .lock)
+    digit (d .deck .tray_open)
+    ∷ digit (d .deck .disc_in)
+    ∷ digit (d .deck .lock)
     ∷ digit (d .unit .power)
     ∷ digit (d .unit .change)
     ∷ []
 
--- "STATE is five digits 0 or 1 and three hex bytes"
+-- K2: ` ST POS END` "(two capital hex digits, two decimals)"
+unfoldable pub playText : Play → List ℕ
+playText r = spaced (hexByte (r .status)) next spaced (decimal (r .position)) next spaced (decimal (r .end))
+
+-- "STATE is five digits 0 or 1 and three hex bytes"; K2: and the play record
 unfoldable pub stateText : Drive → List ℕ
-stateText d = spaced (flags d) next triple (d .unit .sense)
+stateText d = spaced (flags d) next triple (d .unit .sense) next playText (d .deck .play)
 
 -- the call's letter, and "N .. the refusal's number or 0"
 unfoldable pub call : ℕ → ℕ → List ℕ
@@ -58,7 +63,7 @@ sumText s = spaced (shown (bytes32 (adler32 s)))
 unfoldable pub decimals : ℕ → ℕ → ℕ → List ℕ
 decimals a b c = spaced (decimal a) next spaced (decimal b) next spaced (decimal c)
 
--- `o N STATE`, `b N STATE`, `d N STATE`, `u N STATE`
+-- `o N STATE`, `b N STATE`, `d N STATE`, `u N STATE`; K3: `q 0 STATE`; K2: `m N STATE`
 unfoldable pub movedLine : ℕ → ℕ → Drive → List ℕ
 movedLine letter number d = call letter number next stateText d next lineEnd
 

@@ -10,9 +10,10 @@ use address::to_block;
 use address::to_msf;
 use disc::part::session_part;
 use disc::part::session_refusal;
+use drive::play::Play;
 use drive::sense::Sense;
+use drive::state::Deck;
 use drive::state::Drive;
-use drive::state::Mechanics;
 use drive::state::Moved;
 use drive::state::Unit;
 use ground::memory::copy_front;
@@ -50,13 +51,19 @@ pub(crate) fn empty() -> Bench {
         change: false,
         sense,
     };
-    let mechanics = Mechanics {
+    let play = Play {
+        status: 0,
+        position: 0,
+        end: 0,
+    };
+    let deck = Deck {
         tray_open: false,
         disc_in: false,
         lock: false,
+        play,
     };
     Bench {
-        drive: Drive { unit, mechanics },
+        drive: Drive { unit, deck },
         table: 0,
         memory: 0,
     }
@@ -112,12 +119,18 @@ fn fill(m: &mut [u8], x: u8)
 
 // The state that a record gives.
 fn state_of(body: &[u8]) -> Drive
-    requires { ⌜ length (now body) ≡ 8 ⌝ }
+    requires { ⌜ length (now body) ≡ 17 ⌝ }
 {
-    let mechanics = Mechanics {
+    let play = Play {
+        status: body[8],
+        position: word32(body[9], body[10], body[11], body[12]),
+        end: word32(body[13], body[14], body[15], body[16]),
+    };
+    let deck = Deck {
         tray_open: body[0] == 1,
         disc_in: body[1] == 1,
         lock: body[2] == 1,
+        play,
     };
     let sense = Sense {
         key: body[5],
@@ -129,7 +142,7 @@ fn state_of(body: &[u8]) -> Drive
         change: body[4] == 1,
         sense,
     };
-    Drive { unit, mechanics }
+    Drive { unit, deck }
 }
 
 // The first five bytes are flags, 0 or 1.
@@ -149,7 +162,7 @@ fn are_flags(body: &[u8]) -> bool {
 
 // Kind 0: the state.
 fn set_state(body: &[u8], bench: Bench, line: &mut [u8]) -> Turn {
-    if body.len() == 8 {
+    if body.len() == 17 {
         if are_flags(body) {
             return printed(
                 0,
@@ -227,6 +240,15 @@ fn call_drive(kind: u8, body: &[u8], bench: Bench, line: &mut [u8]) -> Turn {
             6 => moved(b'u', d.lift(), bench, line),
             _ => powered(b'q', d.power_on_without_change(), bench, line),
         };
+    }
+    bad(bench, line)
+}
+
+// Kind 12: a playing position moves on.
+fn call_move(body: &[u8], bench: Bench, line: &mut [u8]) -> Turn {
+    if body.len() == 4 {
+        let k = word32(body[0], body[1], body[2], body[3]);
+        return moved(b'm', bench.drive.move_on(k), bench, line);
     }
     bad(bench, line)
 }
@@ -310,6 +332,7 @@ pub(crate) fn meet(
         8 => call_msf(body, bench, line),
         9 => call_block(body, bench, line),
         10 => call_part(body, bench, table, line),
+        12 => call_move(body, bench, line),
         _ => bad(bench, line),
     }
 }

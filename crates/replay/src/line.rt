@@ -1,5 +1,6 @@
 // The lines that a call prints.
 use disc::part::UNFIT;
+use drive::play::Play;
 use drive::state::Drive;
 use ground::memory::copy_front;
 use ground::number::bytes32;
@@ -15,7 +16,7 @@ use print::sum::adler32;
 ghost use mathlib.Core.Path.{_≡_};
 ghost use Rattle.ground.specs.Memory.{Laid};
 ghost use Rattle.replay.specs.Line.{digit as Line·digit};
-ghost use Rattle.replay.specs.Line.{stateText, call, ruleText, ruledCall, sumText, decimals, movedLine, outcomeText, memoryText, packetLine, msfLine, addressLine, partText, partLine};
+ghost use Rattle.replay.specs.Line.{playText, stateText, call, ruleText, ruledCall, sumText, decimals, movedLine, outcomeText, memoryText, packetLine, msfLine, addressLine, partText, partLine};
 
 // A flag as '0' or '1'.
 fn digit(b: bool) -> u8
@@ -27,11 +28,21 @@ fn digit(b: bool) -> u8
     b'0'
 }
 
-// The state: five flags and the held sense.
+// The play record: its status, position and end.
+fn next_play(r: Play, out: &mut [u8]) -> usize
+    ensures { λ n. ⌜ Laid (now (out .entry)) (playText r) n (now (out .exit)) ⌝ }
+{
+    let mut at = next_hex(r.status, out);
+    at += next_decimal(r.position, &mut out[at..]);
+    at += next_decimal(r.end, &mut out[at..]);
+    at
+}
+
+// The state: five flags, the held sense and the play record.
 fn next_state(d: Drive, out: &mut [u8]) -> usize
     ensures { λ r. ⌜ Laid (now (out .entry)) (stateText d) r (now (out .exit)) ⌝ }
 {
-    let m = d.mechanics;
+    let m = d.deck;
     let u = d.unit;
     let s = u.sense;
     let flags = [
@@ -44,6 +55,7 @@ fn next_state(d: Drive, out: &mut [u8]) -> usize
     ];
     let mut at = copy_front(&flags, out);
     at += next_three(s.key, s.asc, s.ascq, &mut out[at..]);
+    at += next_play(m.play, &mut out[at..]);
     at
 }
 
@@ -96,7 +108,7 @@ fn next_decimals(a: usize, b: usize, c: usize, out: &mut [u8]) -> usize
     at
 }
 
-// The line of power-on, button, laying or lifting.
+// The line of a call that is no packet.
 pub(crate) fn put_moved(letter: u8, number: u8, d: Drive, out: &mut [u8]) -> usize
     ensures { λ r. ⌜ Laid (now (out .entry)) (movedLine letter number d) r (now (out .exit)) ⌝ }
 {

@@ -7,7 +7,8 @@ use Rattle.table.specs.Layout.{bound, header, descriptors}
 use Rattle.disc.specs.Rules.{leadOut}
 use Rattle.disc.specs.RulesLaws.{Fit, isFit-true, fit-sized}
 use Rattle.disc.specs.FitLaws.{fit-lead-out}
-use Rattle.tracks.specs.Track.{allInData, runIsData}
+use Rattle.tracks.specs.declared.track.Mode.{Mode}
+use Rattle.tracks.specs.Track.{allIn, runIs}
 use Rattle.tracks.specs.SpreadLaws.{fit-run-agrees}
 use Rattle.disc.specs.declared.disc.Disc.{Disc}
 use Rattle.disc.specs.declared.disc.Reading.the-variants as reads
@@ -19,7 +20,7 @@ pub record FitFacts (t : List ℕ) : Type 0 where
   pub head : header ≤ length t
   pub most : length t ≤ bound
   pub leads : 1 ≤ leadOut (lastPart t)
-  pub runs : (a n : ℕ) → runIsData (descriptors t) a n ≡ allInData (descriptors t) a n
+  pub runs : (mode : Mode) (a n : ℕ) → runIs mode (descriptors t) a n ≡ allIn mode (descriptors t) a n
 
 -- a fit table and what was read off it
 pub record ReadOff (t : List ℕ) (disc : Disc) : Type 0 where

@@ -6,10 +6,9 @@ use lib.ListN.{length}
 use lib.Dec.{eqb, ltb}
 use Rattle.ground.specs.Tests.{_and_, if_then_else_}
 use Rattle.drive.specs.declared.state.Unit.{Unit}
-use Rattle.drive.specs.declared.state.Mechanics.{Mechanics}
+use Rattle.drive.specs.declared.state.Deck.{Deck}
 use Rattle.drive.specs.declared.state.Drive.{Drive}
-use Rattle.drive.specs.Sense.{isKnown}
-use Rattle.drive.specs.State.{isLoaded, unknownSense}
+use Rattle.drive.specs.State.{isSound, isLoaded, unknownState}
 use Rattle.table.specs.Layout.{bound}
 use Rattle.disc.specs.Rules.{isFit}
 use Rattle.disc.specs.Part.{unfit, ruleWith}
@@ -28,24 +27,24 @@ abbrev pub shortMemory : ℕ
 shortMemory = 3
 
 -- steps 1 and 2, by how the command meets a pending attention
-abbrev pub stepsBy : Kind → Command → Unit → Mechanics → List ℕ → List ℕ → Reply Mechanics
+abbrev pub stepsBy : Kind → Command → Unit → Deck → List ℕ → List ℕ → Reply Deck
 stepsBy Asks c u m p t = requestSense (byte p 4) u m
 stepsBy Passes c u m p t = pass u m (perform c p m t)
 stepsBy Gates c u m p t = gate u m (perform c p m t)
 
-abbrev pub steps : Command → Unit → Mechanics → List ℕ → List ℕ → Reply Mechanics
+abbrev pub steps : Command → Unit → Deck → List ℕ → List ℕ → Reply Deck
 steps c u m p t = stepsBy (kindOf c) c u m p t
 
 -- "Packets test 1, 2, 3, 4, then the steps below": n is the length of the response memory. "When not loaded, the table isn't looked at."
 unfoldable pub refusalOf : Drive → List ℕ → List ℕ → ℕ → ℕ
 refusalOf d p t n =
     if not (eqb (length p) 12) then notTwelve
-    else (if not (isKnown (d .unit .sense)) then unknownSense
+    else (if not (isSound d) then unknownState
     else (if ltb n bound then shortMemory
-    else (if isLoaded (d .mechanics) and not (isFit t) then unfit else 0)))
+    else (if isLoaded (d .deck) and not (isFit t) then unfit else 0)))
 
 -- K6: "Refusal 4 carries that number"; K9: no number is tested after the steps (claims' Whole: no full answer passes the bound)
-unfoldable pub answer : Drive → List ℕ → List ℕ → ℕ → Reply Mechanics
+unfoldable pub answer : Drive → List ℕ → List ℕ → ℕ → Reply Deck
 answer d p t n =
-    if eqb (refusalOf d p t n) 0 then steps (decode (codeOf p)) (d .unit) (d .mechanics) p t
-    else refuse (refusalOf d p t n) (ruleWith (refusalOf d p t n) t) (d .unit) (d .mechanics)
+    if eqb (refusalOf d p t n) 0 then steps (decode (codeOf p)) (d .unit) (d .deck) p t
+    else refuse (refusalOf d p t n) (ruleWith (refusalOf d p t n) t) (d .unit) (d .deck)

@@ -10,10 +10,9 @@ use Rattle.ground.specs.Tests.{_and_, when, unless, and-both, and-off, and-late
 use Rattle.ground.specs.Memory.{Laid, fill, fill-none}
 use Rattle.drive.specs.declared.sense.Sense.{Sense}
 use Rattle.drive.specs.declared.state.Unit.{Unit}
-use Rattle.drive.specs.declared.state.Mechanics.{Mechanics}
+use Rattle.drive.specs.declared.state.Deck.{Deck}
 use Rattle.drive.specs.declared.state.Drive.{Drive}
-use Rattle.drive.specs.Sense.{isKnown}
-use Rattle.drive.specs.State.{isLoaded, unknownSense}
+use Rattle.drive.specs.State.{isSound, isLoaded, unknownState}
 use Rattle.table.specs.Layout.{bound}
 use Rattle.disc.specs.Rules.{fault, isFit}
 use Rattle.disc.specs.Part.{unfit, ruleWith}
@@ -36,37 +35,37 @@ abbrev pub unread : Disc
 unread = record { first = 0; last = 0; sessions = 0; «lead_out» = 0; «lead_flags» = 0; «last_first» = 0; «last_first_flags» = 0; «last_first_start» = 0 }
 
 -- the steps for the drive's packet
-abbrev pub stepsOf : Drive → List ℕ → List ℕ → Reply Mechanics
-stepsOf d p t = steps (decode (codeOf p)) (d .unit) (d .mechanics) p t
+abbrev pub stepsOf : Drive → List ℕ → List ℕ → Reply Deck
+stepsOf d p t = steps (decode (codeOf p)) (d .unit) (d .deck) p t
 
 -- what is finished is what is settled, or passed
-pub finished-settle : (u : Unit) (m : Mechanics) (r : Result Mechanics) → finished u (clear u) m (doneOf r) ≡ outcomeOf (settle u m r)
+pub finished-settle : (u : Unit) (m : Deck) (r : Result Deck) → finished u (clear u) m (doneOf r) ≡ outcomeOf (settle u m r)
 finished-settle u m (fails f) = refl
 finished-settle u m (goes next loading full limit start count) = refl
 
-pub finished-pass : (u : Unit) (m : Mechanics) (r : Result Mechanics) → finished u u m (doneOf r) ≡ outcomeOf (pass u m r)
+pub finished-pass : (u : Unit) (m : Deck) (r : Result Deck) → finished u u m (doneOf r) ≡ outcomeOf (pass u m r)
 finished-pass u m (fails f) = refl
 finished-pass u m (goes next loading full limit start count) = refl
 
 -- what is written is the answer's bytes
-pub written-settle : (u : Unit) (m : Mechanics) (r : Result Mechanics) → written r ≡ bytesOf (settle u m r)
+pub written-settle : (u : Unit) (m : Deck) (r : Result Deck) → written r ≡ bytesOf (settle u m r)
 written-settle u m (fails f) = refl
 written-settle u m (goes next loading full limit start count) = refl
 
-pub written-pass : (u : Unit) (m : Mechanics) (r : Result Mechanics) → written r ≡ bytesOf (pass u m r)
+pub written-pass : (u : Unit) (m : Deck) (r : Result Deck) → written r ≡ bytesOf (pass u m r)
 written-pass u m (fails f) = refl
 written-pass u m (goes next loading full limit start count) = refl
 
 -- ---- Answered
 
-pub answered-refused : (n r : ℕ) (d : Drive) (m : List ℕ) → Answered (refuse n r (d .unit) (d .mechanics)) m (refused n r d) m
+pub answered-refused : (n r : ℕ) (d : Drive) (m : List ℕ) → Answered (refuse n r (d .unit) (d .deck)) m (refused n r d) m
 answered-refused n r d m = record { outcome = refl; memory = sym (fill-none m) }
 
-pub answered-check : (s : Sense) (u : Unit) (k : Mechanics) {o : Outcome} (m : List ℕ) → o ≡ checked s u k → Answered (check s u k) m o m
+pub answered-check : (s : Sense) (u : Unit) (k : Deck) {o : Outcome} (m : List ℕ) → o ≡ checked s u k → Answered (check s u k) m o m
 answered-check s u k m e = record { outcome = e; memory = sym (fill-none m) }
 
 pub answered-settle :
-    (u : Unit) (k : Mechanics) (r : Result Mechanics) {done : Done} {o : Outcome} {m m′ : List ℕ}
+    (u : Unit) (k : Deck) (r : Result Deck) {done : Done} {o : Outcome} {m m′ : List ℕ}
     → Performed r m done m′ → o ≡ finished u (clear u) k done → Answered (settle u k r) m o m′
 answered-settle u k r {m = m} f e = record {
   outcome = e ∙ ap (finished u (clear u) k) (f .outcome) ∙ finished-settle u k r;
@@ -74,7 +73,7 @@ answered-settle u k r {m = m} f e = record {
 }
 
 pub answered-pass :
-    (u : Unit) (k : Mechanics) (r : Result Mechanics) {done : Done} {o : Outcome} {m m′ : List ℕ}
+    (u : Unit) (k : Deck) (r : Result Deck) {done : Done} {o : Outcome} {m m′ : List ℕ}
     → Performed r m done m′ → o ≡ finished u u k done → Answered (pass u k r) m o m′
 answered-pass u k r {m = m} f e = record {
   outcome = e ∙ ap (finished u u k) (f .outcome) ∙ finished-pass u k r;
@@ -83,7 +82,7 @@ answered-pass u k r {m = m} f e = record {
 
 -- an answer with an allocation length, laid into a memory that holds it whole
 pub answered-good :
-    (full : List ℕ) (u : Unit) (k : Mechanics) {limit n : ℕ} {m m′ : List ℕ} → length full ≤ length m → Laid m (take limit full) n m′
+    (full : List ℕ) (u : Unit) (k : Deck) {limit n : ℕ} {m m′ : List ℕ} → length full ≤ length m → Laid m (take limit full) n m′
     → Answered (good full limit 0 0 u k) m (granted n 0 0 u k) m′
 answered-good full u k {limit} {n} h l =
     let e : n ≡ min limit (length full) = let a = l .count in let b = length-take limit full in omega arith in
@@ -94,35 +93,35 @@ answered-good full u k {limit} {n} h l =
 module _ (d : Drive) (p t : List ℕ) (n : ℕ) where
   -- by k with the rule r beside it, and with none
   refused-by :
-      (k : ℕ) {r : ℕ} → refusalOf d p t n ≡ k → (k ≡ 0 → ⊥) → r ≡ ruleWith k t → answer d p t n ≡ refuse k r (d .unit) (d .mechanics)
+      (k : ℕ) {r : ℕ} → refusalOf d p t n ≡ k → (k ≡ 0 → ⊥) → r ≡ ruleWith k t → answer d p t n ≡ refuse k r (d .unit) (d .deck)
   unfolding answer
   refused-by k e z h =
       unless _ _ _ (ne-eqb _ 0 (λ w. z (sym e ∙ w)))
-      ∙ ap (λ (x : ℕ). refuse x (ruleWith x t) (d .unit) (d .mechanics)) e
-      ∙ ap (λ (x : ℕ). refuse k x (d .unit) (d .mechanics)) (sym h)
+      ∙ ap (λ (x : ℕ). refuse x (ruleWith x t) (d .unit) (d .deck)) e
+      ∙ ap (λ (x : ℕ). refuse k x (d .unit) (d .deck)) (sym h)
 
-  refused-plainly : (k : ℕ) → refusalOf d p t n ≡ k → (k ≡ 0 → ⊥) → (k ≡ unfit → ⊥) → answer d p t n ≡ refuse k 0 (d .unit) (d .mechanics)
+  refused-plainly : (k : ℕ) → refusalOf d p t n ≡ k → (k ≡ 0 → ⊥) → (k ≡ unfit → ⊥) → answer d p t n ≡ refuse k 0 (d .unit) (d .deck)
   refused-plainly k e z w = refused-by k e z (ruleWith-none k t w)
 
-  pub answer-1 : (length p ≡ 12 → ⊥) → answer d p t n ≡ refuse notTwelve 0 (d .unit) (d .mechanics)
+  pub answer-1 : (length p ≡ 12 → ⊥) → answer d p t n ≡ refuse notTwelve 0 (d .unit) (d .deck)
   unfolding refusalOf
   answer-1 h = refused-plainly notTwelve (when _ _ _ (ap not (ne-eqb _ _ h))) (λ z. omega arith) (λ z. omega arith)
 
   module _ (a : length p ≡ 12) where
-    pub answer-2 : isKnown (d .unit .sense) ≡ false → answer d p t n ≡ refuse unknownSense 0 (d .unit) (d .mechanics)
+    pub answer-2 : isSound d ≡ false → answer d p t n ≡ refuse unknownState 0 (d .unit) (d .deck)
     unfolding refusalOf
     answer-2 h =
-        refused-plainly unknownSense (unless _ _ _ (ap not (eq-eqb _ _ a)) ∙ when _ _ _ (ap not h)) (λ z. omega arith) (λ z. omega arith)
+        refused-plainly unknownState (unless _ _ _ (ap not (eq-eqb _ _ a)) ∙ when _ _ _ (ap not h)) (λ z. omega arith) (λ z. omega arith)
 
-    module _ (b : isKnown (d .unit .sense) ≡ true) where
-      pub answer-3 : n < bound → answer d p t n ≡ refuse shortMemory 0 (d .unit) (d .mechanics)
+    module _ (b : isSound d ≡ true) where
+      pub answer-3 : n < bound → answer d p t n ≡ refuse shortMemory 0 (d .unit) (d .deck)
       unfolding refusalOf
       answer-3 h =
           refused-plainly shortMemory (unless _ _ _ (ap not (eq-eqb _ _ a)) ∙ unless _ _ _ (ap not b) ∙ when _ _ _ (lt-ltb _ _ h))
           (λ z. omega arith) (λ z. omega arith)
 
       module _ (c : bound ≤ n) where
-        pub answer-4 : isLoaded (d .mechanics) ≡ true → isFit t ≡ false → answer d p t n ≡ refuse unfit (fault t) (d .unit) (d .mechanics)
+        pub answer-4 : isLoaded (d .deck) ≡ true → isFit t ≡ false → answer d p t n ≡ refuse unfit (fault t) (d .unit) (d .deck)
         unfolding refusalOf
         answer-4 h k =
             refused-by unfit
@@ -130,24 +129,24 @@ module _ (d : Drive) (p t : List ℕ) (n : ℕ) where
             (λ z. omega arith) (ruleWith-fault t)
 
         -- none of them: the steps
-        pub answer-steps : (isLoaded (d .mechanics) ≡ true → isFit t ≡ true) → answer d p t n ≡ stepsOf d p t
+        pub answer-steps : (isLoaded (d .deck) ≡ true → isFit t ≡ true) → answer d p t n ≡ stepsOf d p t
         unfolding answer refusalOf
         answer-steps f =
             when _ _ _ (eq-eqb _ _
-            (unless _ _ _ (ap not (eq-eqb _ _ a)) ∙ unless _ _ _ (ap not b) ∙ unless _ _ _ (le-ltb _ _ c) ∙ unless _ _ _ (fits (isLoaded (d .mechanics)) refl)))
+            (unless _ _ _ (ap not (eq-eqb _ _ a)) ∙ unless _ _ _ (ap not b) ∙ unless _ _ _ (le-ltb _ _ c) ∙ unless _ _ _ (fits (isLoaded (d .deck)) refl)))
           where
-            fits : (l : Bool) → isLoaded (d .mechanics) ≡ l → isLoaded (d .mechanics) and not (isFit t) ≡ false
+            fits : (l : Bool) → isLoaded (d .deck) ≡ l → isLoaded (d .deck) and not (isFit t) ≡ false
             fits true e = sym (and-late _ _ (sym (ap not (f e))))
             fits false e = sym (and-off _ _ e)
 
 -- ---- step 2
 
-pub gate-tells : (a : Pending) (u : Unit) (m : Mechanics) (r : Result Mechanics) → pendingOf u ≡ a → (a ≡ Nothing → ⊥) → gate u m r ≡ check (attentionSense a) (told a u) m
+pub gate-tells : (a : Pending) (u : Unit) (m : Deck) (r : Result Deck) → pendingOf u ≡ a → (a ≡ Nothing → ⊥) → gate u m r ≡ check (attentionSense a) (told a u) m
 unfolding gate
 gate-tells Power u m r e n = ap (λ (a : Pending). meet a u m r) e
 gate-tells Change u m r e n = ap (λ (a : Pending). meet a u m r) e
 gate-tells Nothing u m r e n = absurd (n refl)
 
-pub gate-settles : (u : Unit) (m : Mechanics) (r : Result Mechanics) → pendingOf u ≡ Nothing → gate u m r ≡ settle u m r
+pub gate-settles : (u : Unit) (m : Deck) (r : Result Deck) → pendingOf u ≡ Nothing → gate u m r ≡ settle u m r
 unfolding gate
 gate-settles u m r e = ap (λ (a : Pending). meet a u m r) e

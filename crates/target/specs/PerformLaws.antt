@@ -2,32 +2,30 @@
 use mathlib.Core.Path.{_≡_, refl, sym, ap, _∙_}
 use mathlib.Core.Bool.{Bool, true, false, not}
 use mathlib.Core.List.{List, []}
-use Prim.Native.Nat.{ℕ, _+_, _≤_, _<_, min}
+use Prim.Native.Nat.{ℕ, _+_, _≤_, min}
 use native.Mathlib.Omega.{arith}
 use lib.ListN.{length, take, length-take, length-drop}
 use lib.Seq.{take-nil}
-use borrow.Author.Tests.{lt-ltb, le-ltb}
-use Rattle.ground.specs.Tests.{when, unless, either, and-both, and-off, and-late, or-left, or-right, or-else}
+use Rattle.ground.specs.Tests.{when, unless, either, and-both, and-off, and-late}
 use Rattle.disc.specs.declared.disc.Disc.{Disc}
 use Rattle.table.specs.Layout.{bound, header, descriptors}
-use Rattle.disc.specs.Disc.{discOf}
-use Rattle.tracks.specs.Track.{allInData}
 use Rattle.ground.specs.Memory.{Laid, fill, fill-none}
-use Rattle.drive.specs.declared.state.Mechanics.{Mechanics}
+use Rattle.drive.specs.declared.state.Deck.{Deck}
 use Rattle.drive.specs.State.{isLoaded}
 use Rattle.gate.specs.declared.fault.Fault.{Fault}
-use Rattle.gate.specs.declared.fault.Fault.the-variants.{OutOfRange, BadField, IllegalMode}
+use Rattle.gate.specs.declared.fault.Fault.the-variants.{BadField}
 use Rattle.gate.specs.Gate.{Result, fails, goes}
 use Rattle.command.specs.declared.decode.Command.{Command}
 use Rattle.command.specs.declared.done.Done.{Done}
 use Rattle.command.specs.declared.done.Done.the-variants.{Fails, Goes}
-use Rattle.command.specs.Command.{byte, bit0, needsDisc}
+use Rattle.command.specs.Command.{needsDisc}
 use Rattle.command.specs.Tray.{eject, load, startStop, noMedium}
-use Rattle.toc.specs.Answer.{tocBytes, tocBad}
-use Rattle.target.specs.ReadToc.{readToc, formatIn, msfIn, numberIn, lengthIn}
+use Rattle.command.specs.Done.{doneOf, answering, answering-fails, answering-goes}
+use Rattle.blocks.specs.Range.{ranged}
+use Rattle.blocks.specs.Blocks.{seek}
+use Rattle.audio.specs.Audio.{pauseResume}
 use Rattle.target.specs.FitFacts.{ReadOff}
-use Rattle.target.specs.Perform.{written, Performed, inquiryBytes, inquiry, L, over, seek, read, work, perform}
-use Rattle.command.specs.Done.{doneOf}
+use Rattle.target.specs.Perform.{written, Performed, L, work, perform}
 
 -- ---- what the code has in hand
 
@@ -38,7 +36,7 @@ pub record Met (c : Command) (p t : List ℕ) (disc : Disc) (mem : List ℕ) : T
   pub ready : needsDisc c p ≡ true → ReadOff t disc
 
 -- the same before the disc is asked for: a loaded drive's table was read
-pub record Ready (m : Mechanics) (p t : List ℕ) (disc : Disc) (mem : List ℕ) : Type 0 where
+pub record Ready (m : Deck) (p t : List ℕ) (disc : Disc) (mem : List ℕ) : Type 0 where
   pub twelve : length p ≡ 12
   pub room : bound ≤ length mem
   pub ready : isLoaded m ≡ true → ReadOff t disc
@@ -56,101 +54,74 @@ readOff-length {t} r = let l = length-drop header t in let a = r .fits .head in 
 
 -- ---- Performed
 
-pub performed-fails : {r : Result Mechanics} {f : Fault} (m : List ℕ) → r ≡ fails f → Performed r m (Fails f) m
-performed-fails m e = record { outcome = ap doneOf (sym e); memory = sym (fill-none m) ∙ ap (λ (x : Result Mechanics). fill m (written x)) (sym e) }
+pub performed-fails : {r : Result Deck} {f : Fault} (m : List ℕ) → r ≡ fails f → Performed r m (Fails f) m
+performed-fails m e = record { outcome = ap doneOf (sym e); memory = sym (fill-none m) ∙ ap (λ (x : Result Deck). fill m (written x)) (sym e) }
 
 pub performed-goes :
-    {r : Result Mechanics} {next : Mechanics} {loading : Bool} {limit start count n : ℕ} (full : List ℕ) {m m′ : List ℕ}
+    {r : Result Deck} {next : Deck} {loading : Bool} {limit start count n : ℕ} (full : List ℕ) {m m′ : List ℕ}
     → r ≡ goes next loading full limit start count → length full ≤ length m → Laid m (take limit full) n m′
     → Performed r m (Goes (record { next = next; loading = loading; len = n; start = start; count = count })) m′
 performed-goes {r} {next} {loading} {limit} {start} {count} {n} full {m} {m′} e h l =
     let k : n ≡ min limit (length full) = let a = l .count in let b = length-take limit full in omega arith in
     record {
       outcome = rw k (ap doneOf (sym e));
-      memory = l .bytes ∙ ap (λ (x : Result Mechanics). fill m (written x)) (sym e);
+      memory = l .bytes ∙ ap (λ (x : Result Deck). fill m (written x)) (sym e);
     }
 
--- ---- INQUIRY
+-- a command with an answer: a bad field, or the answer laid
+module _ (next : Deck) (full : List ℕ) (limit : ℕ) where
+  pub performed-bad : {bad : Bool} (m : List ℕ) → bad ≡ true → Performed (answering bad next full limit) m (Fails BadField) m
+  performed-bad m h = performed-fails m (answering-fails next full limit h)
 
-pub inquiry-fails : (p : List ℕ) (m : Mechanics) → bit0 (byte p 1) ≡ true → inquiry p m ≡ fails BadField
-unfolding inquiry
-inquiry-fails p m h = when _ _ _ h
-
-pub inquiry-goes : (p : List ℕ) (m : Mechanics) → bit0 (byte p 1) ≡ false → inquiry p m ≡ goes m false inquiryBytes (byte p 4) 0 0
-unfolding inquiry
-inquiry-goes p m h = unless _ _ _ h
-
--- ---- READ TOC
-
-pub readToc-fails : (p : List ℕ) (m : Mechanics) (t : List ℕ) → tocBad (discOf t) (formatIn p) (numberIn p) ≡ true → readToc p m t ≡ fails BadField
-unfolding readToc
-readToc-fails p m t h = when _ _ _ h
-
-pub readToc-goes :
-    (p : List ℕ) (m : Mechanics) (t : List ℕ) → tocBad (discOf t) (formatIn p) (numberIn p) ≡ false
-    → readToc p m t ≡ goes m false (tocBytes (discOf t) (formatIn p) (msfIn p) (numberIn p) (descriptors t)) (lengthIn p) 0 0
-unfolding readToc
-readToc-goes p m t h = unless _ _ _ h
-
--- ---- READ
-
-module _ (a n : ℕ) (m : Mechanics) (t : List ℕ) where
-  pub read-over : over a (L t) ≡ true → read a n m t ≡ fails OutOfRange
-  unfolding read
-  read-over h = when _ _ _ (or-left _ _ h)
-
-  pub read-past : L t < a + n → read a n m t ≡ fails OutOfRange
-  unfolding read
-  read-past h = when _ _ _ (or-right _ _ (lt-ltb _ _ h))
-
-  pub read-goes : over a (L t) ≡ false → a + n ≤ L t → allInData (descriptors t) a n ≡ true → read a n m t ≡ goes m false [] 0 a n
-  unfolding read
-  read-goes h k d = unless _ _ _ (or-else _ _ h ∙ le-ltb _ _ k) ∙ when _ _ _ d
-
-  pub read-mode : over a (L t) ≡ false → a + n ≤ L t → allInData (descriptors t) a n ≡ false → read a n m t ≡ fails IllegalMode
-  unfolding read
-  read-mode h k d = unless _ _ _ (or-else _ _ h ∙ le-ltb _ _ k) ∙ unless _ _ _ d
+  pub performed-answer :
+      {bad : Bool} {n : ℕ} {m m′ : List ℕ} → bad ≡ false → length full ≤ length m → Laid m (take limit full) n m′
+      → Performed (answering bad next full limit) m (Goes (record { next = next; loading = false; len = n; start = 0; count = 0 })) m′
+  performed-answer h = performed-goes full (answering-goes next full limit h)
 
 -- ---- commands that write nothing
 
 -- a result's full answer
-abbrev pub fullOf : Result Mechanics → List ℕ
+abbrev pub fullOf : Result Deck → List ℕ
 fullOf (fails f) = []
 fullOf (goes next loading full limit start count) = full
 
-abbrev pub Quiet : Result Mechanics → Type 0
+abbrev pub Quiet : Result Deck → Type 0
 Quiet r = fullOf r ≡ []
 
-written-quiet : (r : Result Mechanics) → Quiet r → written r ≡ []
+written-quiet : (r : Result Deck) → Quiet r → written r ≡ []
 written-quiet (fails f) q = refl
 written-quiet (goes next loading full limit start count) q = ap (take limit) q ∙ take-nil limit
 
-pub performed-quiet : {r : Result Mechanics} {o : Done} (m : List ℕ) → Quiet r → o ≡ doneOf r → Performed r m o m
+pub performed-quiet : {r : Result Deck} {o : Done} (m : List ℕ) → Quiet r → o ≡ doneOf r → Performed r m o m
 performed-quiet {r} m q e = record { outcome = e; memory = sym (fill-none m) ∙ ap (fill m) (sym (written-quiet r q)) }
 
-pub startStop-quiet : (b : ℕ) (m : Mechanics) → Quiet (startStop b m)
+pub startStop-quiet : (b : ℕ) (m : Deck) → Quiet (startStop b m)
 unfolding startStop load eject
 startStop-quiet b m =
     either Quiet _ (λ h. either Quiet _ (λ k. either Quiet _ (λ o. refl) (λ o. refl)) (λ k. either Quiet _ (λ o. refl) (λ o. either Quiet _ (λ l. refl) (λ l. refl)))) (λ h. refl)
 
-pub seek-quiet : (a : ℕ) (m : Mechanics) (l : ℕ) → Quiet (seek a m l)
+pub seek-quiet : (a l : ℕ) (m : Deck) → Quiet (seek a l m)
 unfolding seek
-seek-quiet a m l = either Quiet _ (λ h. refl) (λ h. refl)
+seek-quiet a l m = either Quiet _ (λ h. refl) (λ h. refl)
 
-pub read-quiet : (a n : ℕ) (m : Mechanics) (t : List ℕ) → Quiet (read a n m t)
-unfolding read
-read-quiet a n m t = either Quiet _ (λ h. refl) (λ h. either Quiet _ (λ k. refl) (λ k. refl))
+pub ranged-quiet : (all : Bool) (a n l : ℕ) (r : Result Deck) → Quiet r → Quiet (ranged all a n l r)
+unfolding ranged
+ranged-quiet all a n l r q = either Quiet _ (λ h. either Quiet _ (λ k. q) (λ k. refl)) (λ h. refl)
+
+pub pauseResume-quiet : (resume : Bool) (m : Deck) → Quiet (pauseResume resume m)
+unfolding pauseResume
+pauseResume-quiet resume m = either Quiet _ (λ h. refl) (λ h. refl)
 
 -- ---- steps 3 and 4
 
-pub perform-empty : (c : Command) (p : List ℕ) (m : Mechanics) (t : List ℕ) → needsDisc c p ≡ true → isLoaded m ≡ false → perform c p m t ≡ fails (noMedium m)
+pub perform-empty : (c : Command) (p : List ℕ) (m : Deck) (t : List ℕ) → needsDisc c p ≡ true → isLoaded m ≡ false → perform c p m t ≡ fails (noMedium m)
 unfolding perform
 perform-empty c p m t h k = when _ _ _ (and-both _ _ h (ap not k))
 
-pub perform-loaded : (c : Command) (p : List ℕ) (m : Mechanics) (t : List ℕ) → isLoaded m ≡ true → perform c p m t ≡ work c p m t
+pub perform-loaded : (c : Command) (p : List ℕ) (m : Deck) (t : List ℕ) → isLoaded m ≡ true → perform c p m t ≡ work c p m t
 unfolding perform
 perform-loaded c p m t k = unless _ _ _ (sym (and-late _ _ (sym (ap not k))))
 
-pub perform-free : (c : Command) (p : List ℕ) (m : Mechanics) (t : List ℕ) → needsDisc c p ≡ false → perform c p m t ≡ work c p m t
+pub perform-free : (c : Command) (p : List ℕ) (m : Deck) (t : List ℕ) → needsDisc c p ≡ false → perform c p m t ≡ work c p m t
 unfolding perform
 perform-free c p m t h = unless _ _ _ (sym (and-off _ _ h))

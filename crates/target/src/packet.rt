@@ -8,9 +8,8 @@ use disc::disc::Disc;
 use disc::disc::Reading;
 use disc::disc::read;
 use disc::part::UNFIT;
-use drive::sense::is_known;
 use drive::state::Drive;
-use drive::state::UNKNOWN_SENSE;
+use drive::state::UNKNOWN_STATE;
 use gate::unit::Pending;
 use gate::unit::clear;
 use gate::unit::first_pending;
@@ -28,7 +27,7 @@ ghost use mathlib.Core.Path.{_≡_};
 ghost use mathlib.Core.Bool.{true};
 ghost use Prim.Native.Nat.{_≤_};
 ghost use lib.ListN.{length};
-ghost use Rattle.drive.specs.Sense.{isKnown};
+ghost use Rattle.drive.specs.State.{isSound};
 ghost use Rattle.table.specs.Layout.{bound};
 ghost use Rattle.gate.specs.Gate.{requestSense, pass, gate};
 ghost use Rattle.target.specs.Perform.{perform};
@@ -45,48 +44,48 @@ pub const SHORT_MEMORY: u8 = 3;
 // REQUEST SENSE: the 18 bytes, cut to the length asked for.
 fn ask_sense(d: Drive, limit: usize, mem: &mut [u8]) -> Outcome
     requires { ⌜ bound ≤ length (now mem) ⌝ }
-    ensures { λ r. ⌜ Answered (requestSense limit (d .unit) (d .mechanics)) (now (mem .entry)) r (now (mem .exit)) ⌝ }
+    ensures { λ r. ⌜ Answered (requestSense limit (d .unit) (d .deck)) (now (mem .entry)) r (now (mem .exit)) ⌝ }
 {
-    let mechanics = d.mechanics;
+    let deck = d.deck;
     let g = give(d.unit);
     let unit = g.unit;
     let full = sense_bytes(g.sense);
     let len = put_cut(&full, limit, mem);
-    good(len, 0, 0, unit, mechanics)
+    good(len, 0, 0, unit, deck)
 }
 
 // Step 1: performed even with an attention pending; GOOD leaves the sense.
 fn passed(d: Drive, c: Command, p: &[u8], t: &[u8], disc: Disc, mem: &mut [u8]) -> Outcome
-    requires { ⌜ Ready (d .mechanics) (now p) (now t) disc (now mem) ⌝ }
-    ensures { λ r. ⌜ Answered (pass (d .unit) (d .mechanics) (perform c (now (p .entry)) (d .mechanics) (now (t .entry)))) (now (mem .entry)) r (now (mem .exit)) ⌝ }
+    requires { ⌜ Ready (d .deck) (now p) (now t) disc (now mem) ⌝ }
+    ensures { λ r. ⌜ Answered (pass (d .unit) (d .deck) (perform c (now (p .entry)) (d .deck) (now (t .entry)))) (now (mem .entry)) r (now (mem .exit)) ⌝ }
 {
     let unit = d.unit;
-    let mechanics = d.mechanics;
-    let done = perform(c, p, mechanics, t, disc, mem);
-    finish(unit, unit, mechanics, done)
+    let deck = d.deck;
+    let done = perform(c, p, deck, t, disc, mem);
+    finish(unit, unit, deck, done)
 }
 
 // Step 2: a pending attention is told, power first; with none the command is performed.
 fn gated(d: Drive, c: Command, p: &[u8], t: &[u8], disc: Disc, mem: &mut [u8]) -> Outcome
-    requires { ⌜ Ready (d .mechanics) (now p) (now t) disc (now mem) ⌝ }
-    ensures { λ r. ⌜ Answered (gate (d .unit) (d .mechanics) (perform c (now (p .entry)) (d .mechanics) (now (t .entry)))) (now (mem .entry)) r (now (mem .exit)) ⌝ }
+    requires { ⌜ Ready (d .deck) (now p) (now t) disc (now mem) ⌝ }
+    ensures { λ r. ⌜ Answered (gate (d .unit) (d .deck) (perform c (now (p .entry)) (d .deck) (now (t .entry)))) (now (mem .entry)) r (now (mem .exit)) ⌝ }
 {
     let unit = d.unit;
-    let mechanics = d.mechanics;
+    let deck = d.deck;
     let a = first_pending(unit);
     match a {
-        Pending::Power => tell(a, unit, mechanics),
-        Pending::Change => tell(a, unit, mechanics),
+        Pending::Power => tell(a, unit, deck),
+        Pending::Change => tell(a, unit, deck),
         Pending::Nothing => {
-            let done = perform(c, p, mechanics, t, disc, mem);
-            finish(unit, clear(unit), mechanics, done)
+            let done = perform(c, p, deck, t, disc, mem);
+            finish(unit, clear(unit), deck, done)
         }
     }
 }
 
 // The steps, by how the command meets a pending attention.
 fn steps(d: Drive, p: &[u8], t: &[u8], disc: Disc, mem: &mut [u8]) -> Outcome
-    requires { ⌜ Ready (d .mechanics) (now p) (now t) disc (now mem) ⌝ }
+    requires { ⌜ Ready (d .deck) (now p) (now t) disc (now mem) ⌝ }
     ensures { λ r. ⌜ Answered (stepsOf d (now (p .entry)) (now (t .entry))) (now (mem .entry)) r (now (mem .exit)) ⌝ }
 {
     let c = decode(p[0]);
@@ -115,10 +114,10 @@ fn unread() -> Disc
 
 // Refusal 4, with the broken rule: a loaded drive's table is read first.
 fn meet(d: Drive, p: &[u8], t: &[u8], mem: &mut [u8]) -> Outcome
-    requires { ⌜ (length (now p) ≡ 12) × (isKnown (d .unit .sense) ≡ true) × (bound ≤ length (now mem)) ⌝ }
+    requires { ⌜ (length (now p) ≡ 12) × (isSound d ≡ true) × (bound ≤ length (now mem)) ⌝ }
     ensures { λ r. ⌜ Answered (answer d (now (p .entry)) (now (t .entry)) (length (now (mem .entry)))) (now (mem .entry)) r (now (mem .exit)) ⌝ }
 {
-    if d.mechanics.is_loaded() {
+    if d.deck.is_loaded() {
         return match read(t) {
             Reading::Fit(disc) => steps(d, p, t, disc, mem),
             Reading::Unfit(rule) => refuse(UNFIT, rule, d),
@@ -132,13 +131,13 @@ pub fn packet(d: Drive, p: &[u8], t: &[u8], mem: &mut [u8]) -> Outcome
     ensures { λ r. ⌜ Answered (answer d (now (p .entry)) (now (t .entry)) (length (now (mem .entry)))) (now (mem .entry)) r (now (mem .exit)) ⌝ }
 {
     if p.len() == 12 {
-        if is_known(d.unit.sense) {
+        if d.is_sound() {
             if mem.len() < BOUND {
                 return refuse(SHORT_MEMORY, 0, d);
             }
             return meet(d, p, t, mem);
         }
-        return refuse(UNKNOWN_SENSE, 0, d);
+        return refuse(UNKNOWN_STATE, 0, d);
     }
     refuse(NOT_TWELVE, 0, d)
 }

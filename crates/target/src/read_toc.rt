@@ -3,7 +3,7 @@ use command::done::Done;
 use command::done::Went;
 use command::field::bit1;
 use disc::disc::Disc;
-use drive::state::Mechanics;
+use drive::state::Deck;
 use gate::fault::Fault;
 use ground::number::wide;
 use ground::number::word16;
@@ -32,7 +32,7 @@ fn toc_ask(p: &[u8]) -> TocAsk
 }
 
 // READ TOC, of a fit table.
-pub(crate) fn read_toc(p: &[u8], m: Mechanics, t: &[u8], disc: Disc, mem: &mut [u8]) -> Done
+pub(crate) fn read_toc(p: &[u8], m: Deck, t: &[u8], disc: Disc, mem: &mut [u8]) -> Done
     requires { ⌜ ReadOff (now t) disc × (length (now p) ≡ 12) × (bound ≤ length (now mem)) ⌝ }
     ensures { λ r. ⌜ Performed (readToc (now (p .entry)) m (now (t .entry))) (now (mem .entry)) r (now (mem .exit)) ⌝ }
 {

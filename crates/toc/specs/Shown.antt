@@ -4,14 +4,9 @@ use mathlib.Core.Bool.{Bool}
 use mathlib.Core.List.{List, [], _∷_, _++_}
 use lib.Dec.{leb}
 use Rattle.ground.specs.Tests.{_and_, if_then_else_}
-use Rattle.ground.specs.Number.{bytes32}
-use Rattle.address.specs.Address.{toMsf}
+use Rattle.address.specs.Shown.{shownAddress}
 use Rattle.table.specs.Layout.{flagsAt, pointAt, isTrack}
 use Rattle.table.specs.Row.{addressAt}
-
--- "address (4 bytes, or 0 M S F)"
-unfoldable pub shownAddress : Bool → ℕ → List ℕ
-shownAddress msf a = if msf then 0 ∷ toMsf a .minute ∷ toMsf a .second ∷ toMsf a .frame ∷ [] else bytes32 a
 
 -- "0, ADR/control, number, 0, address"
 abbrev pub described : Bool → ℕ → ℕ → ℕ → List ℕ

@@ -12,18 +12,13 @@ use Rattle.table.specs.Layout.{row, flagsAt, pointAt}
 use Rattle.table.specs.Row.{addressAt}
 use Rattle.toc.specs.declared.shown.Show.{Show}
 use Rattle.toc.specs.declared.shown.Show.the-variants.{Tracks, Whole}
-use Rattle.toc.specs.Shown.{shownAddress, described, describedRow, isShown, shownTrack, shownTracks}
+use Rattle.address.specs.Shown.{shownAddress, shownAddress-length}
+use Rattle.toc.specs.Shown.{described, describedRow, isShown, shownTrack, shownTracks}
 
 -- how many of the first descriptors are shown
 unfoldable pub shownCount : ℕ → List ℕ → ℕ → ℕ
 shownCount n d zero = 0
 shownCount n d (suc j) = if isShown n d j then shownCount n d j + 1 else shownCount n d j
-
--- ---- shownAddress
-
-pub shownAddress-length : (msf : Bool) (a : ℕ) → length (shownAddress msf a) ≡ 4
-unfolding shownAddress
-shownAddress-length msf a = either (λ (l : List ℕ). length l ≡ 4) msf (λ h. refl) (λ h. refl)
 
 -- ---- shownTracks
 
@@ -76,15 +71,6 @@ shownCount-within n d zero = omega arith
 shownCount-within n d (suc j) =
     let h = shownCount-within n d j in
     either (λ (k : ℕ). k ≤ suc j) (isShown n d j) (λ e. omega arith) (λ e. omega arith)
-
--- a list of four is its elements
-pub four : (l : List ℕ) → length l ≡ 4 → getD l 0 0 ∷ getD l 1 0 ∷ getD l 2 0 ∷ getD l 3 0 ∷ [] ≡ l
-four [] h = absurd (omega arith)
-four (a ∷ []) h = absurd (omega arith)
-four (a ∷ b ∷ []) h = absurd (omega arith)
-four (a ∷ b ∷ c ∷ []) h = absurd (omega arith)
-four (a ∷ b ∷ c ∷ d ∷ []) h = refl
-four (a ∷ b ∷ c ∷ d ∷ e ∷ l) h = absurd (omega arith)
 
 -- ---- what is shown of each descriptor, one after the other
 

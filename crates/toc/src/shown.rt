@@ -1,10 +1,8 @@
 // What is shown of the table's descriptors, laid into the response memory: each descriptor into the part that begins where the one
 // before ended.
-use address::Msf;
 use address::address_of;
-use address::to_msf;
+use address::shown::shown_address;
 use ground::memory::copy_front;
-use ground::number::bytes32;
 use ground::number::wide;
 use table::layout::FLAGS;
 use table::layout::PFRAME;
@@ -18,30 +16,13 @@ ghost use Prim.Native.Nat.{_+_, _*_, _≤_};
 ghost use lib.ListN.{length, take, drop};
 ghost use Rattle.ground.specs.Memory.{Laid};
 ghost use Rattle.table.specs.Layout.{row, rows};
-ghost use Rattle.toc.specs.Shown.{shownAddress, described, isShown, describedRow, shownTrack};
+ghost use Rattle.toc.specs.Shown.{described, isShown, describedRow, shownTrack};
 ghost use Rattle.toc.specs.ShownLaws.{shown, listed, shownCount};
 
 // What is shown of the table's descriptors: eight bytes for each track numbered `from` or more, or each descriptor whole.
 pub enum Show {
     Tracks { msf: bool, from: u8 },
     Whole,
-}
-
-// An address: four bytes, or 0 M S F.
-fn shown_address(msf: bool, a: usize) -> [u8; 4]
-    ensures { λ r. ⌜ r ≡ shownAddress msf a ⌝ }
-{
-    if msf {
-        return match to_msf(a) {
-            Msf::At {
-                minute,
-                second,
-                frame,
-            } => [0, minute, second, frame],
-            Msf::Refused => [0, 0, 0, 0],
-        };
-    }
-    bytes32(a)
 }
 
 // A descriptor of eight bytes, laid into the rest of the response.

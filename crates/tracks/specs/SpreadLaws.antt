@@ -14,7 +14,8 @@ use Rattle.sessions.specs.SessionLaws.{rowsBefore}
 use Rattle.disc.specs.Rules.{leadOut, trackStart}
 use Rattle.disc.specs.RulesLaws.{Fit, fit-session}
 use Rattle.disc.specs.FitLaws.{pointAt-session, addressAt-session, Place, Kind, isA0, isA1, isA2, isTrackAfter, isB0, isC0, fit-locate, fit-listed, fit-kind, fit-rises, fit-apart}
-use Rattle.tracks.specs.Track.{outAt, allInData, runIsData}
+use Rattle.tracks.specs.Track.{outAt, allIn, runIs}
+use Rattle.tracks.specs.declared.track.Mode.{Mode}
 use Rattle.tracks.specs.TrackLaws.{nextOut-here, nextOut-on, outAt-next}
 use Rattle.tracks.specs.RunLaws.{Spread, run-agrees}
 
@@ -188,6 +189,6 @@ module _ {t : List ℕ} (f : Fit t) where
     clear = λ i j l g h k. row-clear (fit-track-row i l h) (fit-lead-row j g k);
   }
 
-  -- of a fit table the run test is that every one of the n blocks from a on lies in a data track
-  pub fit-run-agrees : (a n : ℕ) → runIsData (descriptors t) a n ≡ allInData (descriptors t) a n
-  fit-run-agrees = run-agrees (descriptors t) fit-spread
+  -- of a fit table the run test is that every one of the n blocks from a on lies in a track of the mode
+  pub fit-run-agrees : (mode : Mode) (a n : ℕ) → runIs mode (descriptors t) a n ≡ allIn mode (descriptors t) a n
+  fit-run-agrees mode = run-agrees mode (descriptors t) fit-spread

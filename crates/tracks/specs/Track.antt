@@ -7,12 +7,19 @@ use Rattle.ground.specs.Tests.{_and_, _or_, every, if_then_else_}
 use Rattle.table.specs.Layout.{rows, flagsAt, pointAt, A2, isTrack}
 use Rattle.table.specs.Row.{addressAt}
 use Rattle.tracks.specs.declared.track.Track.{Track}
+use Rattle.tracks.specs.declared.track.Mode.{Mode}
+use Rattle.tracks.specs.declared.track.Mode.the-variants.{Data, Audio}
 use Rattle.tracks.specs.declared.track.Ask.{Ask}
 use Rattle.tracks.specs.declared.track.Ask.the-variants.{Block, Number}
 
 -- "A track is data if control bit 2 (value 4) is set."
 abbrev pub isData : ℕ → Bool
 isData flags = eqb (flags / 4 % 2) 1
+
+-- ADR/control of that mode; K2: "audio in place of data"
+abbrev pub flagged : Mode → ℕ → Bool
+flagged Data flags = isData flags
+flagged Audio flags = not (isData flags)
 
 -- descriptor j as a track: its number, ADR/control and start, where out is the lead-out of its session
 abbrev pub trackWith : List ℕ → ℕ → ℕ → Track
@@ -61,25 +68,29 @@ trackOf d b = if ltb b (found (Block b) d (rows d) .out) then found (Block b) d 
 unfoldable pub trackNumbered : List ℕ → ℕ → Track
 trackNumbered d n = found (Number n) d (rows d)
 
--- the block lies in a data track
-unfoldable pub inData : List ℕ → ℕ → Bool
-inData d b = isData (trackOf d b .flags)
+-- a track of that mode: no track (number 0) is of neither
+unfoldable pub isMode : Mode → Track → Bool
+isMode mode u = isTrack (u .number) and flagged mode (u .flags)
 
--- every block of the n from a on lies in a data track
-unfoldable pub allInData : List ℕ → ℕ → ℕ → Bool
-allInData d a n = every n (λ i. inData d (a + i))
+-- the block lies in a track of that mode
+unfoldable pub inMode : Mode → List ℕ → ℕ → Bool
+inMode mode d b = isMode mode (trackOf d b)
 
--- descriptor c lets the run from a up to e pass: a track that starts within it is data, and no lead-out stands within it
-unfoldable pub passes : Track → ℕ → ℕ → Bool
-passes c a e =
+-- every block of the n from a on lies in a track of that mode
+unfoldable pub allIn : Mode → List ℕ → ℕ → ℕ → Bool
+allIn mode d a n = every n (λ i. inMode mode d (a + i))
+
+-- descriptor c lets the run from a up to e pass: a track that starts within it is of that mode, and no lead-out stands within it
+unfoldable pub passes : Mode → Track → ℕ → ℕ → Bool
+passes mode c a e =
     if leb a (c .start) and ltb (c .start) e
-    then (if isTrack (c .number) then isData (c .flags) else not (eqb (c .number) A2))
+    then (if isTrack (c .number) then flagged mode (c .flags) else not (eqb (c .number) A2))
     else true
 
 -- every descriptor does
-abbrev pub allPass : List ℕ → ℕ → ℕ → Bool
-allPass d a e = every (rows d) (λ j. passes (trackAt d j) a e)
+abbrev pub allPass : Mode → List ℕ → ℕ → ℕ → Bool
+allPass mode d a e = every (rows d) (λ j. passes mode (trackAt d j) a e)
 
--- the same without going from block to block: the first block lies in a data track, and every descriptor lets the run pass
-unfoldable pub runIsData : List ℕ → ℕ → ℕ → Bool
-runIsData d a n = eqb n 0 or (inData d a and allPass d a (a + n))
+-- the same without going from block to block: the first block lies in a track of that mode, and every descriptor lets the run pass
+unfoldable pub runIs : Mode → List ℕ → ℕ → ℕ → Bool
+runIs mode d a n = eqb n 0 or (inMode mode d a and allPass mode d a (a + n))

@@ -14,7 +14,7 @@ ghost use mathlib.Core.Path.{_≡_};
 ghost use Prim.Native.Nat.{_+_, _*_, _≤_};
 ghost use lib.ListN.{length};
 ghost use Rattle.table.specs.Layout.{row, rows, descriptors};
-ghost use Rattle.tracks.specs.Track.{isData, covers, wanted, trackWith, nextOut, nextFound, found, trackOf, trackNumbered, noTrack};
+ghost use Rattle.tracks.specs.Track.{isData, flagged, isMode, covers, wanted, trackWith, nextOut, nextFound, found, trackOf, trackNumbered, noTrack};
 
 // A track: its number, ADR/control, start, and its session's lead-out. Number 0 is no track.
 pub struct Track {
@@ -22,6 +22,12 @@ pub struct Track {
     pub flags: u8,
     pub start: usize,
     pub out: usize,
+}
+
+// The mode of a track.
+pub enum Mode {
+    Data,
+    Audio,
 }
 
 // What a track is asked for by.
@@ -46,6 +52,26 @@ pub fn is_data(flags: u8) -> bool
     ensures { λ r. ⌜ r ≡ isData flags ⌝ }
 {
     wide(flags) / 4 % 2 == 1
+}
+
+// ADR/control of that mode.
+pub(crate) fn is_flagged(mode: Mode, flags: u8) -> bool
+    ensures { λ r. ⌜ r ≡ flagged mode flags ⌝ }
+{
+    match mode {
+        Mode::Data => is_data(flags),
+        Mode::Audio => !is_data(flags),
+    }
+}
+
+// A track of that mode; no track is of neither.
+pub fn is_mode(mode: Mode, u: Track) -> bool
+    ensures { λ r. ⌜ r ≡ isMode mode u ⌝ }
+{
+    if is_track(wide(u.number)) {
+        return is_flagged(mode, u.flags);
+    }
+    false
 }
 
 // Descriptor j as a track, where `out` is the lead-out of its session.

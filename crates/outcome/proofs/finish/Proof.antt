@@ -10,13 +10,13 @@ returns : tie.Need-returns
 returns c =
     let x = c .before .before .before .before .before .args in
     c .check .ensures
-    ∙ ap (λ (s : Sense). checked s (x .u) (x .mechanics)) (c .before .sense-of .ensures)
-    ∙ sym (ap (finished (x .u) (x .v) (x .mechanics)) (c .before .before .before .done .given .1))
+    ∙ ap (λ (s : Sense). checked s (x .u) (x .deck)) (c .before .sense-of .ensures)
+    ∙ sym (ap (finished (x .u) (x .v) (x .deck)) (c .before .before .before .done .given .1))
 
 returns-2 : tie.Need-returns-2
 returns-2 c =
     let x = c .before .before .before .before .before .before .args in
-    let e = sym (ap (finished (x .u) (x .v) (x .mechanics)) (c .before .before .before .before .done2 .given .1)) in
+    let e = sym (ap (finished (x .u) (x .v) (x .deck)) (c .before .before .before .before .done2 .given .1)) in
     (rw (c .before .attend .ensures) at (c .good2 .ensures)) ∙ e
 
 pub finish-spec : {M : Type 1} → statement M

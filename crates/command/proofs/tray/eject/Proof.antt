@@ -10,7 +10,7 @@ use Rattle.command.proofs.tray.eject.Tie as tie
 
 returns : tie.Need-returns
 unfolding eject
-returns c = c .done .ensures ∙ ap doneOf (sym (when _ _ _ (c .before .if1 .taken)))
+returns c = c .done-with .ensures ∙ ap doneOf (sym (when _ _ _ (c .before .if1 .taken)))
 
 returns-2 : tie.Need-returns-2
 unfolding eject

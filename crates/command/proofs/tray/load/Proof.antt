@@ -14,7 +14,7 @@ returns c = c .moving .ensures ∙ ap (λ (s : Shifted). doneOf (moving s)) (c .
 
 returns-2 : tie.Need-returns-2
 unfolding load
-returns-2 c = c .done .ensures ∙ ap doneOf (sym (unless _ _ _ (c .before .if1 .left)))
+returns-2 c = c .done-with .ensures ∙ ap doneOf (sym (unless _ _ _ (c .before .if1 .left)))
 
 pub load-spec : {M : Type 1} → statement M
 load-spec = tie.close (tie.spec (λ c κs. search needs) (λ c κs. search needs) returns (λ c κs. search needs) returns-2)

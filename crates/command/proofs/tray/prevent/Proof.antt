@@ -1,16 +1,15 @@
 -- `command::tray::prevent` meets its contract: the lock that is set is the byte's bit 0.
 use mathlib.Core.Path.{ap, _∙_}
-use Rattle.drive.specs.declared.state.Mechanics.{Mechanics}
+use Rattle.drive.specs.declared.state.Deck.{Deck}
 use Rattle.drive.specs.State.{withLock}
-use Rattle.command.specs.Done.{doneOf}
-use Rattle.command.specs.Tray.{done}
+use Rattle.command.specs.Done.{done, doneOf}
 use borrow.Author.Needs.{needs}
 use Rattle.command.proofs.tray.prevent.Statement.{statement}
 use Rattle.command.proofs.tray.prevent.Tie as tie
 
 returns : tie.Need-returns
 returns c = let l = c .before .with-lock .ensures ∙ ap (withLock (c .before .before .before .args .m)) (c .before .before .bit0 .ensures) in
-    c .done .ensures ∙ ap (λ (k : Mechanics). doneOf (done k)) l
+    c .done-with .ensures ∙ ap (λ (k : Deck). doneOf (done k)) l
 
 pub prevent-spec : {M : Type 1} → statement M
 prevent-spec = tie.close (tie.spec (λ c κs. search needs) (λ c κs. search needs) (λ c κs. search needs) returns)

@@ -17,7 +17,7 @@ returns-2 c = c .eject .ensures ∙ ap doneOf (sym (when _ _ _ (sym (c .before .
 
 returns-3 : tie.Need-returns-3
 unfolding startStop
-returns-3 c = c .done .ensures ∙ ap doneOf (sym (unless _ _ _ (sym (c .before .before .bit1 .ensures) ∙ c .before .if1 .left)))
+returns-3 c = c .done-with .ensures ∙ ap doneOf (sym (unless _ _ _ (sym (c .before .before .bit1 .ensures) ∙ c .before .if1 .left)))
 
 pub start-stop-spec : {M : Type 1} → statement M
 start-stop-spec =

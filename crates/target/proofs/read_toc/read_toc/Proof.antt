@@ -10,7 +10,7 @@ use Rattle.toc.specs.declared.answer.TocAsk.{TocAsk}
 use Rattle.toc.specs.Answer.{tocBad}
 use Rattle.toc.specs.AnswerLaws.{tocBytes-within}
 use Rattle.target.specs.ReadToc.{formatIn, msfIn, numberIn}
-use Rattle.target.specs.PerformLaws.{performed-fails, performed-goes, readOff-length, readToc-fails, readToc-goes}
+use Rattle.target.specs.PerformLaws.{performed-bad, performed-answer, readOff-length}
 use borrow.Author.Needs.{needs}
 use Rattle.target.proofs.read_toc.read_toc.Statement.{statement}
 use Rattle.target.proofs.read_toc.read_toc.Tie as tie
@@ -26,7 +26,7 @@ told c =
     ∙ ap (λ (d : Disc). tocBad d (formatIn (now (x .p))) (numberIn (now (x .p)))) (c .before .before .before .before .before .pre .0 .same)
 
 returns : tie.Need-returns
-returns c = performed-fails _ (readToc-fails _ _ _ (sym (told (c .before)) ∙ c .if1 .taken))
+returns c = performed-bad _ _ _ _ (sym (told (c .before)) ∙ c .if1 .taken)
 
 sub-put-toc : tie.Need-sub-put-toc
 sub-put-toc c = let h = c .before .before .before .before .before .before .pre .0 .fits .head in search needs
@@ -38,7 +38,7 @@ returns-2 : tie.Need-returns-2
 returns-2 c = let x = c .before .before .before .before .before .before .before .before .before .before .before .before .before .before .args in
     let q = c .before .before .before .before .before .before .before .before .before .before .before .before .before .before .pre in
     let w = tocBytes-within (discOf (now (x .t))) (formatIn (now (x .p))) (msfIn (now (x .p))) (numberIn (now (x .p))) (descriptors (now (x .t))) (readOff-length (q .0)) in
-    performed-goes _ (readToc-goes _ _ _ (sym (told (c .before .before .before .before .before .before .before .before .before)) ∙ c .before .before .before .before .before .before .before .before .if1 .left)) (let b = q .2 in omega arith)
+    performed-answer _ _ _ (sym (told (c .before .before .before .before .before .before .before .before .before)) ∙ c .before .before .before .before .before .before .before .before .if1 .left) (let b = q .2 in omega arith)
     (rw (c .before .before .before .before .before .before .before .before .before .before .toc-ask .ensures, c .before .before .before .before .word16 .ensures, q .0 .same, rest-all 4 (now (x .t))) at (c .before .before .put-toc .ensures))
 
 pub read-toc-spec : {M : Type 1} → statement M

@@ -1,6 +1,6 @@
 -- `toc::shown::put_described` meets its contract: the eight bytes copied are the descriptor's, the address's four among them.
-use Rattle.toc.specs.Shown.{shownAddress}
-use Rattle.toc.specs.ShownLaws.{four, shownAddress-length}
+use Rattle.address.specs.Shown.{shownAddress, shownAddress-length}
+use Rattle.ground.specs.Number.{four}
 use borrow.Author.Needs.{needs}
 use Rattle.toc.proofs.shown.put_described.Statement.{statement}
 use Rattle.toc.proofs.shown.put_described.Tie as tie

@@ -1,4 +1,4 @@
--- `drive::state::Drive::shift` meets its contract: the unit is what `attend` gives, the mechanics those of the tray's move.
+-- `drive::state::Drive::shift` meets its contract: the unit is what `attend` gives, the deck that of the tray's move.
 use borrow.Author.Needs.{needs}
 use Rattle.drive.proofs.state.Drive.shift.Statement.{statement}
 use Rattle.drive.proofs.state.Drive.shift.Tie as tie

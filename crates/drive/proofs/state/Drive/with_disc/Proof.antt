@@ -1,4 +1,4 @@
--- `drive::state::Drive::with_disc` meets its contract: the mechanics are what their own `with_disc` gives.
+-- `drive::state::Drive::with_disc` meets its contract: the deck is what its own `with_disc` gives.
 use borrow.Author.Needs.{needs}
 use Rattle.drive.proofs.state.Drive.with_disc.Statement.{statement}
 use Rattle.drive.proofs.state.Drive.with_disc.Tie as tie

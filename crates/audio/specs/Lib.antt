@@ -1,0 +1,4 @@
+pub mod Audio
+pub mod AudioLaws
+pub mod SubChannel
+pub mod SubChannelLaws

@@ -1,0 +1,3 @@
+pub mod Range
+pub mod RangeLaws
+pub mod Blocks

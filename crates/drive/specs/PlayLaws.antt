@@ -1,0 +1,69 @@
+-- The laws of the play record: what moving on does in each case, and that it stays a record that refusal 2 does not meet.
+use mathlib.Core.Path.{_≡_, refl, sym, ap, _∙_}
+use mathlib.Core.Bool.{Bool, true, false}
+use Prim.Native.Nat.{ℕ, _+_, _-_, _≤_, _<_, min}
+use native.Mathlib.Omega.{arith}
+use lib.Dec.{eqb, leb}
+use borrow.Author.Tests.{eq-eqb, ne-eqb, le-leb, leb-true}
+use Rattle.ground.specs.Tests.{_and_, _or_, when, unless, either, and-head, and-tail, and-both}
+use Rattle.address.specs.Address.{last}
+use Rattle.drive.specs.declared.play.Play.{Play}
+use Rattle.drive.specs.Play.{playing, completed, playOf, noPlay, withStatus, isStatus, isPlay, onward, movedOn}
+
+-- ---- what refusal 2 does not meet
+
+-- the three tests
+pub record Sound (r : Play) : Type 0 where
+  pub status : isStatus (r .status) ≡ true
+  pub within : r .position ≤ r .end
+  pub most : r .end ≤ last
+
+pub isPlay-sound : (r : Play) → isPlay r ≡ true → Sound r
+unfolding isPlay
+isPlay-sound r h =
+    let t = and-tail _ _ h in
+    record { status = and-head _ _ h; within = leb-true _ _ (and-head _ _ t); most = leb-true _ _ (and-tail _ _ t) }
+
+pub sound-isPlay : {r : Play} → Sound r → isPlay r ≡ true
+unfolding isPlay
+sound-isPlay s = and-both _ _ (s .status) (and-both _ _ (le-leb _ _ (s .within)) (le-leb _ _ (s .most)))
+
+pub noPlay-sound : Sound noPlay
+unfolding isStatus _or_
+noPlay-sound = record { status = refl; within = omega arith; most = omega arith }
+
+pub withStatus-sound : {r : Play} (s : ℕ) → isStatus s ≡ true → Sound r → Sound (withStatus r s)
+withStatus-sound s h k = record { status = h; within = k .within; most = k .most }
+
+-- ---- moving on
+
+module _ (k : ℕ) (r : Play) where
+  pub movedOn-other : (r .status ≡ playing → ⊥) → movedOn k r ≡ r
+  unfolding movedOn
+  movedOn-other h = unless _ _ _ (ne-eqb _ _ h)
+
+  module _ (p : r .status ≡ playing) where
+    pub movedOn-on : r .position + k < r .end → movedOn k r ≡ playOf playing (r .position + k) (r .end)
+    unfolding movedOn
+    movedOn-on h =
+        let e : onward k r ≡ r .position + k = omega arith in
+        when _ _ _ (eq-eqb _ _ p)
+        ∙ rw (unless (eqb (onward k r) (r .end)) completed playing (ne-eqb (onward k r) (r .end) (λ q. omega arith)), e)
+
+    pub movedOn-ends : r .end ≤ r .position + k → movedOn k r ≡ playOf completed (r .end) (r .end)
+    unfolding movedOn
+    movedOn-ends h =
+        let e : onward k r ≡ r .end = omega arith in
+        when _ _ _ (eq-eqb _ _ p)
+        ∙ rw (when (eqb (onward k r) (r .end)) completed playing (eq-eqb _ _ e), e)
+
+pub movedOn-sound : (k : ℕ) (r : Play) → Sound r → Sound (movedOn k r)
+unfolding movedOn isStatus _or_
+movedOn-sound k r s =
+    either Sound (eqb (r .status) playing)
+    (λ h. record {
+      status = either (λ x. isStatus x ≡ true) (eqb (onward k r) (r .end)) (λ e. refl) (λ e. refl);
+      within = let w = s .within in omega arith;
+      most = s .most;
+    })
+    (λ h. s)
