@@ -58,21 +58,25 @@ withPlay m r = record { «tray_open» = m .«tray_open»; «disc_in» = m .«dis
 abbrev pub shift : Drive → Shifted → Drive
 shift d s = record { unit = attend (s .loading) (d .unit); deck = s .deck }
 
+-- the state with that deck
+abbrev pub withDeck : Drive → Deck → Drive
+withDeck d m = record { unit = d .unit; deck = m }
+
 -- the state with a disc laid or lifted
 abbrev pub holding : Drive → Bool → Drive
-holding d b = record { unit = d .unit; deck = withDisc (d .deck) b }
+holding d b = withDeck d (withDisc (d .deck) b)
 
 -- the state with that play record
 abbrev pub showing : Drive → Play → Drive
-showing d r = record { unit = d .unit; deck = withPlay (d .deck) r }
+showing d r = withDeck d (withPlay (d .deck) r)
 
--- "Power-on (also reset) keeps the handed state's tray and disc and is never refused: lock off, .."; K2: "Power-on .. set 15h,
--- position 0 and end 0"; in both forms of K3
+-- "Power-on (also reset) keeps the handed state's tray and disc ..: lock off"; K2: "Power-on .. set 15h, position 0 and end 0"
+abbrev pub restarted : Deck → Deck
+restarted m = record { «tray_open» = m .«tray_open»; «disc_in» = m .«disc_in»; lock = false; play = noPlay }
+
+-- ".. and is never refused"; in both forms of K3
 abbrev pub powerOnWith : Drive → Bool → Drive
-powerOnWith d change = record {
-  unit = poweredOn change;
-  deck = record { «tray_open» = d .deck .«tray_open»; «disc_in» = d .deck .«disc_in»; lock = false; play = noPlay };
-}
+powerOnWith d change = record { unit = poweredOn change; deck = restarted (d .deck) }
 
 -- K3: "Power-on with a loaded disc now leaves both attentions pending by default"; with any other drive, 01's "change attention not"
 unfoldable pub powerOn : Drive → Drive

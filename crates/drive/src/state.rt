@@ -7,7 +7,7 @@ use crate::sense::is_known;
 use crate::sense::sense_at;
 ghost use mathlib.Core.Path.{_≡_};
 ghost use Rattle.drive.specs.Unit.{poweredOn, attend};
-ghost use Rattle.drive.specs.State.{isSound, opening, closedPlay, closing, withDisc, withLock, withPlay, isLoaded, shift, holding, showing, powerOnWith, powerOn, powerOnWithoutChange, moves, refuse, button, lay, lift, moveOn};
+ghost use Rattle.drive.specs.State.{isSound, opening, closedPlay, closing, restarted, withDisc, withLock, withPlay, withDeck, isLoaded, shift, powerOnWith, powerOn, powerOnWithoutChange, moves, refuse, button, lay, lift, moveOn};
 
 // What is pending and what is held: this is the same for every device that stands behind the gate.
 pub struct Unit {
@@ -129,6 +129,19 @@ impl Deck {
         }
     }
 
+    // What power-on leaves: tray and disc kept, lock off, nothing played.
+    fn restarted(self) -> Deck
+        ensures { λ r. ⌜ r ≡ restarted self ⌝ }
+    {
+        let play = no_play();
+        Deck {
+            tray_open: self.tray_open,
+            disc_in: self.disc_in,
+            lock: false,
+            play,
+        }
+    }
+
     pub fn with_disc(self, disc_in: bool) -> Deck
         ensures { λ r. ⌜ r ≡ withDisc self disc_in ⌝ }
     {
@@ -208,12 +221,7 @@ impl Drive {
     {
         Drive {
             unit: self.unit.powered_on(change),
-            deck: Deck {
-                tray_open: self.deck.tray_open,
-                disc_in: self.deck.disc_in,
-                lock: false,
-                play: no_play(),
-            },
+            deck: self.deck.restarted(),
         }
     }
 
@@ -241,7 +249,7 @@ impl Drive {
                 if self.deck.disc_in {
                     return refuse(CANNOT_LAY, self);
                 }
-                return moves(self.with_disc(true));
+                return moves(self.with_deck(self.deck.with_disc(true)));
             }
             return refuse(CANNOT_LAY, self);
         }
@@ -254,7 +262,7 @@ impl Drive {
         if self.is_sound() {
             if self.deck.tray_open {
                 if self.deck.disc_in {
-                    return moves(self.with_disc(false));
+                    return moves(self.with_deck(self.deck.with_disc(false)));
                 }
                 return refuse(CANNOT_LIFT, self);
             }
@@ -268,29 +276,17 @@ impl Drive {
         ensures { λ r. ⌜ r ≡ moveOn k self ⌝ }
     {
         if self.is_sound() {
-            return moves(self.with_play(self.deck.play.moved_on(k)));
+            return moves(self.with_deck(self.deck.with_play(self.deck.play.moved_on(k))));
         }
         refuse(UNKNOWN_STATE, self)
     }
 
-    fn with_play(self, play: Play) -> Drive
-        ensures { λ r. ⌜ r ≡ showing self play ⌝ }
+    // The state with that deck; the attention unit stays.
+    fn with_deck(self, deck: Deck) -> Drive
+        ensures { λ r. ⌜ r ≡ withDeck self deck ⌝ }
     {
         let unit = self.unit;
-        Drive {
-            unit,
-            deck: self.deck.with_play(play),
-        }
-    }
-
-    fn with_disc(self, disc_in: bool) -> Drive
-        ensures { λ r. ⌜ r ≡ holding self disc_in ⌝ }
-    {
-        let unit = self.unit;
-        Drive {
-            unit,
-            deck: self.deck.with_disc(disc_in),
-        }
+        Drive { unit, deck }
     }
 }
 
