@@ -418,6 +418,13 @@ fn sub_channel_bits() {
             _ => assert_eq!(bytes, sound, "{bit}"),
         }
     }
+    // Without SubQ no other bit asks for it.
+    for bit in (8..96).filter(|bit| ![7, 8].contains(&(bit / 8))) {
+        let mut packet = sub_channel(false, false, 1, 16);
+        packet[bit / 8] ^= 0x80 >> (bit % 8);
+        let (_, bytes) = served(state, &packet);
+        assert_eq!(bytes.len(), if bit == 17 { 16 } else { 4 }, "{bit}");
+    }
 }
 
 /// "the bytes are the first n of the full answer"; the length 000Ch is not cut.
@@ -505,6 +512,10 @@ fn moves_go_block_by_block() {
                 }
             }
         }
+    }
+    // Far on, and not at the end yet.
+    for k in [65_535, 65_536, 300_000, TOP - 1] {
+        assert_eq!(moved(with(0x11, 0, TOP), k.into()), with(0x11, k, TOP));
     }
     // At the top, where a sum would come round past 32 bits.
     for k in [0, 1, 2, u64::from(u32::MAX), u64::MAX] {

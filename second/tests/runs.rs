@@ -1,6 +1,6 @@
 //! Whole runs of calls: what a run may depend on, and what not.
 
-use second::cases::packets::{any_packet, one_of_each, Marks, Packet};
+use second::cases::packets::{any_packet, one_of_each, request_sense, Marks, Packet};
 use second::cases::picked_state::all_flags;
 use second::cases::sheet::any_fit;
 use second::drive::State;
@@ -124,14 +124,18 @@ fn two_runs_agree() {
     assert!(told > 2_500 && longest > 10, "{told} {longest}");
 }
 
-/// The same call on the same drive gives the same, however often it is made.
+/// The same call on the same drive gives the same, however often it is made. Each
+/// run begins with an answer that has bytes.
 #[test]
 fn same_input_same_outcome() {
     let mut rng = Rng::new(6);
     for _ in 0..300 {
         let (mut one, marks) = any_bench(&mut rng);
-        for _ in 0..20 {
-            let call = any_call(&mut rng, &marks);
+        for made in 0..20 {
+            let call = match made {
+                0 => Call::Packet(request_sense(18)),
+                _ => any_call(&mut rng, &marks),
+            };
             let mut again = Bench::new(one.state, one.table.clone());
             again.memory.clone_from(&one.memory);
             assert_eq!(one.call(call), again.call(call));

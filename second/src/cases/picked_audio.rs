@@ -90,8 +90,8 @@ pub fn plays(stream: &mut Stream) {
     }
 }
 
-/// PLAY of the longest runs: one audio track over the whole range, one data
-/// track, and counts that lie across tracks.
+/// PLAY of the longest runs, on one audio track over the whole range and on one
+/// data track; each bit of the address and of the count.
 pub fn long_plays(stream: &mut Stream) {
     for sheet in [one_long_audio(), one_long_track()] {
         let marks = lend(stream, &sheet);
