@@ -40,7 +40,13 @@ pub fn to_msf(address: u32) -> Result<Msf, Refusal> {
         return Err(Refusal::BadAddress);
     }
     let frames = address + 150;
+    Ok(clock(frames))
+}
+
+/// So many frames as minutes, seconds and frames; at most 449,999, or 99:59:74.
+/// K2 shows a relative address so, "without the 150".
+pub fn clock(frames: u32) -> Msf {
     let (seconds, f) = (frames / 75, frames % 75);
     let (m, s) = (seconds / 60, seconds % 60);
-    Ok(Msf::new(m as u8, s as u8, f as u8))
+    Msf::new(m as u8, s as u8, f as u8)
 }

@@ -1,8 +1,10 @@
 //! What each command of "Steps for a packet" answers, before any cutting.
 
 use crate::drive::State;
+use crate::play::Play;
 use crate::sense::{self, Sense};
-use crate::table::Disc;
+use crate::sub_channel::{self, SubRequest};
+use crate::table::{Disc, Mode};
 use crate::toc::{self, TocRequest};
 
 /// A GOOD command's full answer and the named blocks.
@@ -28,6 +30,9 @@ pub enum Command {
     Seek(u32),
     Read { address: u32, count: u32 },
     Toc(TocRequest, usize),
+    Play { address: u32, count: u32 },
+    PauseResume { resume: bool },
+    SubChannel(SubRequest, usize),
 }
 
 fn long(bytes: &[u8]) -> u32 {
@@ -70,12 +75,32 @@ impl Command {
                 },
                 long(&p[7..9]) as usize,
             ),
+            // K2: "Packet fields are 004's." Address in bytes 2 to 5, count in
+            // 7 to 8.
+            0x45 => Command::Play {
+                address: long(&p[2..6]),
+                count: long(&p[7..9]),
+            },
+            // Byte 8 bit 0 Resume.
+            0x4B => Command::PauseResume {
+                resume: p[8] & 1 != 0,
+            },
+            // Byte 1 bit 1 MSF, byte 2 bit 6 SubQ, byte 3 format, length in 7 to
+            // 8. The track number in byte 6 is no rule's.
+            0x42 => Command::SubChannel(
+                SubRequest {
+                    msf: p[1] & 2 != 0,
+                    sub_q: p[2] & 0x40 != 0,
+                    format: p[3],
+                },
+                long(&p[7..9]) as usize,
+            ),
             _ => return None,
         })
     }
 
     /// "Needing one: 00h, 25h, 28h, 2Bh, 43h, A8h, and 1Bh with LoEj 0 and
-    /// Start 1."
+    /// Start 1." K2's 42h, 45h and 4Bh too: "These commands need a disc."
     pub fn needs_disc(self) -> bool {
         match self {
             Command::StartStop {
@@ -113,20 +138,43 @@ impl Command {
     }
 
     /// A command that needs a disc, with the disc: "Field checks, range, then
-    /// track mode."
-    pub fn with_disc(self, disc: &Disc) -> Outcome {
+    /// track mode." Where it is GOOD it may move the play record (K2).
+    pub fn with_disc(self, play: &mut Play, disc: &Disc) -> Outcome {
         match self {
             Command::Capacity => Ok(capacity(disc)),
             Command::Seek(address) => {
                 in_range(disc, address)?;
+                *play = play.stopped();
                 Ok(Good::default())
             }
-            Command::Read { address, count } => read(disc, address, count),
+            Command::Read { address, count } => {
+                let good = read(disc, address, count)?;
+                *play = play.stopped();
+                Ok(good)
+            }
             Command::Toc(request, allocation) => Ok(Good {
                 answer: toc::full_answer(disc, request)?,
                 allocation: Some(allocation),
                 ..Good::default()
             }),
+            Command::Play { address, count } => {
+                lie_in(disc, Mode::Audio, address, count)?;
+                *play = play.started(address, count);
+                Ok(Good::default())
+            }
+            Command::PauseResume { resume } => {
+                *play = play.resumed(resume).ok_or(sense::BAD_FIELD)?;
+                Ok(Good::default())
+            }
+            Command::SubChannel(request, allocation) => {
+                let answer = sub_channel::full_answer(disc, *play, request)?;
+                *play = play.told();
+                Ok(Good {
+                    answer,
+                    allocation: Some(allocation),
+                    ..Good::default()
+                })
+            }
             // TEST UNIT READY, and 1Bh "(0,1) when loaded"
             _ => Ok(Good::default()),
         }
@@ -152,23 +200,31 @@ fn in_range(disc: &Disc, address: u32) -> Result<(), Sense> {
     }
 }
 
-/// "Address over L − 1, or address plus count over L: 05/21/00. Then any block
-/// outside a data track: 05/64/00." The sum is taken in 64 bits.
+/// A GOOD READ names its blocks: "Start and count are 0 except after a GOOD
+/// READ, where they are its address and count."
 fn read(disc: &Disc, address: u32, count: u32) -> Outcome {
+    lie_in(disc, Mode::Data, address, count)?;
+    Ok(Good {
+        start: address,
+        count,
+        ..Good::default()
+    })
+}
+
+/// "Address over L − 1, or address plus count over L: 05/21/00. Then any block
+/// outside a data track: 05/64/00." K2, of PLAY: "range and 05/64/00 follow READ
+/// with audio in place of data". The sum is taken in 64 bits.
+fn lie_in(disc: &Disc, mode: Mode, address: u32, count: u32) -> Result<(), Sense> {
     in_range(disc, address)?;
     let from = u64::from(address);
     let to = from + u64::from(count);
     if to > u64::from(disc.end()) {
         return Err(sense::OUT_OF_RANGE);
     }
-    if disc.data_blocks(from, to) != u64::from(count) {
+    if disc.blocks(mode, from, to) != u64::from(count) {
         return Err(sense::WRONG_MODE);
     }
-    Ok(Good {
-        start: address,
-        count,
-        ..Good::default()
-    })
+    Ok(())
 }
 
 /// "18 bytes, byte 0 70h, 2 key, 7 0Ah, 12 ASC, 13 ASCQ, others 0."

@@ -1,6 +1,6 @@
 //! K5: "Appendix A has a row for each operation code." The page's 256 lines by
 //! this program's own reading, and a page held to them. Names and classes are
-//! those of 01's list; the last two columns are what the drive does.
+//! those of 01's list and K2's; the last two columns are what the drive does.
 
 use std::fs;
 use std::path::Path;
@@ -15,8 +15,8 @@ use crate::sense::{self, Sense};
 /// Where the page stands.
 pub const PAGE: &str = "docs/APPENDIX-A.md";
 
-/// 01's "Packets", in the list's order.
-pub const PACKETS: [(u8, &str); 10] = [
+/// 01's "Packets", in the list's order, then K2's three in 02's.
+pub const PACKETS: [(u8, &str); 13] = [
     (0x00, "TEST UNIT READY"),
     (0x03, "REQUEST SENSE"),
     (0x12, "INQUIRY"),
@@ -27,6 +27,9 @@ pub const PACKETS: [(u8, &str); 10] = [
     (0x2B, "SEEK(10)"),
     (0x43, "READ TOC"),
     (0xA8, "READ(12)"),
+    (0x45, "PLAY AUDIO(10)"),
+    (0x4B, "PAUSE/RESUME"),
+    (0x42, "READ SUB-CHANNEL"),
 ];
 
 /// "the command's class or "unknown"": the command's number in the list,
@@ -63,7 +66,7 @@ fn tells(reply: &Reply, triple: Sense) -> bool {
 /// the four settings of byte 4's bits 1 and 0 (LoEj and Start) get 02/3A/01.
 pub fn needs_a_disc(code: u8) -> &'static str {
     let told = [0, 1, 2, 3].map(|byte_4| {
-        let (reply, _) = answer(State::ZERO, &with_byte_4(code, byte_4));
+        let (reply, _) = answer(State::EMPTY, &with_byte_4(code, byte_4));
         tells(&reply, sense::NO_MEDIUM)
     });
     match told {

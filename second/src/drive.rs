@@ -1,6 +1,7 @@
 //! "Drive state and what moves it": power-on in its two forms (K3), button,
-//! laying and lifting.
+//! laying and lifting, and the outside call that moves a play on (K2).
 
+use crate::play::Play;
 use crate::refusal::Refusal;
 use crate::sense::{self, Sense};
 
@@ -12,22 +13,25 @@ pub struct State {
     pub power: bool,
     pub change: bool,
     pub sense: Sense,
+    pub play: Play,
 }
 
 impl State {
-    pub const ZERO: State = State {
+    /// Tray closed, no disc, nothing pending.
+    pub const EMPTY: State = State {
         tray_open: false,
         disc_in: false,
         lock: false,
         power: false,
         change: false,
         sense: sense::NONE,
+        play: Play::NONE,
     };
 
     /// Tray closed, disc in, nothing pending.
     pub const READY: State = State {
         disc_in: true,
-        ..State::ZERO
+        ..State::EMPTY
     };
 
     /// "Loaded means tray closed with a disc in."
@@ -47,20 +51,21 @@ impl State {
 
     /// K3: "A second form .. keeps 01's behaviour", that is "keeps the handed
     /// state's tray and disc and is never refused: lock off, sense 00/00/00,
-    /// power attention pending, change attention not."
+    /// power attention pending, change attention not." K2's record is reset in
+    /// both forms.
     pub fn power_on_without_change(self) -> State {
         State {
             tray_open: self.tray_open,
             disc_in: self.disc_in,
             power: true,
-            ..State::ZERO
+            ..State::EMPTY
         }
     }
 
     /// "an open tray closes; a closed one opens, unless locked (5). The lock
     /// never stops closing."
     pub fn button(self) -> Result<State, Refusal> {
-        self.held_sense_known()?;
+        self.tested()?;
         if self.tray_open {
             return Ok(self.closed());
         }
@@ -72,7 +77,7 @@ impl State {
 
     /// "Laying a disc needs an open tray without one (6)".
     pub fn lay(self) -> Result<State, Refusal> {
-        self.held_sense_known()?;
+        self.tested()?;
         if !self.tray_open || self.disc_in {
             return Err(Refusal::CannotLay);
         }
@@ -84,7 +89,7 @@ impl State {
 
     /// "lifting needs an open tray with one (7)".
     pub fn lift(self) -> Result<State, Refusal> {
-        self.held_sense_known()?;
+        self.tested()?;
         if !self.tray_open || !self.disc_in {
             return Err(Refusal::CannotLift);
         }
@@ -94,29 +99,49 @@ impl State {
         })
     }
 
+    /// K2, the outside call, "testing 2": it "moves a playing position on by k
+    /// blocks".
+    pub fn move_on(self, k: u64) -> Result<State, Refusal> {
+        self.tested()?;
+        Ok(State {
+            play: self.play.moved_on(k),
+            ..self
+        })
+    }
+
+    /// Opens a closed tray. K2: "opening" resets the record, with a disc in or
+    /// not.
     pub fn opened(self) -> State {
         State {
             tray_open: true,
+            play: Play::NONE,
             ..self
         }
     }
 
     /// Closes an open tray. "Loading is any closing of the tray, by button or
-    /// packet, with a disc in: the change attention becomes pending."
+    /// packet, with a disc in: the change attention becomes pending." K2: and
+    /// "loading" resets the record, which a closing without a disc leaves.
     pub fn closed(self) -> State {
         State {
             tray_open: false,
             change: self.change || self.disc_in,
+            play: if self.disc_in { Play::NONE } else { self.play },
             ..self
         }
     }
 
+    /// Refusal 2 is of the held sense and, with K2, of the play record.
+    pub fn is_sound(self) -> bool {
+        self.sense.is_known() && self.play.is_sound()
+    }
+
     /// "Button, laying and lifting test 2 before 5 to 7."
-    fn held_sense_known(self) -> Result<(), Refusal> {
-        if self.sense.is_known() {
+    fn tested(self) -> Result<(), Refusal> {
+        if self.is_sound() {
             Ok(())
         } else {
-            Err(Refusal::UnknownSense)
+            Err(Refusal::UnsoundState)
         }
     }
 }

@@ -1,6 +1,6 @@
 //! An independent second program for the packet target of the build
-//! definition (called "01" in the comments; K1, K3, K5, K6 and K9 are the change
-//! requests built on it). It shares no code with the target: the two meet
+//! definition (called "01" in the comments; K1, K2, K3, K5, K6 and K9 are the
+//! change requests built on it). It shares no code with the target: the two meet
 //! through files only.
 
 pub mod address;
@@ -14,11 +14,13 @@ pub mod files;
 pub mod limits;
 pub mod listing;
 pub mod packet;
+pub mod play;
 pub mod refusal;
 pub mod replay;
 pub mod rng;
 pub mod sense;
 pub mod stored;
+pub mod sub_channel;
 pub mod table;
 pub mod tally;
 pub mod toc;

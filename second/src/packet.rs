@@ -86,8 +86,8 @@ fn tests(
     memory: usize,
 ) -> Result<([u8; PACKET], Option<Disc>), Refusal> {
     let bytes: [u8; PACKET] = packet.try_into().map_err(|_| Refusal::PacketLength)?;
-    if !state.sense.is_known() {
-        return Err(Refusal::UnknownSense);
+    if !state.is_sound() {
+        return Err(Refusal::UnsoundState);
     }
     if memory < BOUND {
         return Err(Refusal::SmallMemory);
@@ -126,7 +126,7 @@ fn steps(state: &mut State, disc: Option<&Disc>, p: &[u8; PACKET]) -> Outcome {
     }
     // 4. "02/3A/02 with the tray open, 02/3A/01 closed."
     match disc {
-        Some(disc) => command.with_disc(disc),
+        Some(disc) => command.with_disc(&mut state.play, disc),
         None if state.tray_open => Err(sense::TRAY_OPEN),
         None => Err(sense::NO_MEDIUM),
     }

@@ -4,8 +4,9 @@
 pub enum Refusal {
     /// "packet is not 12 bytes"
     PacketLength,
-    /// "held sense is none of the ten below"
-    UnknownSense,
+    /// "held sense is none of the ten below"; K2: "2 also covers another status,
+    /// a position past its end, or an end over 449,849"
+    UnsoundState,
     /// "response memory is under 6,538 bytes" (K1's bound)
     SmallMemory,
     /// "loaded, or asked for a session's part, and the table is not fit"; K6:
@@ -28,7 +29,7 @@ impl Refusal {
     pub fn number(self) -> u8 {
         match self {
             Refusal::PacketLength => 1,
-            Refusal::UnknownSense => 2,
+            Refusal::UnsoundState => 2,
             Refusal::SmallMemory => 3,
             Refusal::UnfitTable(_) => 4,
             Refusal::Locked => 5,

@@ -8,6 +8,7 @@ use crate::adler::adler32;
 use crate::drive::State;
 use crate::limits::REPLAY_BODY;
 use crate::packet;
+use crate::play::Play;
 use crate::refusal::Refusal;
 use crate::sense::Sense;
 use crate::table;
@@ -24,6 +25,17 @@ pub const TO_MSF: u8 = 8;
 pub const TO_ADDRESS: u8 = 9;
 pub const PART: u8 = 10;
 pub const POWER_ON_WITHOUT_CHANGE: u8 = 11;
+pub const MOVE_ON: u8 = 12;
+
+/// Bytes of kind 0's body: five flags, the sense, K2's play record.
+pub const STATE_BYTES: usize = 17;
+
+/// "At the start every byte is 0": so the play status is 00h, and refusal 2
+/// covers it.
+const START: State = State {
+    play: Play::new(0, 0, 0),
+    ..State::EMPTY
+};
 
 /// Anything that ends the run with the line `bad record`.
 pub struct BadRecord;
@@ -39,7 +51,7 @@ struct Bench {
 /// Everything that must be printed for this stream.
 pub fn run(input: &[u8]) -> String {
     let mut bench = Bench {
-        state: State::ZERO,
+        state: START,
         table: Vec::new(),
         memory: Vec::new(),
         lines: String::new(),
@@ -88,7 +100,27 @@ fn number(refusal: Option<Refusal>) -> String {
     refusal.map_or("0".to_string(), |refusal| refusal.text('.'))
 }
 
-/// Five digits and three hex bytes: `01010 06 29 00`.
+/// Kind 0's body: "tray, disc, lock, power, change as 0 or 1, key, ASC, ASCQ",
+/// then K2's "play status (1 byte), position (4), end (4)".
+fn state_of(body: &[u8; STATE_BYTES]) -> Result<State, BadRecord> {
+    let &[tray, disc, lock, power, change, key, asc, ascq, status, ref numbers @ ..] = body;
+    let [a, b, c, d, e, f, g, h] = *numbers;
+    Ok(State {
+        tray_open: flag(tray)?,
+        disc_in: flag(disc)?,
+        lock: flag(lock)?,
+        power: flag(power)?,
+        change: flag(change)?,
+        sense: Sense::new(key, asc, ascq),
+        play: Play {
+            status,
+            position: u32::from_be_bytes([a, b, c, d]),
+            end: u32::from_be_bytes([e, f, g, h]),
+        },
+    })
+}
+
+/// Five digits, three hex bytes and the play record: `01010 06 29 00 15 0 0`.
 pub fn state_text(state: State) -> String {
     let digits = [
         state.tray_open,
@@ -99,7 +131,7 @@ pub fn state_text(state: State) -> String {
     ]
     .map(|on| if on { '1' } else { '0' });
     let digits: String = digits.iter().collect();
-    format!("{digits} {}", state.sense.text())
+    format!("{digits} {} {}", state.sense.text(), state.play.text())
 }
 
 /// Capital hex, two digits a byte, "-" where no bytes.
@@ -117,15 +149,8 @@ pub fn hex(bytes: &[u8]) -> String {
 impl Bench {
     fn record(&mut self, kind: u8, body: &[u8]) -> Result<(), BadRecord> {
         match (kind, body) {
-            (STATE, &[tray, disc, lock, power, change, key, asc, ascq]) => {
-                self.state = State {
-                    tray_open: flag(tray)?,
-                    disc_in: flag(disc)?,
-                    lock: flag(lock)?,
-                    power: flag(power)?,
-                    change: flag(change)?,
-                    sense: Sense::new(key, asc, ascq),
-                };
+            (STATE, body) => {
+                self.state = state_of(body.try_into().map_err(|_| BadRecord)?)?;
             }
             (TABLE, table) => self.table = table.to_vec(),
             (MEMORY, &[high, low, fill]) => {
@@ -146,6 +171,11 @@ impl Bench {
             (BUTTON, []) => self.moved('b', self.state.button()),
             (LAY, []) => self.moved('d', self.state.lay()),
             (LIFT, []) => self.moved('u', self.state.lift()),
+            // K2: "kind 12, the outside call, body k (4 bytes), line `m N STATE`"
+            (MOVE_ON, &[a, b, c, d]) => {
+                let k = u32::from_be_bytes([a, b, c, d]);
+                self.moved('m', self.state.move_on(k.into()));
+            }
             (PACKET, packet) => self.packet(packet),
             (TO_MSF, &[a, b, c, d]) => {
                 let result = address::to_msf(u32::from_be_bytes([a, b, c, d]));
@@ -176,7 +206,8 @@ impl Bench {
         self.lines.push('\n');
     }
 
-    /// A tray call or power-on: "state as handed in" where refused.
+    /// A tray call, a power-on or the outside call: "state as handed in" where
+    /// refused.
     fn moved(&mut self, letter: char, result: Result<State, Refusal>) {
         let number = number(result.err());
         self.state = result.unwrap_or(self.state);

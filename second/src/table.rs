@@ -42,6 +42,14 @@ impl Row {
     }
 }
 
+/// What a block must lie in: READ asks for data, and PLAY follows READ "with
+/// audio in place of data" (K2).
+#[derive(Clone, Copy, Debug, PartialEq, Eq)]
+pub enum Mode {
+    Data,
+    Audio,
+}
+
 #[derive(Clone, Debug, PartialEq, Eq)]
 pub struct Track {
     pub number: u8,
@@ -54,6 +62,10 @@ impl Track {
     /// "A track is data if control bit 2 (value 4) is set."
     pub fn is_data(&self) -> bool {
         self.bits & 4 != 0
+    }
+
+    pub fn is(&self, mode: Mode) -> bool {
+        self.is_data() == (mode == Mode::Data)
     }
 }
 
@@ -279,11 +291,20 @@ impl Disc {
         extents
     }
 
-    /// How many of the blocks from `from` up to `to` lie in data tracks.
-    pub fn data_blocks(&self, from: u64, to: u64) -> u64 {
+    /// "A block belongs to the track with the greatest start not above it, if it
+    /// lies below that track's session's lead-out; else to no track."
+    pub fn track_of(&self, block: u32) -> Option<&Track> {
+        self.extents()
+            .into_iter()
+            .find(|&(_, start, end)| (start..end).contains(&block))
+            .map(|(track, _, _)| track)
+    }
+
+    /// How many of the blocks from `from` up to `to` lie in tracks of this mode.
+    pub fn blocks(&self, mode: Mode, from: u64, to: u64) -> u64 {
         self.extents()
             .iter()
-            .filter(|(track, _, _)| track.is_data())
+            .filter(|(track, _, _)| track.is(mode))
             .map(|&(_, start, end)| {
                 let low = from.max(u64::from(start));
                 let high = to.min(u64::from(end));

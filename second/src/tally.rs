@@ -1,8 +1,10 @@
 //! How many broken tables a stream meets, by the rule that refusal 4 carries
-//! (K6), and how many power-ons it has, by form and by what they meet (K3).
+//! (K6), how many power-ons it has, by form and by what they meet (K3), and how
+//! many plays, 42h and outside calls, by status (K2).
 
 use std::fmt::Write;
 
+use crate::play::STATUSES;
 use crate::replay::{self, take_record};
 
 /// Of one rule: tables that a call was refused for, and those calls.
@@ -75,7 +77,74 @@ pub fn power_ons(stream: &[u8]) -> [PowerOns; 2] {
     forms
 }
 
-/// A header and a line for each rule, then one and a line for each form.
+/// Of one status: GOOD 42h that tell it, and outside calls that leave it.
+#[derive(Clone, Copy, Debug, Default, PartialEq, Eq)]
+pub struct Status {
+    pub told: usize,
+    pub left: usize,
+}
+
+/// What a stream has of K2.
+#[derive(Clone, Copy, Debug, Default, PartialEq, Eq)]
+pub struct Audio {
+    /// GOOD PLAYs that begin a play, and all the others.
+    pub plays: usize,
+    pub failed: usize,
+    /// GOOD PAUSE/RESUME, and all the others.
+    pub pauses: usize,
+    pub refused_pauses: usize,
+    /// By status, in the order of `STATUSES`.
+    pub by_status: [Status; 4],
+    /// Outside calls that 2 refuses.
+    pub refused_moves: usize,
+}
+
+/// Each call's line shows what became of it; a packet's code stands in its body.
+pub fn audio(stream: &[u8]) -> Audio {
+    let lines = replay::run(stream);
+    let mut lines = lines.lines();
+    let (mut rest, mut audio) = (stream, Audio::default());
+    while let Ok((kind, body, after)) = take_record(rest) {
+        rest = after;
+        if kind < replay::POWER_ON {
+            continue;
+        }
+        let Some(line) = lines.next().filter(|&line| line != "bad record") else {
+            break;
+        };
+        let words: Vec<&str> = line.split(' ').collect();
+        match (kind, body.first()) {
+            (replay::MOVE_ON, _) if words[1] == "2" => audio.refused_moves += 1,
+            (replay::MOVE_ON, _) => count(&mut audio, words[6], |status| &mut status.left),
+            (replay::PACKET, Some(0x45)) if body.len() == 12 => {
+                let begun = words[1..3] == ["0", "00"] && body[7..9] != [0, 0];
+                audio.plays += usize::from(begun);
+                audio.failed += usize::from(!begun);
+            }
+            (replay::PACKET, Some(0x4B)) if body.len() == 12 => {
+                let good = words[1..3] == ["0", "00"];
+                audio.pauses += usize::from(good);
+                audio.refused_pauses += usize::from(!good);
+            }
+            (replay::PACKET, Some(0x42)) if words[1..3] == ["0", "00"] && words[13].len() > 3 => {
+                count(&mut audio, &words[13][2..4], |status| &mut status.told);
+            }
+            _ => {}
+        }
+    }
+    audio
+}
+
+/// Counts one of the status that these two hex digits name.
+fn count(audio: &mut Audio, digits: &str, which: fn(&mut Status) -> &mut usize) {
+    let named = |status: &u8| format!("{status:02X}") == digits;
+    if let Some(place) = STATUSES.iter().position(named) {
+        *which(&mut audio.by_status[place]) += 1;
+    }
+}
+
+/// A header and a line for each rule, then one and a line for each form, then
+/// K2's: plays and pauses, then a line for each status.
 pub fn print(stream: &[u8]) -> String {
     let mut out = "rule tables packets parts\n".to_string();
     for (met, rule) in of(stream).iter().zip(1..) {
@@ -97,5 +166,25 @@ pub fn print(stream: &[u8]) -> String {
         let line = format!("{letter} {loaded} {disc_in_open_tray} {closed_empty} {open_empty}\n");
         out.push_str(&line);
     }
+    print_audio(&mut out, &audio(stream));
     out
+}
+
+fn print_audio(out: &mut String, audio: &Audio) {
+    let Audio {
+        plays,
+        failed,
+        pauses,
+        refused_pauses,
+        by_status,
+        refused_moves,
+    } = audio;
+    out.push_str("audio plays other-plays pauses other-pauses refused-moves\n");
+    let line = format!("audio {plays} {failed} {pauses} {refused_pauses} {refused_moves}\n");
+    out.push_str(&line);
+    out.push_str("status told left\n");
+    for (status, met) in STATUSES.iter().zip(by_status) {
+        let line = format!("{status:02X}h {} {}\n", met.told, met.left);
+        out.push_str(&line);
+    }
 }

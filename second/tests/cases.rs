@@ -35,7 +35,7 @@ fn covers_all(lines: &str) {
     let (kinds, told) = seen(lines);
     for kind in [
         "o 0", "q 0", "b 0", "b 2", "b 5", "d 0", "d 2", "d 6", "u 0", "u 2", "u 7", "p 0", "p 1",
-        "p 2", "p 3", "a 0", "a 8", "c 0", "c 8", "s 0", "s 10",
+        "p 2", "p 3", "a 0", "a 8", "c 0", "c 8", "s 0", "s 10", "m 0", "m 2",
     ] {
         assert!(kinds.contains(kind), "{kind}");
     }
@@ -146,7 +146,7 @@ fn streams_lend_b0_and_c0() {
 #[test]
 fn stored_files_stay_small() {
     let total: usize = stored::files().iter().map(|(_, bytes)| bytes.len()).sum();
-    assert!(total < 3_000_000);
+    assert!(total < 3_500_000);
 }
 
 #[test]
@@ -263,7 +263,7 @@ fn tally_counts() {
 #[test]
 fn tally_counts_power_ons() {
     let mut stream = Stream::new();
-    for (n, state) in [(1, READY), (2, READY.opened()), (3, State::ZERO)] {
+    for (n, state) in [(1, READY), (2, READY.opened()), (3, State::EMPTY)] {
         for _ in 0..n {
             stream.state(state);
             stream.power_on();
@@ -276,8 +276,8 @@ fn tally_counts_power_ons() {
     stream.button();
     stream.power_on_without_change();
     stream.power_on();
-    let tail = "form loaded disc-in-open-tray closed-empty open-empty\no 2 2 3 0\nq 1 1 0 1\n";
-    assert!(tally::print(&stream.bytes).ends_with(tail));
+    let forms = "form loaded disc-in-open-tray closed-empty open-empty\no 2 2 3 0\nq 1 1 0 1\n";
+    assert!(tally::print(&stream.bytes).contains(forms));
 }
 
 #[test]

@@ -12,7 +12,7 @@ use second::drive::State;
 use second::sense::Sense;
 use second::{examples, files, stored};
 
-const TEN: [&str; 10] = [
+const KNOWN: [&str; 13] = [
     "| 00h | TEST UNIT READY | 1 | yes | told first |",
     "| 03h | REQUEST SENSE | 2 | no | performed; gives it where no sense is held |",
     "| 12h | INQUIRY | 3 | no | performed |",
@@ -23,6 +23,9 @@ const TEN: [&str; 10] = [
     "| 2Bh | SEEK(10) | 8 | yes | told first |",
     "| 43h | READ TOC | 9 | yes | told first |",
     "| A8h | READ(12) | 10 | yes | told first |",
+    "| 45h | PLAY AUDIO(10) | 11 | yes | told first |",
+    "| 4Bh | PAUSE/RESUME | 12 | yes | told first |",
+    "| 42h | READ SUB-CHANNEL | 13 | yes | told first |",
 ];
 
 /// A page that has these lines between others.
@@ -34,28 +37,30 @@ fn page(lines: &[String]) -> String {
     )
 }
 
-/// The ten codes, and all the others, in order.
+/// The thirteen codes, and all the others, in order.
 #[test]
 fn page_has_a_line_for_each_code() {
     let lines = lines();
     assert_eq!(lines.len(), 256);
     for (line, code) in lines.iter().zip(0..=255u8) {
         let begin = format!("| {code:02X}h |");
-        let known = TEN.iter().find(|one| one.starts_with(&begin));
+        let known = KNOWN.iter().find(|one| one.starts_with(&begin));
         let unknown = format!("{begin} unknown | 0 | no | told first |");
         assert_eq!(line, known.map_or(unknown.as_str(), |one| *one));
     }
     let known = lines.iter().filter(|line| !line.contains("unknown"));
-    assert_eq!(known.count(), 10);
+    assert_eq!(known.count(), 13);
 }
 
 /// "Needing one: 00h, 25h, 28h, 2Bh, 43h, A8h, and 1Bh with LoEj 0 and Start
-/// 1.": the column says what an open drive does too.
+/// 1." K2: "These commands need a disc." The column says what an open drive does
+/// too.
 #[test]
 fn needs_a_disc_is_step_4() {
     for code in 0..=255 {
         let due = match code {
             0x00 | 0x25 | 0x28 | 0x2B | 0x43 | 0xA8 => "yes",
+            0x42 | 0x45 | 0x4B => "yes",
             0x1B => "with LoEj 0 and Start 1",
             _ => "no",
         };
@@ -81,7 +86,7 @@ fn under_an_attention_is_steps_1_and_2() {
         };
         assert_eq!(under_an_attention(code), due, "{code:02X}h");
     }
-    let power = State::ZERO.power_on();
+    let power = State::EMPTY.power_on();
     assert_eq!(check(power, &with_byte_4(0xFF, 18)), Sense::new(6, 0x29, 0));
 }
 

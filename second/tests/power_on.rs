@@ -10,6 +10,7 @@ use second::cases::picked_state::all_flags;
 use second::cases::sheet::disc_e;
 use second::cases::stream::Stream;
 use second::drive::State;
+use second::play::Play;
 use second::replay::{self, take_record};
 use second::sense::{self, Sense, NONE};
 use second::tally::{self, PowerOns};
@@ -31,11 +32,31 @@ fn held() -> [Sense; 5] {
     [NONE, sense::PREVENTED, CHANGED, near, far]
 }
 
+/// What a power-on resets (K2): sound records, and unsound ones, which it does
+/// not refuse.
+fn records() -> [Play; 7] {
+    [
+        Play::NONE,
+        Play::new(0x11, 150, 300),
+        Play::new(0x12, 7, 7),
+        Play::new(0x13, 300, 300),
+        Play::new(0x15, 3, 4),
+        Play::new(0, 0, 0),
+        Play::new(0x11, 2, 1),
+    ]
+}
+
 /// Every state that a power-on may meet.
 fn all_states() -> impl Iterator<Item = State> {
     held()
         .into_iter()
-        .flat_map(|sense| all_flags().map(move |flags| State { sense, ..flags }))
+        .flat_map(|sense| all_flags().map(move |flags| (sense, flags)))
+        .zip(records().into_iter().cycle())
+        .map(|((sense, flags), play)| State {
+            sense,
+            play,
+            ..flags
+        })
 }
 
 /// The senses held after each of these packets, one after the other.
@@ -58,6 +79,7 @@ fn greeted(state: State, change: bool) -> State {
         power: true,
         change,
         sense: Sense::new(0, 0, 0),
+        play: Play::NONE,
     }
 }
 
@@ -170,7 +192,7 @@ fn closing_behind_either_form() {
         let by_packet = [start_stop(LOAD), start_stop(LOAD), test_ready()];
         assert_eq!(told(open, &by_packet), [POWERED_ON, NONE, CHANGED]);
         // Without a disc there is none.
-        let empty = form(State::ZERO.opened()).button().expect("it closes");
+        let empty = form(State::EMPTY.opened()).button().expect("it closes");
         assert!(!empty.change);
     }
 }
@@ -205,8 +227,12 @@ fn last_power_on_decides() {
 #[test]
 fn nothing_is_looked_at() {
     for stranger in [[0, 0, 0], [1, 2, 3]] {
-        let state = [[0, 1, 1, 0, 0].as_slice(), &stranger].concat();
-        for (kind, line) in [(3, "o 0 01011 00 00 00\n"), (11, "q 0 01010 00 00 00\n")] {
+        // A play record of zeros is none that a call but power-on takes.
+        let state = [[0, 1, 1, 0, 0].as_slice(), &stranger, &[0; 9]].concat();
+        for (kind, line) in [
+            (3, "o 0 01011 00 00 00 15 0 0\n"),
+            (11, "q 0 01010 00 00 00 15 0 0\n"),
+        ] {
             let mut stream = Stream::new();
             stream.record(replay::STATE, &state);
             stream.record(kind, &[]);
@@ -252,13 +278,17 @@ fn streams_have_both_forms() {
 fn state_in(line: &str) -> Option<Vec<u8>> {
     let words: Vec<&str> = line.split(' ').collect();
     let from = match words[0] {
-        "o" | "q" | "b" | "d" | "u" => 2,
+        "o" | "q" | "b" | "d" | "u" | "m" => 2,
         "p" => 6,
         _ => return None,
     };
     let mut state: Vec<u8> = words[from].bytes().map(|digit| digit - b'0').collect();
-    for word in &words[from + 1..from + 4] {
+    for word in &words[from + 1..from + 5] {
         state.push(u8::from_str_radix(word, 16).expect("a hex byte"));
+    }
+    for word in &words[from + 5..from + 7] {
+        let number: u32 = word.parse().expect("a decimal");
+        state.extend(number.to_be_bytes());
     }
     Some(state)
 }
@@ -282,7 +312,7 @@ fn told_apart(stream: &[u8]) -> (usize, usize) {
     let lines = replay::run(stream);
     let mut lines = lines.lines();
     // Kinds 0 to 2 as they stand.
-    let mut set = [vec![0; 8], vec![], vec![0, 0, 0]];
+    let mut set = [vec![0; replay::STATE_BYTES], vec![], vec![0, 0, 0]];
     let (mut loaded, mut apart) = (0, 0);
     let mut rest = stream;
     while let Ok((kind, body, after)) = take_record(rest) {

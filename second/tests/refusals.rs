@@ -10,7 +10,7 @@ use second::cases::bad::random_stream;
 use second::cases::breaks::breaks;
 use second::cases::fits::fits;
 use second::cases::packets::{
-    inquiry, one_of_each, request_sense, start_stop, test_ready, toc, Packet,
+    inquiry, one_of_each, request_sense, start_stop, sub_channel, test_ready, toc, Packet,
 };
 use second::cases::picked_state::strangers;
 use second::cases::several::alone;
@@ -92,7 +92,7 @@ fn four_unfit_table_only_while_loaded() {
         for packet in [test_ready(), inquiry(36), start_stop(2)] {
             assert_eq!(number(READY, &broken.table, &packet), 4);
             assert_eq!(number(READY.power_on(), &broken.table, &packet), 4);
-            assert_eq!(number(State::ZERO, &broken.table, &packet), 0);
+            assert_eq!(number(State::EMPTY, &broken.table, &packet), 0);
             assert_eq!(number(READY.opened(), &broken.table, &packet), 0);
         }
     }
@@ -131,7 +131,7 @@ fn only_four_carries_a_rule() {
         assert_eq!(told(stranger, &table, &packet), (2, 0));
         let short = perform(READY, &table, &packet, &mut [0; 6_537]);
         assert_eq!(both(short.refusal), (3, 0));
-        assert_eq!(told(State::ZERO, &table, &packet), (0, 0));
+        assert_eq!(told(State::EMPTY, &table, &packet), (0, 0));
     }
     let fit = disc_e().bytes();
     assert_eq!(broken_rule(&fit), 0);
@@ -177,7 +177,7 @@ fn one_to_four_in_order() {
 
 #[test]
 fn five_six_seven_tray() {
-    let empty = State::ZERO;
+    let empty = State::EMPTY;
     for state in [empty, READY, empty.opened(), READY.opened()] {
         let (open, disc) = (state.tray_open, state.disc_in);
         for lock in [false, true] {
@@ -207,7 +207,7 @@ fn five_six_seven_tray() {
 fn numbers_in_use() {
     let all = [
         Refusal::PacketLength,
-        Refusal::UnknownSense,
+        Refusal::UnsoundState,
         Refusal::SmallMemory,
         Refusal::UnfitTable(1),
         Refusal::Locked,
@@ -254,6 +254,10 @@ fn given() -> BTreeSet<(String, u8)> {
 fn whole_answers() -> Vec<(Packet, usize)> {
     let mut list: Vec<(Packet, usize)> = one_of_each().into_iter().map(|p| (p, 6_538)).collect();
     list.extend([(request_sense(255), 254), (inquiry(255), 254)]);
+    for msf in [false, true] {
+        list.push((sub_channel(msf, true, 1, u16::MAX), 16));
+        list.push((sub_channel(msf, false, 1, u16::MAX), 4));
+    }
     for number in 0..=255 {
         for format in 0..4 {
             list.push((toc(false, format, number, u16::MAX), 6_538));
@@ -271,7 +275,7 @@ fn no_answer_passes_the_bound() {
     let picked = fits().into_iter().map(|(_, sheet)| (READY, sheet.bytes()));
     let drawn: Vec<Sheet> = (0..30).map(|_| any_fit(&mut rng)).collect();
     let drawn = drawn.iter().map(|sheet| (READY, sheet.bytes()));
-    let unloaded = [State::ZERO, State::ZERO.opened(), READY.opened()];
+    let unloaded = [State::EMPTY, State::EMPTY.opened(), READY.opened()];
     let unloaded = unloaded.map(|state| (state, fullest().bytes()));
     let packets = whole_answers();
     let mut memory = vec![0; 8_191];

@@ -1,11 +1,12 @@
 //! Whole runs of calls: what a run may depend on, and what not.
 
-use second::cases::packets::{any_packet, one_of_each, Marks, Packet};
+use second::cases::packets::{any_packet, one_of_each, request_sense, Marks, Packet};
 use second::cases::picked_state::all_flags;
 use second::cases::sheet::any_fit;
 use second::drive::State;
-use second::limits::BOUND;
+use second::limits::{BOUND, TOP_ADDRESS};
 use second::packet::{perform, Reply};
+use second::play::{Play, STATUSES};
 use second::refusal::Refusal;
 use second::rng::Rng;
 use second::sense::Sense;
@@ -18,6 +19,7 @@ enum Call {
     Button,
     Lay,
     Lift,
+    MoveOn(u32),
     Packet(Packet),
 }
 
@@ -56,6 +58,7 @@ impl Bench {
             Call::Button => self.state.button(),
             Call::Lay => self.state.lay(),
             Call::Lift => self.state.lift(),
+            Call::MoveOn(k) => self.state.move_on(k.into()),
         };
         self.state = moved.unwrap_or(self.state);
         Given::Moved(moved)
@@ -63,7 +66,8 @@ impl Bench {
 }
 
 fn any_call(rng: &mut Rng, marks: &Marks) -> Call {
-    match rng.below(12) {
+    match rng.below(13) {
+        12 => Call::MoveOn(rng.long() >> rng.below(32)),
         0 => any_power_on(rng),
         1 => Call::Button,
         2 => Call::Lay,
@@ -82,7 +86,17 @@ fn any_bench(rng: &mut Rng) -> (Bench, Marks) {
     let flags: Vec<State> = all_flags().collect();
     let table = any_fit(rng).bytes();
     let marks = Marks::of(read(&table).ok().as_ref());
-    (Bench::new(rng.pick(&flags), table), marks)
+    let end = rng.below(TOP_ADDRESS as usize + 1);
+    let play = Play {
+        status: rng.pick(&STATUSES),
+        position: rng.below(end + 1) as u32,
+        end: end as u32,
+    };
+    let state = State {
+        play,
+        ..rng.pick(&flags)
+    };
+    (Bench::new(state, table), marks)
 }
 
 /// From a power-on of either form two runs of the same calls, with different fit
@@ -110,14 +124,18 @@ fn two_runs_agree() {
     assert!(told > 2_500 && longest > 10, "{told} {longest}");
 }
 
-/// The same call on the same drive gives the same, however often it is made.
+/// The same call on the same drive gives the same, however often it is made. Each
+/// run begins with an answer that has bytes.
 #[test]
 fn same_input_same_outcome() {
     let mut rng = Rng::new(6);
     for _ in 0..300 {
         let (mut one, marks) = any_bench(&mut rng);
-        for _ in 0..20 {
-            let call = any_call(&mut rng, &marks);
+        for made in 0..20 {
+            let call = match made {
+                0 => Call::Packet(request_sense(18)),
+                _ => any_call(&mut rng, &marks),
+            };
             let mut again = Bench::new(one.state, one.table.clone());
             again.memory.clone_from(&one.memory);
             assert_eq!(one.call(call), again.call(call));

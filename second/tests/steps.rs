@@ -7,6 +7,7 @@ use second::cases::packets::*;
 use second::cases::picked_state::all_flags;
 use second::cases::sheet::{any_fit, disc_e, three_sessions, two_sessions};
 use second::drive::State;
+use second::play::Play;
 use second::refusal::Refusal;
 use second::rng::Rng;
 use second::sense::{self, Sense, NONE};
@@ -157,6 +158,7 @@ fn button_and_power_on() {
                 power: true,
                 change: false,
                 sense: Sense::new(0, 0, 0),
+                play: Play::NONE,
             };
             assert_eq!(on.power_on_without_change(), next);
             // K3: the default form differs in the change attention alone.
@@ -170,23 +172,34 @@ fn button_and_power_on() {
 fn who_needs_a_disc() {
     let mut needing: Vec<Packet> = [0x00, 0x25, 0x28, 0x2B, 0x43, 0xA8].map(plain).to_vec();
     needing.push(start_stop(1));
+    // K2: "These commands need a disc." Loaded, each of these is GOOD.
+    needing.extend([play(150, 1), play(0, 0), position(true), plain(0x42)]);
     for packet in needing {
-        assert_eq!(check(State::ZERO, &packet), Sense::new(2, 0x3A, 1));
-        assert_eq!(check(State::ZERO.opened(), &packet), Sense::new(2, 0x3A, 2));
+        assert_eq!(check(State::EMPTY, &packet), Sense::new(2, 0x3A, 1));
+        assert_eq!(
+            check(State::EMPTY.opened(), &packet),
+            Sense::new(2, 0x3A, 2)
+        );
         assert_eq!(check(READY.opened(), &packet), Sense::new(2, 0x3A, 2));
         assert_eq!(on_e(READY, &packet).0.status, 0);
+    }
+    // Nothing plays, so a pause has nothing to hold: 05/24/00 with a disc.
+    for packet in [pause(), resume()] {
+        assert_eq!(check(State::EMPTY, &packet), Sense::new(2, 0x3A, 1));
+        assert_eq!(check(READY.opened(), &packet), Sense::new(2, 0x3A, 2));
+        assert_eq!(check(READY, &packet), Sense::new(5, 0x24, 0));
     }
     for packet in [0, EJECT, LOAD]
         .map(start_stop)
         .into_iter()
         .chain([0, 1].map(prevent))
     {
-        for state in [READY, State::ZERO, State::ZERO.opened(), READY.opened()] {
+        for state in [READY, State::EMPTY, State::EMPTY.opened(), READY.opened()] {
             assert_eq!(on_e(state, &packet).0.status, 0);
         }
     }
     for code in (0..=255).filter(|code| !CODES.contains(code)) {
-        for state in [READY, State::ZERO, READY.opened()] {
+        for state in [READY, State::EMPTY, READY.opened()] {
             assert_eq!(check(state, &plain(code)), Sense::new(5, 0x20, 0));
         }
     }
@@ -205,7 +218,7 @@ fn each_triple() {
     };
     let ways: [(State, Packet, [u8; 3]); 10] = [
         (READY, test_ready(), [0x00, 0x00, 0x00]),
-        (State::ZERO, test_ready(), [0x02, 0x3A, 0x01]),
+        (State::EMPTY, test_ready(), [0x02, 0x3A, 0x01]),
         (READY.opened(), test_ready(), [0x02, 0x3A, 0x02]),
         (READY, plain(0xBE), [0x05, 0x20, 0x00]),
         (READY, seek(300), [0x05, 0x21, 0x00]),

@@ -2,25 +2,27 @@
 
 use crate::cases::random;
 use crate::cases::stream::Stream;
-use crate::replay;
+use crate::replay::{self, STATE_BYTES};
 use crate::rng::Rng;
 
 /// Records that end the run, each a bit of raw stream.
 pub fn bad_records() -> Vec<(&'static str, Vec<u8>)> {
     let mut list: Vec<(&'static str, Vec<u8>)> = Vec::new();
-    for kind in [12, 24, 100, 128, 255] {
+    for kind in [13, 24, 100, 128, 255] {
         list.push(("unknown kind", vec![kind, 0, 0]));
         list.push(("unknown kind with a body", vec![kind, 0, 1, 0]));
     }
-    for kind in [0, 1, 7, 10, 11, 12] {
+    for kind in [0, 1, 7, 10, 11, 12, 13] {
         list.push(("kind alone", vec![kind]));
         list.push(("half a length", vec![kind, 0]));
         list.push(("no body", vec![kind, 0, 1]));
     }
-    list.push(("body one byte short", vec![0, 0, 8, 0, 0, 0, 0, 0, 0, 0]));
+    let mut state = vec![replay::STATE, 0, STATE_BYTES as u8];
+    state.resize(3 + STATE_BYTES, 0);
+    list.push(("body one byte short", state[..STATE_BYTES + 2].to_vec()));
     list.push(("table cut off", vec![1, 0, 59, 0, 57, 1, 1]));
     list.push(("packet cut off", vec![7, 0, 12, 0]));
-    for kind in [1, 2, 7, 11, 12] {
+    for kind in [1, 2, 7, 11, 12, 13] {
         for length in [8_192u16, 8_193, 65_535] {
             let mut long = vec![kind];
             long.extend(length.to_be_bytes());
@@ -31,13 +33,13 @@ pub fn bad_records() -> Vec<(&'static str, Vec<u8>)> {
     }
     for place in 0..5 {
         for value in [2, 3, 128, 255] {
-            let mut state = vec![0, 0, 8, 0, 0, 0, 0, 0, 0, 0, 0];
-            state[3 + place] = value;
-            list.push(("flag", state));
+            let mut wrong = state.clone();
+            wrong[3 + place] = value;
+            list.push(("flag", wrong));
         }
     }
-    let unsuited: [(u8, &[usize]); 10] = [
-        (replay::STATE, &[0, 1, 7, 9]),
+    let unsuited: [(u8, &[usize]); 11] = [
+        (replay::STATE, &[0, 1, 7, 8, 9, 16, 18]),
         (replay::MEMORY, &[0, 1, 2, 4]),
         (replay::POWER_ON, &[1, 8]),
         (replay::BUTTON, &[1, 8]),
@@ -47,6 +49,7 @@ pub fn bad_records() -> Vec<(&'static str, Vec<u8>)> {
         (replay::TO_ADDRESS, &[0, 2, 4]),
         (replay::PART, &[0, 2]),
         (replay::POWER_ON_WITHOUT_CHANGE, &[1, 8]),
+        (replay::MOVE_ON, &[0, 1, 3, 5, 8]),
     ];
     for (kind, lengths) in unsuited {
         for &length in lengths {

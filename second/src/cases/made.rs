@@ -8,8 +8,8 @@ use crate::cases::pairs::{self, Pair};
 use crate::cases::sheet::{disc_e, two_sessions, Sheet};
 use crate::cases::stream::Stream;
 use crate::cases::{
-    mode_five, picked, picked_codes, picked_fields, picked_power, picked_state, picked_tables,
-    random, several,
+    mode_five, picked, picked_audio, picked_codes, picked_fields, picked_power, picked_state,
+    picked_tables, random, several,
 };
 use crate::examples;
 use crate::files::File;
@@ -50,7 +50,7 @@ macro_rules! named {
     };
 }
 
-const MAKERS: [(&str, Maker); 52] = [
+const MAKERS: [(&str, Maker); 73] = [
     named!(Start, picked_state::from_nothing),
     named!(Calls, picked_state::attentions),
     named!(Calls, picked_state::senses),
@@ -80,6 +80,26 @@ const MAKERS: [(&str, Maker); 52] = [
     named!(Calls, picked_tables::fit),
     named!(Calls, picked_tables::parts),
     named!(Calls, picked_tables::t134),
+    named!(Calls, picked_audio::marked_audio),
+    named!(Calls, picked_audio::plays),
+    named!(Calls, picked_audio::long_plays),
+    named!(Calls, picked_audio::play_again),
+    named!(Calls, picked_audio::pauses),
+    named!(Calls, picked_audio::positions),
+    named!(Calls, picked_audio::other_tables),
+    named!(Calls, picked_audio::sub_lengths),
+    named!(Calls, picked_audio::sub_formats),
+    named!(Calls, picked_audio::told_once),
+    named!(Calls, picked_audio::moves),
+    named!(Calls, picked_audio::stops),
+    named!(Calls, picked_audio::resets),
+    named!(Calls, picked_audio::tray_while_playing),
+    named!(Calls, picked_audio::tray_without_disc),
+    named!(Calls, picked_audio::audio_told_first),
+    named!(Calls, picked_audio::every_status),
+    named!(Calls, picked_audio::every_end),
+    named!(Calls, picked_audio::record_in_order),
+    named!(Calls, picked_audio::audio_bits),
     named!(random::fill, Calls(drawn)),
     named!(
         random::trace_scene,
@@ -88,6 +108,10 @@ const MAKERS: [(&str, Maker); 52] = [
     named!(
         random::power_on_scene,
         Calls(|stream| scenes(stream, random::power_on_scene))
+    ),
+    named!(
+        random::audio_scene,
+        Calls(|stream| scenes(stream, random::audio_scene))
     ),
     named!(
         random::broken_scene,

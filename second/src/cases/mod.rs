@@ -9,6 +9,7 @@ pub mod mode_five;
 pub mod packets;
 pub mod pairs;
 pub mod picked;
+pub mod picked_audio;
 pub mod picked_codes;
 pub mod picked_fields;
 pub mod picked_power;

@@ -1,7 +1,7 @@
 //! Packets by name, the bits that rules name, and packets drawn at random.
 
 use crate::rng::Rng;
-use crate::table::Disc;
+use crate::table::{Disc, Mode};
 
 pub type Packet = [u8; 12];
 
@@ -73,8 +73,40 @@ pub fn toc(msf: bool, format: u8, number: u8, length: u16) -> Packet {
     p
 }
 
-/// The codes the board answers.
-pub const CODES: [u8; 10] = [0x00, 0x03, 0x12, 0x1B, 0x1E, 0x25, 0x28, 0x2B, 0x43, 0xA8];
+pub fn play(address: u32, count: u16) -> Packet {
+    let mut p = read10(address, count);
+    p[0] = 0x45;
+    p
+}
+
+pub fn pause() -> Packet {
+    plain(0x4B)
+}
+
+pub fn resume() -> Packet {
+    let mut p = pause();
+    p[8] = 1;
+    p
+}
+
+pub fn sub_channel(msf: bool, sub_q: bool, format: u8, length: u16) -> Packet {
+    let mut p = plain(0x42);
+    p[1] = u8::from(msf) * 2;
+    p[2] = u8::from(sub_q) * 0x40;
+    p[3] = format;
+    p[7..9].copy_from_slice(&length.to_be_bytes());
+    p
+}
+
+/// 42h for the whole answer, by block address or by M:S:F.
+pub fn position(msf: bool) -> Packet {
+    sub_channel(msf, true, 1, 16)
+}
+
+/// The codes the board answers, K2's three last.
+pub const CODES: [u8; 13] = [
+    0x00, 0x03, 0x12, 0x1B, 0x1E, 0x25, 0x28, 0x2B, 0x43, 0xA8, 0x45, 0x4B, 0x42,
+];
 
 /// One packet for every command and branch, on any small disc.
 pub fn one_of_each() -> Vec<Packet> {
@@ -99,7 +131,12 @@ pub fn one_of_each() -> Vec<Packet> {
         toc(false, 0, 0, 804),
         toc(true, 1, 0, 804),
         toc(false, 2, 1, 12),
-        plain(0x45),
+        play(150, 1),
+        pause(),
+        resume(),
+        position(false),
+        sub_channel(true, false, 0, 3),
+        plain(0x47),
     ]
 }
 
@@ -114,11 +151,18 @@ pub fn named_bits(code: u8) -> Packet {
         }
         0x1B => bits[4] = 0x03,
         0x1E => bits[4] = 0x01,
-        0x28 => {
+        0x28 | 0x45 => {
             bits[2..6].fill(0xFF);
             bits[7..9].fill(0xFF);
         }
         0x2B => bits[2..6].fill(0xFF),
+        0x42 => {
+            bits[1] = 0x02;
+            bits[2] = 0x40;
+            bits[3] = 0xFF;
+            bits[7..9].fill(0xFF);
+        }
+        0x4B => bits[8] = 0x01,
         0x43 => {
             bits[1] = 0x02;
             bits[2] = 0x0F;
@@ -145,6 +189,8 @@ pub fn with_junk(rng: &mut Rng, packet: Packet) -> Packet {
 pub struct Marks {
     pub blocks: Vec<u32>,
     pub end: u32,
+    /// First block and end of each audio track.
+    pub audio: Vec<(u32, u32)>,
     pub numbers: Vec<u8>,
 }
 
@@ -155,6 +201,7 @@ impl Marks {
             return Marks {
                 blocks: vec![0, 150, 300],
                 end: 300,
+                audio: vec![(150, 300)],
                 numbers: vec![0, 1, 2, 3, 0xAA],
             };
         };
@@ -169,11 +216,35 @@ impl Marks {
         let mut numbers = vec![0, 1, 2, 99, 100, 0x9F, 0xA0, 0xA9, 0xAA, 0xAB, 0xFF];
         numbers.extend([first - 1, first, first + 1, last - 1, last, last + 1]);
         numbers.extend([sessions - 1, sessions, sessions + 1]);
+        let audio = disc.extents().into_iter();
+        let audio = audio.filter(|(track, _, _)| track.is(Mode::Audio));
         Marks {
             blocks,
             end: disc.end(),
+            audio: audio.map(|(_, start, end)| (start, end)).collect(),
             numbers,
         }
+    }
+
+    /// A run of audio blocks, where the disc has some: all or the end of a
+    /// track, or any part of it.
+    pub fn audio_run(&self, rng: &mut Rng) -> (u32, u16) {
+        if self.audio.is_empty() {
+            return (self.address(rng), rng.below(3) as u16);
+        }
+        let (start, end) = rng.pick(&self.audio);
+        let from = match rng.below(3) {
+            0 => start,
+            1 => end - 1,
+            _ => rng.range(start as usize, end as usize - 1) as u32,
+        };
+        let left = (end - from).min(65_535) as usize;
+        let count = match rng.below(3) {
+            0 => left,
+            1 => rng.range(1, left.min(40)),
+            _ => rng.range(0, left),
+        };
+        (from, count as u16)
     }
 
     pub fn address(&self, rng: &mut Rng) -> u32 {
@@ -216,10 +287,32 @@ impl Marks {
 }
 
 /// Lengths around every answer's size.
-pub const LENGTHS: [u16; 33] = [
-    0, 1, 2, 3, 4, 5, 7, 8, 11, 12, 13, 17, 18, 19, 20, 28, 35, 36, 37, 47, 48, 255, 256, 803, 804,
-    805, 4_359, 4_360, 4_361, 6_537, 6_538, 6_539, 65_535,
+pub const LENGTHS: [u16; 35] = [
+    0, 1, 2, 3, 4, 5, 7, 8, 11, 12, 13, 15, 16, 17, 18, 19, 20, 28, 35, 36, 37, 47, 48, 255, 256,
+    803, 804, 805, 4_359, 4_360, 4_361, 6_537, 6_538, 6_539, 65_535,
 ];
+
+/// 45h, 4Bh or 42h (K2): a PLAY that is GOOD as often as one near a boundary, a
+/// 42h that is GOOD most of the time.
+pub fn any_audio(rng: &mut Rng, marks: &Marks) -> Packet {
+    match rng.below(12) {
+        0 | 1 => {
+            let (address, count) = marks.audio_run(rng);
+            play(address, count)
+        }
+        2 | 3 => {
+            let address = marks.address(rng);
+            play(address, marks.count(rng, address) as u16)
+        }
+        4 | 5 => pause(),
+        6 | 7 => resume(),
+        8 => {
+            let (format, length) = (rng.byte() % 4, rng.pick(&LENGTHS));
+            sub_channel(rng.one_in(2), rng.one_in(2), format, length)
+        }
+        _ => position(rng.one_in(2)),
+    }
+}
 
 /// Any packet of 12 bytes, most often a known command near a boundary.
 pub fn any_packet(rng: &mut Rng, marks: &Marks) -> Packet {
@@ -229,7 +322,8 @@ pub fn any_packet(rng: &mut Rng, marks: &Marks) -> Packet {
     } else {
         length.min(255) as u8
     };
-    let packet = match rng.below(100) {
+    let packet = match rng.below(124) {
+        100..=123 => any_audio(rng, marks),
         0..=5 => test_ready(),
         6..=13 => request_sense(short),
         14..=20 => {

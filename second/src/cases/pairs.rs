@@ -1,8 +1,8 @@
 //! Pairs of a table file and a packet file for the listing program.
 
 use crate::cases::packets::{
-    any_packet, inquiry, one_of_each, prevent, request_sense, start_stop, test_ready, toc,
-    with_junk, Marks, EJECT, LOAD,
+    any_packet, inquiry, one_of_each, pause, play, position, prevent, request_sense, resume, seek,
+    start_stop, sub_channel, test_ready, toc, with_junk, Marks, Packet, EJECT, LOAD,
 };
 use crate::cases::several;
 use crate::cases::sheet::{any_fit, fullest, most_sessions, three_sittings};
@@ -162,9 +162,41 @@ pub fn stored_pair(seed: u64) -> Pair {
     ] {
         packets.extend(packet);
     }
+    packets.extend(audio().concat());
     packets.extend(run_of_packets(&mut rng, &marks, 700));
     packets.extend([0x12, 0, 0, 0, 36]);
     Pair { table, packets }
+}
+
+/// K2 on the three sittings: plays of one track, of two, to the last lead-out,
+/// and those that fail; where they stand, paused and resumed. The listing has no
+/// outside call, so a play stays where it begins.
+fn audio() -> Vec<Packet> {
+    vec![
+        position(false),
+        play(720, 100),
+        position(false),
+        position(true),
+        pause(),
+        sub_channel(false, false, 0, 16),
+        pause(),
+        resume(),
+        play(4_499, 501),
+        position(true),
+        play(8_998, 2),
+        sub_channel(true, true, 1, 15),
+        play(8_998, 3),
+        play(4_999, 2),
+        play(700, 1),
+        play(9, 1),
+        play(9, 0),
+        sub_channel(false, true, 2, 16),
+        play(u32::MAX, 0),
+        seek(4_600),
+        pause(),
+        resume(),
+        position(false),
+    ]
 }
 
 /// K6: for each rule from 1 on a table that breaks it alone, three packets that

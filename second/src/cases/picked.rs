@@ -1,7 +1,9 @@
 //! The lists picked by hand, one after the other.
 
 use crate::cases::stream::Stream;
-use crate::cases::{picked_codes, picked_fields, picked_power, picked_state, picked_tables};
+use crate::cases::{
+    picked_audio, picked_codes, picked_fields, picked_power, picked_state, picked_tables,
+};
 
 /// Every hand-picked case, from the very start of a run.
 pub fn all(stream: &mut Stream) {
@@ -34,6 +36,26 @@ pub fn all(stream: &mut Stream) {
     picked_tables::fit(stream);
     picked_tables::parts(stream);
     picked_tables::t134(stream);
+    picked_audio::marked_audio(stream);
+    picked_audio::plays(stream);
+    picked_audio::long_plays(stream);
+    picked_audio::play_again(stream);
+    picked_audio::pauses(stream);
+    picked_audio::positions(stream);
+    picked_audio::other_tables(stream);
+    picked_audio::sub_lengths(stream);
+    picked_audio::sub_formats(stream);
+    picked_audio::told_once(stream);
+    picked_audio::moves(stream);
+    picked_audio::stops(stream);
+    picked_audio::resets(stream);
+    picked_audio::tray_while_playing(stream);
+    picked_audio::tray_without_disc(stream);
+    picked_audio::audio_told_first(stream);
+    picked_audio::every_status(stream);
+    picked_audio::every_end(stream);
+    picked_audio::record_in_order(stream);
+    picked_audio::audio_bits(stream);
 }
 
 /// Kinds 8 and 9 at all boundaries.

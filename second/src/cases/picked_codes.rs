@@ -7,19 +7,20 @@ use crate::cases::picked_state::MEMORY;
 use crate::cases::sheet::one_long_track;
 use crate::cases::stream::Stream;
 use crate::drive::State;
+use crate::play::{Play, PLAYING};
 use crate::sense;
 
 /// Bytes 1 to 11 behind a code.
 type Fields = [u8; 11];
 
-/// A block of the disc. READ(10) names 12 blocks and READ(12) 3,077; an eject,
-/// or the lock off; READ TOC by M:S:F, format 0, 12 bytes; 18 of any other
-/// answer that is cut.
+/// A block of the disc, which is data. READ(10) names 12 blocks and READ(12)
+/// 3,077, and PLAY may not; an eject, or the lock off; READ TOC by M:S:F, format
+/// 0, 12 bytes; a pause; 42h without SubQ; 18 of any other answer that is cut.
 const ON_THE_DISC: Fields = [
     0x02, 0x00, 0x00, 0x12, 0x34, 0x00, 0x00, 0x0C, 0x05, 0xA5, 0x5A,
 ];
 
-/// A block past the end of any disc, which SEEK and both READs refuse. LoEj 0
+/// A block past the end of any disc, which SEEK, PLAY and both READs refuse. LoEj 0
 /// and Start 1, or the lock on; the field that INQUIRY refuses; READ TOC format
 /// 2, session 1.
 const PAST_THE_END: Fields = [
@@ -46,19 +47,20 @@ fn all_codes(stream: &mut Stream, state: State, fields: Fields) {
 }
 
 /// With nothing pending, so that each code is answered by what its row says:
-/// loaded, under lock with a sense held and without both, closed and empty,
-/// open with the disc in.
+/// loaded, under lock with a sense held and a play, and without these, closed and
+/// empty, open with the disc in.
 pub fn every_row(stream: &mut Stream) {
     stream.table(&one_long_track().bytes());
     let locked = State {
         lock: true,
         sense: sense::WRONG_MODE,
+        play: Play::new(PLAYING, 5, 9),
         ..State::READY
     };
     all_codes(stream, locked, ON_THE_DISC);
     all_codes(stream, State::READY, ON_THE_DISC);
     all_codes(stream, State::READY, PAST_THE_END);
-    all_codes(stream, State::ZERO, PAST_THE_END);
+    all_codes(stream, State::EMPTY, PAST_THE_END);
     all_codes(stream, State::READY.opened(), LOADING);
 }
 

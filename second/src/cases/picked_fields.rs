@@ -24,7 +24,7 @@ fn put_in(stream: &mut Stream, sheet: &Sheet) -> Marks {
 /// All 256 operation codes, loaded and not.
 pub fn codes(stream: &mut Stream) {
     put_in(stream, &disc_e());
-    for state in [State::READY, State::ZERO, State::READY.opened()] {
+    for state in [State::READY, State::EMPTY, State::READY.opened()] {
         stream.memory(MEMORY, 0x11);
         for code in 0..=255u8 {
             stream.packet_from(state, &plain(code));

@@ -91,7 +91,7 @@ pub fn not_loaded(stream: &mut Stream) {
         |stream| packets(stream, &[request_sense(0), start_stop(LOAD)]),
     ];
     for form in FORMS {
-        for state in [State::READY.opened(), State::ZERO.opened(), State::ZERO] {
+        for state in [State::READY.opened(), State::EMPTY.opened(), State::EMPTY] {
             for change in [false, true] {
                 for close in closings {
                     stream.state(State { change, ..state });
@@ -102,7 +102,7 @@ pub fn not_loaded(stream: &mut Stream) {
             }
         }
         // The disc is laid after the power-on, or lifted.
-        stream.state(State::ZERO);
+        stream.state(State::EMPTY);
         form(stream);
         stream.button();
         stream.lay();
@@ -132,7 +132,7 @@ pub fn one_after_another(stream: &mut Stream) {
     ];
     for first in FORMS {
         for last in FORMS {
-            for state in [State::READY, State::READY.opened(), State::ZERO] {
+            for state in [State::READY, State::READY.opened(), State::EMPTY] {
                 for between in between {
                     stream.state(state);
                     first(stream);

@@ -21,7 +21,7 @@ pub fn all_flags() -> impl Iterator<Item = State> {
         lock: n & 4 != 0,
         power: n & 2 != 0,
         change: n & 1 != 0,
-        sense: sense::NONE,
+        ..State::EMPTY
     })
 }
 
@@ -56,7 +56,8 @@ pub fn strangers() -> Vec<Sense> {
     list
 }
 
-/// "At the start: state all zero, no table, no memory."
+/// "At the start: state all zero, no table, no memory." The play status is 00h
+/// then, so 2 refuses every call on the drive up to a power-on (K2).
 pub fn from_nothing(stream: &mut Stream) {
     for packet in one_of_each() {
         stream.packet(&packet);
@@ -67,6 +68,19 @@ pub fn from_nothing(stream: &mut Stream) {
     }
     stream.lay();
     stream.lift();
+    stream.button();
+    stream.move_on(0);
+    stream.memory(MEMORY, 0xEE);
+    stream.packet(&test_ready());
+    stream.memory(0, 0);
+    stream.power_on_without_change();
+    for packet in [test_ready(), request_sense(18), inquiry(36)] {
+        stream.packet(&packet);
+    }
+    stream.state(State::EMPTY);
+    stream.lay();
+    stream.lift();
+    stream.move_on(1);
     stream.button();
     stream.lay();
     stream.lay();
@@ -181,7 +195,7 @@ pub fn refusal_order(stream: &mut Stream) {
         } else {
             sense::BAD_FIELD
         };
-        for flags in [State::READY, State::ZERO, State::READY.opened()] {
+        for flags in [State::READY, State::EMPTY, State::READY.opened()] {
             let state = State {
                 sense: held,
                 ..flags
@@ -252,7 +266,7 @@ pub fn longest_answer(stream: &mut Stream) {
 /// Tray calls and packets in turn, with the disc and its table changing.
 pub fn tray_traces(stream: &mut Stream) {
     let (e, two) = (disc_e().bytes(), two_sittings().bytes());
-    stream.state(State::ZERO);
+    stream.state(State::EMPTY);
     stream.power_on();
     for round in 0..6 {
         let table = if round % 2 == 0 { &e } else { &two };

@@ -70,7 +70,7 @@ pub fn other_numbers(stream: &mut Stream) {
     for table in one_for_each_rule() {
         stream.table(&table);
         stream.memory(MEMORY, 0x46);
-        for (state, length) in [(State::READY, 11), (stranger, 12), (State::ZERO, 12)] {
+        for (state, length) in [(State::READY, 11), (stranger, 12), (State::EMPTY, 12)] {
             stream.packet_from(State::READY, &test_ready());
             stream.packet_from(state, &test_ready()[..length]);
         }

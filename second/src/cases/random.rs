@@ -2,16 +2,19 @@
 
 use crate::address::to_msf;
 use crate::cases::packets::{
-    any_packet, capacity, one_of_each, start_stop, test_ready, toc, with_junk, Marks, EJECT, LOAD,
+    any_audio, any_packet, capacity, one_of_each, pause, play, position, read12, seek, start_stop,
+    test_ready, toc, with_junk, Marks, EJECT, LOAD,
 };
 use crate::cases::picked_state::{strangers, MEMORY};
 use crate::cases::sheet::{any_fit, fit, longest, small_fit, Sheet};
 use crate::cases::spoil::{any_broken, spoil};
 use crate::cases::stream::Stream;
 use crate::drive::State;
+use crate::limits::TOP_ADDRESS;
+use crate::play::{Play, STATUSES};
 use crate::rng::Rng;
 use crate::sense::{self, Sense, TEN};
-use crate::table;
+use crate::table::{self, Mode};
 
 /// Adds scenes until the stream has at least this many calls.
 pub fn fill(stream: &mut Stream, rng: &mut Rng, calls: usize) {
@@ -21,18 +24,19 @@ pub fn fill(stream: &mut Stream, rng: &mut Rng, calls: usize) {
 }
 
 fn scene(stream: &mut Stream, rng: &mut Rng) {
-    match rng.below(52) {
+    match rng.below(70) {
         0..=11 => disc_scene(stream, rng),
         12..=18 => trace_scene(stream, rng),
         19..=27 => spoilt_scene(stream, rng),
         28..=30 => address_scene(stream, rng),
         31..=33 => state_scene(stream, rng),
-        34 => memory_scene(stream, rng),
-        35 => length_scene(stream, rng),
-        36 | 37 => part_scene(stream, rng),
-        38 if rng.one_in(3) => full_scene(stream, rng),
-        38 | 39 => chaos_scene(stream, rng),
-        40 | 41 => power_on_scene(stream, rng),
+        34 | 35 => memory_scene(stream, rng),
+        36 => length_scene(stream, rng),
+        37 | 38 => part_scene(stream, rng),
+        39 if rng.one_in(3) => full_scene(stream, rng),
+        39 | 40 => chaos_scene(stream, rng),
+        41..=46 => power_on_scene(stream, rng),
+        47..=55 => audio_scene(stream, rng),
         _ => broken_scene(stream, rng),
     }
 }
@@ -57,7 +61,49 @@ fn any_sense(rng: &mut Rng) -> Sense {
     }
 }
 
-fn any_state(rng: &mut Rng) -> State {
+/// A sound play record (K2): on or next to a mark, the end as near or far.
+fn sound_play(rng: &mut Rng, marks: &Marks) -> Play {
+    if rng.one_in(6) {
+        return Play::NONE;
+    }
+    let position = match rng.below(4) {
+        0 => rng.below(TOP_ADDRESS as usize + 1) as u32,
+        1 => marks.audio_run(rng).0.min(TOP_ADDRESS),
+        _ => (rng.pick(&marks.blocks) + rng.below(3) as u32).saturating_sub(1),
+    };
+    let position = position.min(TOP_ADDRESS);
+    let left = (TOP_ADDRESS - position) as usize;
+    let ahead = match rng.below(4) {
+        0 => 0,
+        1 => left,
+        2 => rng.below(left + 1),
+        _ => rng.below(left.min(30) + 1),
+    };
+    Play::new(rng.pick(&STATUSES), position, position + ahead as u32)
+}
+
+/// A play record that refusal 2 covers, in one of its three ways.
+fn unsound_play(rng: &mut Rng, marks: &Marks) -> Play {
+    let sound = sound_play(rng, marks);
+    match rng.below(4) {
+        0 => Play {
+            status: rng.pick(&[0x00, 0x10, 0x14, 0x16, 0xFF]),
+            ..sound
+        },
+        1 => Play {
+            status: rng.byte(),
+            end: TOP_ADDRESS + 1,
+            ..sound
+        },
+        2 => Play {
+            position: sound.end + 1 + rng.below(3) as u32,
+            ..sound
+        },
+        _ => Play::new(sound.status, rng.long(), rng.long() >> 1),
+    }
+}
+
+fn any_state(rng: &mut Rng, marks: &Marks) -> State {
     State {
         tray_open: rng.one_in(2),
         disc_in: rng.below(4) > 0,
@@ -65,11 +111,17 @@ fn any_state(rng: &mut Rng) -> State {
         power: rng.one_in(4),
         change: rng.one_in(4),
         sense: any_sense(rng),
+        play: if rng.one_in(10) {
+            unsound_play(rng, marks)
+        } else {
+            sound_play(rng, marks)
+        },
     }
 }
 
-/// Loaded, mostly with nothing pending, with a sense of the ten.
-fn loaded_state(rng: &mut Rng) -> State {
+/// Loaded, mostly with nothing pending, with a sense of the ten and a sound
+/// play record.
+fn loaded_state(rng: &mut Rng, marks: &Marks) -> State {
     State {
         lock: rng.one_in(3),
         power: rng.one_in(12),
@@ -79,7 +131,19 @@ fn loaded_state(rng: &mut Rng) -> State {
         } else {
             rng.pick(&TEN)
         },
+        play: sound_play(rng, marks),
         ..State::READY
+    }
+}
+
+/// How far K2's outside call moves: a little, or far past any end.
+fn any_step(rng: &mut Rng) -> u32 {
+    match rng.below(6) {
+        0 => 0,
+        1 => rng.long(),
+        2 => rng.below(500_000) as u32,
+        3 => 1,
+        _ => rng.below(40) as u32,
     }
 }
 
@@ -104,10 +168,10 @@ fn disc_scene(stream: &mut Stream, rng: &mut Rng) {
     if rng.one_in(2) {
         lend_memory(stream, rng);
     }
-    stream.state(loaded_state(rng));
+    stream.state(loaded_state(rng, &marks));
     for _ in 0..rng.range(10, 40) {
         if rng.one_in(6) {
-            stream.state(loaded_state(rng));
+            stream.state(loaded_state(rng, &marks));
         }
         stream.packet(&any_packet(rng, &marks));
     }
@@ -118,10 +182,12 @@ pub fn trace_scene(stream: &mut Stream, rng: &mut Rng) {
     let mut marks = lend(stream, &any_fit(rng));
     stream.state(State {
         sense: sense::NONE,
-        ..any_state(rng)
+        play: sound_play(rng, &marks),
+        ..any_state(rng, &marks)
     });
     for _ in 0..rng.range(20, 80) {
-        match rng.below(20) {
+        match rng.below(22) {
+            20 | 21 => stream.move_on(any_step(rng)),
             0 => any_power_on(stream, rng),
             1..=3 => stream.button(),
             4 => stream.lay(),
@@ -157,11 +223,11 @@ fn spoilt_scene(stream: &mut Stream, rng: &mut Rng) {
             stream.part(session);
         }
         let marks = Marks::of(table::read(&table).ok().as_ref());
-        stream.state(loaded_state(rng));
+        stream.state(loaded_state(rng, &marks));
         stream.packet(&test_ready());
         stream.packet(&any_packet(rng, &marks));
         if rng.one_in(3) {
-            stream.state(any_state(rng));
+            stream.state(any_state(rng, &marks));
             stream.packet(&any_packet(rng, &marks));
             stream.button();
             stream.packet(&any_packet(rng, &marks));
@@ -180,7 +246,7 @@ pub fn broken_scene(stream: &mut Stream, rng: &mut Rng) {
             any_broken(rng)
         };
         stream.table(&table);
-        stream.state(loaded_state(rng));
+        stream.state(loaded_state(rng, &marks));
         let (session, packet) = (rng.pick(&[0, 1, 2, 255]), any_packet(rng, &marks));
         if rng.one_in(2) {
             stream.part(session);
@@ -190,7 +256,7 @@ pub fn broken_scene(stream: &mut Stream, rng: &mut Rng) {
             stream.part(session);
         }
         if rng.one_in(6) {
-            stream.state(any_state(rng));
+            stream.state(any_state(rng, &marks));
             stream.packet(&packet[..rng.range(11, 12)]);
         }
     }
@@ -231,9 +297,10 @@ fn address_scene(stream: &mut Stream, rng: &mut Rng) {
 fn state_scene(stream: &mut Stream, rng: &mut Rng) {
     let marks = lend(stream, &any_fit(rng));
     for _ in 0..rng.range(5, 20) {
-        stream.state(any_state(rng));
+        stream.state(any_state(rng, &marks));
         for _ in 0..rng.range(1, 3) {
-            match rng.below(8) {
+            match rng.below(9) {
+                8 => stream.move_on(any_step(rng)),
                 0 => stream.button(),
                 1 => stream.lay(),
                 2 => stream.lift(),
@@ -251,13 +318,14 @@ pub fn power_on_scene(stream: &mut Stream, rng: &mut Rng) {
     let marks = lend(stream, &any_fit(rng));
     for _ in 0..rng.range(3, 10) {
         stream.state(if rng.one_in(3) {
-            loaded_state(rng)
+            loaded_state(rng, &marks)
         } else {
-            any_state(rng)
+            any_state(rng, &marks)
         });
         any_power_on(stream, rng);
         for _ in 0..rng.range(2, 6) {
-            match rng.below(10) {
+            match rng.below(11) {
+                10 => stream.move_on(any_step(rng)),
                 0 => stream.button(),
                 1 => any_power_on(stream, rng),
                 2 => stream.packet(&start_stop(LOAD)),
@@ -269,6 +337,96 @@ pub fn power_on_scene(stream: &mut Stream, rng: &mut Rng) {
     }
 }
 
+/// Plays on a fit disc with audio on it (K2): begun, moved on, paused, asked
+/// for, stopped by READ and SEEK, ended by the tray, and met by another table.
+pub fn audio_scene(stream: &mut Stream, rng: &mut Rng) {
+    let mut marks = lend(stream, &with_audio(rng));
+    stream.state(State {
+        power: false,
+        change: false,
+        ..loaded_state(rng, &marks)
+    });
+    for _ in 0..rng.range(15, 50) {
+        match rng.below(24) {
+            0..=3 => {
+                let (address, count) = marks.audio_run(rng);
+                stream.packet(&play(address, count));
+            }
+            4 | 5 => to_the_end(stream, rng, &marks),
+            6 | 7 => {
+                stream.packet(&pause());
+                stream.packet(&position(rng.one_in(2)));
+            }
+            8..=11 => stream.move_on(any_step(rng)),
+            12..=14 => stream.packet(&position(rng.one_in(2))),
+            15..=18 => stream.packet(&any_audio(rng, &marks)),
+            19 => stream.packet(&seek(marks.address(rng))),
+            20 => {
+                let address = marks.address(rng);
+                stream.packet(&read12(address, marks.count(rng, address)));
+            }
+            21 => another_record(stream, rng, &marks),
+            22 if rng.one_in(3) => marks = lend(stream, &with_audio(rng)),
+            22 => stream.packet(&any_packet(rng, &marks)),
+            _ => tray_or_power(stream, rng),
+        }
+    }
+}
+
+/// A play that is moved to its end or next to it, and asked for.
+fn to_the_end(stream: &mut Stream, rng: &mut Rng, marks: &Marks) {
+    let (address, count) = marks.audio_run(rng);
+    stream.packet(&play(address, count));
+    stream.move_on((u32::from(count) + rng.below(3) as u32).saturating_sub(1));
+    stream.packet(&position(rng.one_in(2)));
+}
+
+/// A record set outright; now and then one that 2 covers, until another is set.
+fn another_record(stream: &mut Stream, rng: &mut Rng, marks: &Marks) {
+    if rng.one_in(3) {
+        stream.state(State {
+            play: unsound_play(rng, marks),
+            ..State::READY
+        });
+        stream.move_on(any_step(rng));
+        stream.packet(&any_audio(rng, marks));
+    }
+    stream.state(State {
+        play: sound_play(rng, marks),
+        ..State::READY
+    });
+}
+
+/// A small fit table with an audio track, but for a few.
+fn with_audio(rng: &mut Rng) -> Sheet {
+    loop {
+        let sheet = small_fit(rng);
+        let disc = table::read(&sheet.bytes()).expect("it is fit");
+        if disc.tracks().any(|track| track.is(Mode::Audio)) || rng.one_in(8) {
+            return sheet;
+        }
+    }
+}
+
+/// The tray opened and closed again, or a power-on; most often what is told then
+/// is told at once.
+fn tray_or_power(stream: &mut Stream, rng: &mut Rng) {
+    match rng.below(3) {
+        0 => any_power_on(stream, rng),
+        1 => {
+            stream.button();
+            stream.button();
+        }
+        _ => {
+            stream.packet(&start_stop(EJECT));
+            stream.packet(&start_stop(LOAD));
+        }
+    }
+    for _ in 0..rng.below(4) {
+        stream.packet(&test_ready());
+    }
+}
+
 /// Memories around the bound.
 fn memory_scene(stream: &mut Stream, rng: &mut Rng) {
     let marks = lend(stream, &any_fit(rng));
@@ -277,9 +435,9 @@ fn memory_scene(stream: &mut Stream, rng: &mut Rng) {
         let length = rng.pick(&[0, 1, 4_360, MEMORY - 1, MEMORY, MEMORY + 1, 8_191, any]);
         let fill = rng.byte();
         stream.memory(length, fill);
-        stream.state(any_state(rng));
+        stream.state(any_state(rng, &marks));
         stream.packet(&any_packet(rng, &marks));
-        stream.state(loaded_state(rng));
+        stream.state(loaded_state(rng, &marks));
         stream.packet(&any_packet(rng, &marks));
     }
     lend_memory(stream, rng);
@@ -298,9 +456,9 @@ fn length_scene(stream: &mut Stream, rng: &mut Rng) {
         };
         packet.resize(length, 0);
         stream.state(if rng.one_in(3) {
-            any_state(rng)
+            any_state(rng, &marks)
         } else {
-            loaded_state(rng)
+            loaded_state(rng, &marks)
         });
         stream.packet(&packet);
     }
@@ -357,15 +515,16 @@ fn full_scene(stream: &mut Stream, rng: &mut Rng) {
 fn chaos_scene(stream: &mut Stream, rng: &mut Rng) {
     let mut marks = Marks::of(None);
     for _ in 0..rng.range(10, 40) {
-        match rng.below(16) {
+        match rng.below(17) {
+            16 => stream.move_on(any_step(rng)),
             0 => marks = lend(stream, &any_fit(rng)),
             1 => {
                 let sheet = any_fit(rng);
                 let rule = rng.range(1, 9);
                 stream.table(&spoil(rng, &sheet, &[rule]));
             }
-            2 | 3 => stream.state(any_state(rng)),
-            4 => stream.state(loaded_state(rng)),
+            2 | 3 => stream.state(any_state(rng, &marks)),
+            4 => stream.state(loaded_state(rng, &marks)),
             5 => lend_memory(stream, rng),
             6 => any_power_on(stream, rng),
             7 => stream.button(),

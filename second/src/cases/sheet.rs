@@ -206,6 +206,11 @@ pub fn one_long_track() -> Sheet {
     Sheet::lay_out(1, &[Plan::new(TOP_ADDRESS, 0x14, &[(0, 0x14)])])
 }
 
+/// One audio track over the whole range: the longest plays (K2).
+pub fn one_long_audio() -> Sheet {
+    Sheet::lay_out(1, &[Plan::new(TOP_ADDRESS, 0x10, &[(0, 0x10)])])
+}
+
 /// 99 sessions of one track: 396 descriptors, 4,360 bytes, the longest table
 /// without B0h and C0h.
 pub fn most_sessions() -> Sheet {

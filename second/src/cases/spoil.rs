@@ -111,7 +111,7 @@ fn rule_1(rng: &mut Rng, sheet: &Sheet) -> Vec<u8> {
             odd[..2].copy_from_slice(&length.to_be_bytes());
             odd
         }
-        _ if rng.one_in(3) => over_the_bound(rng),
+        _ if rng.one_in(2) => over_the_bound(rng),
         _ => sheet.bytes_with(rng.word() as u16),
     }
 }

@@ -34,8 +34,10 @@ impl Stream {
             state.sense.key,
             state.sense.asc,
             state.sense.ascq,
+            state.play.status,
         ];
-        self.record(replay::STATE, &body);
+        let numbers = [state.play.position, state.play.end].map(u32::to_be_bytes);
+        self.record(replay::STATE, &[&body, numbers.as_flattened()].concat());
     }
 
     pub fn table(&mut self, table: &[u8]) {
@@ -65,6 +67,11 @@ impl Stream {
 
     pub fn lift(&mut self) {
         self.record(replay::LIFT, &[]);
+    }
+
+    /// K2's outside call.
+    pub fn move_on(&mut self, k: u32) {
+        self.record(replay::MOVE_ON, &k.to_be_bytes());
     }
 
     pub fn packet(&mut self, packet: &[u8]) {
