@@ -4,7 +4,7 @@ use mathlib.Core.Bool.{Bool}
 use lib.Dec.{eqb}
 use Rattle.ground.specs.Tests.{_or_, if_then_else_}
 use Rattle.drive.specs.declared.state.Deck.{Deck}
-use Rattle.drive.specs.Play.{playing, paused, completed, none, playOf, withStatus}
+use Rattle.play.specs.Play.{playing, paused, completed, none, playOf, withStatus}
 use Rattle.drive.specs.State.{withPlay}
 use Rattle.gate.specs.declared.fault.Fault.the-variants.{BadField}
 use Rattle.gate.specs.Gate.{Result, fails}

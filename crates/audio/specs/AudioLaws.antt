@@ -5,7 +5,7 @@ use Prim.Native.Nat.{ℕ, _+_}
 use borrow.Author.Tests.{eq-eqb, ne-eqb}
 use Rattle.ground.specs.Tests.{_or_, when, unless, or-left, or-right, or-else}
 use Rattle.drive.specs.declared.state.Deck.{Deck}
-use Rattle.drive.specs.Play.{playing, completed, none, playOf, withStatus}
+use Rattle.play.specs.Play.{playing, completed, none, playOf, withStatus}
 use Rattle.drive.specs.State.{withPlay}
 use Rattle.gate.specs.declared.fault.Fault.the-variants.{BadField}
 use Rattle.gate.specs.Gate.{fails}

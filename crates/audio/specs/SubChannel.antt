@@ -6,9 +6,9 @@ use lib.Dec.{eqb}
 use Rattle.ground.specs.Tests.{_and_, if_then_else_}
 use Rattle.ground.specs.Number.{bytes32}
 use Rattle.address.specs.Shown.{shownAddress}
-use Rattle.drive.specs.declared.play.Play.{Play}
+use Rattle.play.specs.declared.Play.{Play}
 use Rattle.drive.specs.declared.state.Deck.{Deck}
-use Rattle.drive.specs.Play.{completed, none, withStatus}
+use Rattle.play.specs.Play.{completed, none, withStatus}
 use Rattle.drive.specs.State.{withPlay}
 use Rattle.gate.specs.Gate.{Result}
 use Rattle.table.specs.Layout.{isTrack}

@@ -8,7 +8,7 @@ use lib.ListN.{length, length-append}
 use lib.Dec.{eqb}
 use Rattle.ground.specs.Tests.{_and_, either, when, unless, and-off}
 use Rattle.address.specs.Shown.{shownAddress, shownAddress-length}
-use Rattle.drive.specs.declared.play.Play.{Play}
+use Rattle.play.specs.declared.Play.{Play}
 use Rattle.tracks.specs.declared.track.Track.{Track}
 use Rattle.audio.specs.declared.sub_channel.SubAsk.{SubAsk}
 use Rattle.audio.specs.SubChannel.{subBad, shownRelative, relative, positionBytes, statusBytes, subBytes}

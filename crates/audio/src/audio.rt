@@ -2,13 +2,13 @@
 use blocks::range::in_range;
 use command::done::Done;
 use command::done::done_with;
-use drive::play::COMPLETED;
-use drive::play::NONE;
-use drive::play::PAUSED;
-use drive::play::PLAYING;
-use drive::play::Play;
 use drive::state::Deck;
 use gate::fault::Fault;
+use play::COMPLETED;
+use play::NONE;
+use play::PAUSED;
+use play::PLAYING;
+use play::Play;
 ghost use mathlib.Core.Path.{_≡_};
 ghost use Prim.Native.Nat.{_+_, _<_};
 ghost use Rattle.command.specs.Done.{doneOf};

@@ -2,11 +2,11 @@
 use address::shown::shown_address;
 use command::field::bit1;
 use command::field::bit6;
-use drive::play::COMPLETED;
-use drive::play::NONE;
-use drive::play::Play;
 use ground::number::bytes32;
 use ground::number::wide;
+use play::COMPLETED;
+use play::NONE;
+use play::Play;
 use table::layout::is_track;
 use tracks::track::Track;
 ghost use mathlib.Core.Path.{_≡_};

@@ -9,7 +9,7 @@ use Rattle.address.specs.Address.{isMsf, toMsf, toBlock}
 use Rattle.drive.specs.declared.sense.Sense.{Sense}
 use Rattle.drive.specs.declared.state.Drive.{Drive}
 use Rattle.drive.specs.Sense.{triple, senseAt, sameSense, among, isKnown}
-use Rattle.drive.specs.Play.{noPlay, isStatus, isPlay}
+use Rattle.play.specs.Play.{noPlay, isStatus, isPlay}
 use Rattle.drive.specs.Unit.{attend}
 use Rattle.drive.specs.State.{isSound}
 use Rattle.table.specs.Layout.{bound, isTrack, isExtra}

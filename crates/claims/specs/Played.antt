@@ -7,10 +7,10 @@ use lib.Dec.{eqb}
 use Rattle.ground.specs.Tests.{_and_, _or_, if_then_else_, every}
 use Rattle.address.specs.Address.{isMsf, toMsf}
 use Rattle.address.specs.Shown.{shownAddress}
-use Rattle.drive.specs.declared.play.Play.{Play}
+use Rattle.play.specs.declared.Play.{Play}
 use Rattle.drive.specs.declared.state.Drive.{Drive}
 use Rattle.drive.specs.Sense.{senseAt, sameSense, among, isKnown}
-use Rattle.drive.specs.Play.{playOf, noPlay, isStatus, isPlay, movedOn}
+use Rattle.play.specs.Play.{playOf, noPlay, isStatus, isPlay, movedOn}
 use Rattle.drive.specs.Unit.{attend}
 use Rattle.drive.specs.State.{isSound, showing, moveOn}
 use Rattle.table.specs.Layout.{bound, isTrack, isExtra}

@@ -11,7 +11,7 @@ use Rattle.ground.specs.Tests.{_and_, _or_}
 use Rattle.address.specs.Address.{toMsf, toBlock, isMsf}
 use Rattle.drive.specs.declared.state.Drive.{Drive}
 use Rattle.drive.specs.Sense.{triple, senseAt, isKnown}
-use Rattle.drive.specs.Play.{isStatus, isPlay}
+use Rattle.play.specs.Play.{isStatus, isPlay}
 use Rattle.drive.specs.State.{isSound, isLoaded}
 use Rattle.drive.specs.StateLaws.{powerOn-with, powerOnWithoutChange-with}
 use Rattle.table.specs.Layout.{bound, lastSession, descriptors}

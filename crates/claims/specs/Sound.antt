@@ -6,7 +6,7 @@ use Prim.Native.Nat.{_≤_}
 use lib.Dec.{eqb}
 use Rattle.address.specs.Address.{last}
 use Rattle.drive.specs.declared.state.Drive.{Drive}
-use Rattle.drive.specs.Play.{isStatus}
+use Rattle.play.specs.Play.{isStatus}
 use Rattle.drive.specs.State.{isSound}
 use Rattle.drive.specs.StateLaws.{isSound-play}
 use Rattle.claims.specs.Call.{Form, Call, powering, answer, next, final}

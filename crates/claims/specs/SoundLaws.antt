@@ -16,8 +16,8 @@ use Rattle.drive.specs.declared.state.Drive.{Drive}
 use Rattle.drive.specs.declared.state.Moved.{Moved}
 use Rattle.drive.specs.Sense.{senseAt, sameSense, noSense, isKnown}
 use Rattle.drive.specs.SenseLaws.{isKnown-at}
-use Rattle.drive.specs.Play.{playing, paused, none, isStatus, withStatus}
-use Rattle.drive.specs.PlayLaws.{Sound, noPlay-sound, withStatus-sound, movedOn-sound}
+use Rattle.play.specs.Play.{playing, paused, none, isStatus, withStatus}
+use Rattle.play.specs.PlayLaws.{Sound, noPlay-sound, withStatus-sound, movedOn-sound}
 use Rattle.drive.specs.Unit.{attend}
 use Rattle.drive.specs.State.{isSound, isLoaded, button, lay, lift, moveOn}
 use Rattle.drive.specs.StateLaws.{isSound-sense, isSound-play, sound-isSound, powerOn-with, powerOnWithoutChange-with}

@@ -23,8 +23,8 @@ use Rattle.drive.specs.declared.state.Drive.{Drive}
 use Rattle.drive.specs.declared.state.Shifted.{Shifted}
 use Rattle.drive.specs.declared.state.Moved.{Moved}
 use Rattle.drive.specs.Sense.{senseAt, sameSense, isKnown}
-use Rattle.drive.specs.declared.play.Play.{Play}
-use Rattle.drive.specs.Play.{noPlay, withStatus, isPlay}
+use Rattle.play.specs.declared.Play.{Play}
+use Rattle.play.specs.Play.{noPlay, withStatus, isPlay, movedOn}
 use Rattle.drive.specs.Unit.{poweredOn, attend}
 use Rattle.drive.specs.State.{isSound, isLoaded, opening, closing, withDisc, withLock, withPlay, shift, powerOn, powerOnWithoutChange, button, lay, lift, moveOn}
 use Rattle.gate.specs.declared.fault.Fault.{Fault}
@@ -144,6 +144,20 @@ unique-is-msf m n f r s = value-once
 pub unique-shown-address : (msf : Bool) (a : ℕ) (r s : List ℕ) → r ≡ shownAddress msf a → s ≡ shownAddress msf a → r ≡ s
 unique-shown-address msf a r s = value-once
 
+-- ---- play
+
+pub unique-no-play : (r s : Play) → r ≡ noPlay → s ≡ noPlay → r ≡ s
+unique-no-play r s = value-once
+
+pub unique-is-play : (a : Play) (r s : Bool) → r ≡ isPlay a → s ≡ isPlay a → r ≡ s
+unique-is-play a r s = value-once
+
+pub unique-with-status : (a : Play) (n : ℕ) (r s : Play) → r ≡ withStatus a n → s ≡ withStatus a n → r ≡ s
+unique-with-status a n r s = value-once
+
+pub unique-moved-on : (a : Play) (k : ℕ) (r s : Play) → r ≡ movedOn k a → s ≡ movedOn k a → r ≡ s
+unique-moved-on a k r s = value-once
+
 -- ---- drive
 
 pub unique-sense-at : (i : ℕ) (r s : Sense) → r ≡ senseAt i → s ≡ senseAt i → r ≡ s
@@ -154,15 +168,6 @@ unique-same a b r s = value-once
 
 pub unique-is-known : (a : Sense) (r s : Bool) → r ≡ isKnown a → s ≡ isKnown a → r ≡ s
 unique-is-known a r s = value-once
-
-pub unique-no-play : (r s : Play) → r ≡ noPlay → s ≡ noPlay → r ≡ s
-unique-no-play r s = value-once
-
-pub unique-is-play : (a : Play) (r s : Bool) → r ≡ isPlay a → s ≡ isPlay a → r ≡ s
-unique-is-play a r s = value-once
-
-pub unique-with-status : (a : Play) (n : ℕ) (r s : Play) → r ≡ withStatus a n → s ≡ withStatus a n → r ≡ s
-unique-with-status a n r s = value-once
 
 pub unique-powered-on : (change : Bool) (r s : Unit) → r ≡ poweredOn change → s ≡ poweredOn change → r ≡ s
 unique-powered-on change r s = value-once

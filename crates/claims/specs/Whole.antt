@@ -12,7 +12,7 @@ use Rattle.drive.specs.declared.state.Deck.{Deck}
 use Rattle.drive.specs.declared.state.Drive.{Drive}
 use Rattle.drive.specs.Sense.{senseAt}
 use Rattle.drive.specs.SenseLaws.{isKnown-at}
-use Rattle.drive.specs.PlayLaws.{noPlay-sound}
+use Rattle.play.specs.PlayLaws.{noPlay-sound}
 use Rattle.drive.specs.State.{isSound, isLoaded}
 use Rattle.drive.specs.StateLaws.{sound-isSound}
 use Rattle.table.specs.Layout.{bound, lastSession, descriptors}

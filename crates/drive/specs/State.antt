@@ -6,9 +6,9 @@ use Rattle.drive.specs.declared.state.Deck.{Deck}
 use Rattle.drive.specs.declared.state.Drive.{Drive}
 use Rattle.drive.specs.declared.state.Shifted.{Shifted}
 use Rattle.drive.specs.declared.state.Moved.{Moved}
-use Rattle.drive.specs.declared.play.Play.{Play}
+use Rattle.play.specs.declared.Play.{Play}
 use Rattle.drive.specs.Sense.{isKnown}
-use Rattle.drive.specs.Play.{noPlay, isPlay, movedOn}
+use Rattle.play.specs.Play.{noPlay, isPlay, movedOn}
 use Rattle.drive.specs.Unit.{poweredOn, attend}
 
 -- the refusals of these calls

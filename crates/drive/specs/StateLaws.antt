@@ -6,8 +6,8 @@ use Rattle.ground.specs.Tests.{_and_, and-head, and-tail, and-both, when, unles
 use Rattle.drive.specs.declared.state.Drive.{Drive}
 use Rattle.drive.specs.declared.state.Moved.{Moved}
 use Rattle.drive.specs.Sense.{isKnown}
-use Rattle.drive.specs.Play.{movedOn}
-use Rattle.drive.specs.PlayLaws.{Sound, isPlay-sound, sound-isPlay}
+use Rattle.play.specs.Play.{movedOn}
+use Rattle.play.specs.PlayLaws.{Sound, isPlay-sound, sound-isPlay}
 use Rattle.drive.specs.State.{unknownState, locked, cannotLay, cannotLift, isSound, isLoaded, opening, closing, shift, holding, showing, powerOnWith, powerOn, powerOnWithoutChange, refuse, moves, button, lay, lift, moveOn}
 
 -- a call with a number other than 0 hands back the state as it came

@@ -1,10 +1,10 @@
 // The state: an attention unit beside the deck. Each call takes it by value and hands back the next one.
-use crate::play::Play;
-use crate::play::no_play;
 use crate::sense::NO_SENSE;
 use crate::sense::Sense;
 use crate::sense::is_known;
 use crate::sense::sense_at;
+use play::Play;
+use play::no_play;
 ghost use mathlib.Core.Path.{_≡_};
 ghost use Rattle.drive.specs.Unit.{poweredOn, attend};
 ghost use Rattle.drive.specs.State.{isSound, opening, closedPlay, closing, restarted, withDisc, withLock, withPlay, withDeck, isLoaded, shift, powerOnWith, powerOn, powerOnWithoutChange, moves, refuse, button, lay, lift, moveOn};

@@ -5,7 +5,7 @@ use mathlib.Core.List.{List}
 use lib.ListN.{take, drop}
 use Rattle.drive.specs.declared.state.Drive.{Drive}
 use Rattle.drive.specs.Sense.{noSense}
-use Rattle.drive.specs.Play.{noPlay}
+use Rattle.play.specs.Play.{noPlay}
 use Rattle.drive.specs.State.{powerOnWithoutChange}
 use Rattle.table.specs.Layout.{bound}
 use Rattle.outcome.specs.Outcome.{stateOf}

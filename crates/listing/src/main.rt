@@ -2,7 +2,6 @@
 mod file;
 mod line;
 
-use drive::play::no_play;
 use drive::sense::NO_SENSE;
 use drive::sense::sense_at;
 use drive::state::Deck;
@@ -12,6 +11,7 @@ use file::load;
 use libc::STDERR_FILENO;
 use libc::STDOUT_FILENO;
 use line::put_line;
+use play::no_play;
 use print::front::front;
 use table::layout::BOUND;
 use target::packet::packet;

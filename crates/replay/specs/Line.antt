@@ -11,7 +11,7 @@ use Rattle.print.specs.Hex.{hexByte, shown}
 use Rattle.print.specs.Decimal.{decimal}
 use Rattle.print.specs.Sum.{adler32}
 use Rattle.drive.specs.declared.sense.Sense.{Sense}
-use Rattle.drive.specs.declared.play.Play.{Play}
+use Rattle.play.specs.declared.Play.{Play}
 use Rattle.drive.specs.declared.state.Drive.{Drive}
 use Rattle.disc.specs.Part.{unfit}
 use Rattle.outcome.specs.declared.Outcome.{Outcome}

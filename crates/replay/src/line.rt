@@ -1,11 +1,11 @@
 // The lines that a call prints.
 use disc::part::UNFIT;
-use drive::play::Play;
 use drive::state::Drive;
 use ground::memory::copy_front;
 use ground::number::bytes32;
 use ground::number::wide;
 use outcome::Outcome;
+use play::Play;
 use print::decimal::next_decimal;
 use print::decimal::put_decimal;
 use print::front::front;

@@ -2,7 +2,7 @@
 use mathlib.Core.Path.{sym, ap, _∙_}
 use Prim.Native.Nat.{ℕ}
 use Rattle.drive.specs.declared.state.Deck.{Deck}
-use Rattle.drive.specs.Play.{withStatus}
+use Rattle.play.specs.Play.{withStatus}
 use Rattle.drive.specs.State.{withPlay}
 use Rattle.command.specs.Done.{done, doneOf}
 use Rattle.audio.specs.AudioLaws.{isOver-completed, isOver-none, isOver-not, pauseResume-over, pauseResume-goes}

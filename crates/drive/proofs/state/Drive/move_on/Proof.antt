@@ -1,13 +1,10 @@
--- `drive::state::Drive::move_on` meets its contract: each way out is one case of the laws of moving on; a sound state's position is not past its end.
+-- `drive::state::Drive::move_on` meets its contract: each way out is one case of the laws of moving on.
 use mathlib.Core.Path.{sym, ap, _∙_}
 use Rattle.drive.specs.State.{withPlay, withDeck, moves}
-use Rattle.drive.specs.StateLaws.{isSound-play, moveOn-moves, moveOn-unknown}
+use Rattle.drive.specs.StateLaws.{moveOn-moves, moveOn-unknown}
 use borrow.Author.Needs.{needs}
 use Rattle.drive.proofs.state.Drive.move_on.Statement.{statement}
 use Rattle.drive.proofs.state.Drive.move_on.Tie as tie
-
-moved-on-requires : tie.Need-moved-on-requires
-moved-on-requires c κs = isSound-play _ (sym (c .before .is-sound .ensures) ∙ c .if1 .taken) .within
 
 returns : tie.Need-returns
 returns c = let d = c .before .before .before .before .before .before .args .self in
@@ -20,4 +17,4 @@ returns-2 : tie.Need-returns-2
 returns-2 c = c .refuse .ensures ∙ sym (moveOn-unknown _ _ (sym (c .before .before .is-sound .ensures) ∙ c .before .if1 .left))
 
 pub move-on-spec : {M : Type 1} → statement M
-move-on-spec = tie.close (tie.spec (λ c κs. search needs) moved-on-requires (λ c κs. search needs) (λ c κs. search needs) (λ c κs. search needs) returns (λ c κs. search needs) returns-2)
+move-on-spec = tie.close (tie.spec (λ c κs. search needs) (λ c κs. search needs) (λ c κs. search needs) (λ c κs. search needs) (λ c κs. search needs) returns (λ c κs. search needs) returns-2)

@@ -1,9 +1,9 @@
--- `drive::play::is_status` meets its contract: each arm is one of the four, and no other number is.
+-- `play::is_status` meets its contract: each arm is one of the four, and no other number is.
 use borrow.Author.Tests.{ne-eqb}
 use Rattle.ground.specs.Tests.{_or_}
-use Rattle.drive.specs.Play.{isStatus}
-use Rattle.drive.proofs.play.is_status.Statement.{statement}
-use Rattle.drive.proofs.play.is_status.Tie as tie
+use Rattle.play.specs.Play.{isStatus}
+use Rattle.play.proofs.is_status.Statement.{statement}
+use Rattle.play.proofs.is_status.Tie as tie
 
 returns-5 : tie.Need-returns-5
 unfolding isStatus _or_

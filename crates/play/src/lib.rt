@@ -1,8 +1,9 @@
 // The play record: what is played, how far it has come, and where it ends.
 use address::LAST;
 ghost use mathlib.Core.Path.{_≡_};
-ghost use Prim.Native.Nat.{_≤_};
-ghost use Rattle.drive.specs.Play.{noPlay, withStatus, isStatus, isPlay, movedOn};
+ghost use Prim.Native.Nat.{_+_};
+ghost use lib.Dec.{ltb};
+ghost use Rattle.play.specs.Play.{noPlay, withStatus, isStatus, isPlay, movedOn};
 
 pub struct Play {
     pub status: u8,
@@ -69,12 +70,11 @@ impl Play {
     }
 
     // A playing position moves on by k blocks, at most to the end, where it is completed.
-    pub(crate) fn moved_on(self, k: usize) -> Play
-        requires { ⌜ self .position ≤ self .end ⌝ }
+    pub fn moved_on(self, k: usize) -> Play
         ensures { λ r. ⌜ r ≡ movedOn k self ⌝ }
     {
         if self.status == PLAYING {
-            if k < self.end - self.position {
+            if self.is_short(k) {
                 return Play {
                     status: PLAYING,
                     position: self.position + k,
@@ -88,5 +88,15 @@ impl Play {
             };
         }
         self
+    }
+
+    // k blocks from the position on end before the end.
+    fn is_short(self, k: usize) -> bool
+        ensures { λ r. ⌜ r ≡ ltb (self .position + k) (self .end) ⌝ }
+    {
+        if self.position < self.end {
+            return k < self.end - self.position;
+        }
+        false
     }
 }

@@ -1,11 +1,11 @@
--- `drive::play::Play::is_play` meets its contract: each test is one of the definition's three, in its order.
+-- `play::Play::is_play` meets its contract: each test is one of the definition's three, in its order.
 use mathlib.Core.Path.{refl, sym, _∙_}
 use borrow.Author.Tests.{le-leb, lt-leb}
 use Rattle.ground.specs.Tests.{and-on, and-off, and-late}
-use Rattle.drive.specs.Play.{isPlay}
+use Rattle.play.specs.Play.{isPlay}
 use borrow.Author.Needs.{needs}
-use Rattle.drive.proofs.play.Play.is_play.Statement.{statement}
-use Rattle.drive.proofs.play.Play.is_play.Tie as tie
+use Rattle.play.proofs.Play.is_play.Statement.{statement}
+use Rattle.play.proofs.Play.is_play.Tie as tie
 
 returns : tie.Need-returns
 unfolding isPlay

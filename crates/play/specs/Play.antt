@@ -4,7 +4,7 @@ use mathlib.Core.Bool.{Bool}
 use lib.Dec.{eqb, leb}
 use Rattle.ground.specs.Tests.{_and_, _or_, if_then_else_}
 use Rattle.address.specs.Address.{last}
-use Rattle.drive.specs.declared.play.Play.{Play}
+use Rattle.play.specs.declared.Play.{Play}
 
 -- "Status codes are 11h playing, 12h paused, 13h completed, 15h none"
 abbrev pub playing : ℕ

@@ -3,12 +3,14 @@ use mathlib.Core.Path.{_≡_, refl, sym, ap, _∙_}
 use mathlib.Core.Bool.{Bool, true, false}
 use Prim.Native.Nat.{ℕ, _+_, _-_, _≤_, _<_, min}
 use native.Mathlib.Omega.{arith}
-use lib.Dec.{eqb, leb}
-use borrow.Author.Tests.{eq-eqb, ne-eqb, le-leb, leb-true}
+use native.Mathlib.Nat.{lt-of-not-le}
+use native.Mathlib.Decide.{decLe}
+use lib.Dec.{eqb, leb, ltb}
+use borrow.Author.Tests.{eq-eqb, ne-eqb, le-leb, leb-true, lt-ltb, le-ltb}
 use Rattle.ground.specs.Tests.{_and_, _or_, when, unless, either, and-head, and-tail, and-both}
 use Rattle.address.specs.Address.{last}
-use Rattle.drive.specs.declared.play.Play.{Play}
-use Rattle.drive.specs.Play.{playing, completed, playOf, noPlay, withStatus, isStatus, isPlay, onward, movedOn}
+use Rattle.play.specs.declared.Play.{Play}
+use Rattle.play.specs.Play.{playing, completed, playOf, noPlay, withStatus, isStatus, isPlay, onward, movedOn}
 
 -- ---- what refusal 2 does not meet
 
@@ -36,6 +38,13 @@ pub withStatus-sound : {r : Play} (s : ℕ) → isStatus s ≡ true → Sound r 
 withStatus-sound s h k = record { status = h; within = k .within; most = k .most }
 
 -- ---- moving on
+
+-- k blocks from p on end before e
+pub ltb-after : (p k e : ℕ) → p < e → ltb k (e - p) ≡ ltb (p + k) e
+ltb-after p k e h = elim (decLe e (p + k)) [
+  | yes l ↦ le-ltb k (e - p) (omega arith) ∙ sym (le-ltb (p + k) e l)
+  | no l ↦ let m = lt-of-not-le l in lt-ltb k (e - p) (omega arith) ∙ sym (lt-ltb (p + k) e m)
+]
 
 module _ (k : ℕ) (r : Play) where
   pub movedOn-other : (r .status ≡ playing → ⊥) → movedOn k r ≡ r
