@@ -1,8 +1,10 @@
 -- Block addresses and M:S:F, as 01 fixes them under "The lent disc table" and refusal 8.
 use Prim.Native.Nat.{ℕ, _+_, _-_, _*_, _/_, _%_}
 use mathlib.Core.Bool.{Bool}
+use mathlib.Core.List.{List, [], _∷_}
 use lib.Dec.{leb}
 use Rattle.ground.specs.Tests.{_and_, if_then_else_}
+use Rattle.ground.specs.Number.{bytes32}
 use Rattle.address.specs.declared.Msf.{Msf}
 use Rattle.address.specs.declared.Msf.the-variants as msf
 use Rattle.address.specs.declared.Block.{Block}
@@ -69,6 +71,10 @@ toMsf a = if leb a last then msfAt (minuteOf a) (secondOf a) (frameOf a) else ms
 -- the block address of an M:S:F: refused outside rule 6
 unfoldable pub toBlock : ℕ → ℕ → ℕ → BlockAnswer
 toBlock m s f = if isMsf m s f then blockAt (addressOf m s f) else blockRefused
+
+-- an address as an answer shows it: "address (4 bytes, or 0 M S F)"
+unfoldable pub shownAddress : Bool → ℕ → List ℕ
+shownAddress msf a = if msf then 0 ∷ toMsf a .minute ∷ toMsf a .second ∷ toMsf a .frame ∷ [] else bytes32 a
 
 -- the number and values of each case of the code's answers
 abbrev pub msfMeaning : Msf → MsfAnswer

@@ -1,6 +1,7 @@
--- The laws of the two conversions: exactly the stated ranges convert, both round trips, strictly rising.
+-- The laws of the two conversions: exactly the stated ranges convert, both round trips, strictly rising; what is shown of an address is four bytes.
 use mathlib.Core.Path.{_≡_, refl, sym, ap, _∙_}
 use mathlib.Core.Bool.{Bool, true, false}
+use mathlib.Core.List.{List}
 use mathlib.Core.Logic.{_⊎_, inl, inr, ⊎-elim}
 use Prim.Native.Nat.{ℕ, _+_, _*_, _/_, _≤_, _<_}
 use native.Mathlib.Omega.{arith}
@@ -8,8 +9,9 @@ use native.Mathlib.Nat.{lt-of-not-le}
 use native.Mathlib.Decide.{decLe}
 use borrow.Author.Tests.{le-leb, lt-leb, leb-true}
 use lib.Dec.{leb}
-use Rattle.ground.specs.Tests.{if_then_else_, when, unless, and-head, and-tail, and-both}
-use Rattle.address.specs.Address.{BlockAnswer, refused, last, frames, addressOf, isMsf, minuteOf, secondOf, frameOf, msfAt, msfRefused, blockAt, blockRefused, toMsf, toBlock}
+use lib.ListN.{length}
+use Rattle.ground.specs.Tests.{if_then_else_, when, unless, either, and-head, and-tail, and-both}
+use Rattle.address.specs.Address.{BlockAnswer, refused, last, frames, addressOf, isMsf, minuteOf, secondOf, frameOf, msfAt, msfRefused, blockAt, blockRefused, toMsf, toBlock, shownAddress}
 
 -- rule 6 of an M:S:F, its parts by name
 pub record InRange (m s f : ℕ) : Type 0 where
@@ -134,3 +136,9 @@ toBlock-refuses m s f h = decided (isMsf m s f) refl
     decided : (b : Bool) → isMsf m s f ≡ b → false ≡ isMsf m s f
     decided true e = let z : _≡_ {A = ℕ} refused 0 = ap (λ (r : BlockAnswer). r .number) (h ∙ when _ _ _ e) in absurd (omega arith)
     decided false e = sym e
+
+-- ---- shownAddress
+
+pub shownAddress-length : (msf : Bool) (a : ℕ) → length (shownAddress msf a) ≡ 4
+unfolding shownAddress
+shownAddress-length msf a = either (λ (l : List ℕ). length l ≡ 4) msf (λ h. refl) (λ h. refl)

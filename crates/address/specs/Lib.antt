@@ -1,3 +1,2 @@
 pub mod Address
 pub mod Laws
-pub mod Shown

@@ -1,9 +1,8 @@
 // Block address to M:S:F and back, exact both ways; refusal 8 outside the ranges of rule 6.
+use ground::number::bytes32;
 use ground::number::wide;
 ghost use mathlib.Core.Path.{_≡_};
-ghost use Rattle.address.specs.Address.{toMsf, toBlock, isMsf, frames, addressOf, msfMeaning, blockMeaning};
-
-pub mod shown;
+ghost use Rattle.address.specs.Address.{toMsf, toBlock, isMsf, frames, addressOf, shownAddress, msfMeaning, blockMeaning};
 
 // The refusal of an address that no M:S:F has, or of an M:S:F that no block has.
 pub const REFUSED: u8 = 8;
@@ -87,4 +86,21 @@ pub fn is_msf(minute: u8, second: u8, frame: u8) -> bool
         Block::At(_) => true,
         Block::Refused => false,
     }
+}
+
+// An address as an answer shows it: four bytes, or 0 M S F.
+pub fn shown_address(msf: bool, a: usize) -> [u8; 4]
+    ensures { λ r. ⌜ r ≡ shownAddress msf a ⌝ }
+{
+    if msf {
+        return match to_msf(a) {
+            Msf::At {
+                minute,
+                second,
+                frame,
+            } => [0, minute, second, frame],
+            Msf::Refused => [0, 0, 0, 0],
+        };
+    }
+    bytes32(a)
 }

@@ -5,7 +5,7 @@ use mathlib.Core.List.{List, [], _∷_, _++_}
 use lib.Dec.{eqb}
 use Rattle.ground.specs.Tests.{_and_, if_then_else_}
 use Rattle.ground.specs.Number.{bytes32}
-use Rattle.address.specs.Shown.{shownAddress}
+use Rattle.address.specs.Address.{shownAddress}
 use Rattle.play.specs.declared.Play.{Play}
 use Rattle.drive.specs.declared.state.Deck.{Deck}
 use Rattle.play.specs.Play.{completed, none, withStatus}

@@ -7,7 +7,8 @@ use native.Mathlib.Omega.{arith}
 use lib.ListN.{length, length-append}
 use lib.Dec.{eqb}
 use Rattle.ground.specs.Tests.{_and_, either, when, unless, and-off}
-use Rattle.address.specs.Shown.{shownAddress, shownAddress-length}
+use Rattle.address.specs.Address.{shownAddress}
+use Rattle.address.specs.Laws.{shownAddress-length}
 use Rattle.play.specs.declared.Play.{Play}
 use Rattle.tracks.specs.declared.track.Track.{Track}
 use Rattle.audio.specs.declared.sub_channel.SubAsk.{SubAsk}

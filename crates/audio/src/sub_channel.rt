@@ -1,5 +1,5 @@
 // READ SUB-CHANNEL: the play record, and where its position stands on the disc that is in.
-use address::shown::shown_address;
+use address::shown_address;
 use command::field::bit1;
 use command::field::bit6;
 use ground::number::bytes32;

@@ -5,8 +5,9 @@ use mathlib.Core.Bool.{Bool, true, false}
 use mathlib.Core.List.{List, [], _∷_}
 use lib.Dec.{eqb}
 use Rattle.ground.specs.Tests.{_and_, _or_, if_then_else_, every}
-use Rattle.address.specs.Address.{isMsf, toMsf, toBlock}
+use Rattle.address.specs.Address.{isMsf, toMsf, toBlock, shownAddress}
 use Rattle.drive.specs.declared.sense.Sense.{Sense}
+use Rattle.drive.specs.declared.state.Deck.{Deck}
 use Rattle.drive.specs.declared.state.Drive.{Drive}
 use Rattle.drive.specs.Sense.{triple, senseAt, sameSense, among, isKnown}
 use Rattle.play.specs.Play.{noPlay, isStatus, isPlay}
@@ -18,9 +19,8 @@ use Rattle.sessions.specs.Session.{one, size, listed, numbered, isSession, star
 use Rattle.disc.specs.Rules.{rule1, rule2, eachRow, rises, outBefore, beginsAfter, rising, rule7, firstBroken, lateRules, rowRules, fault, isFit}
 use Rattle.tracks.specs.Track.{nextOut, outAt, covers, wanted, nextFound, found, trackOf, isMode, inMode, allIn}
 use Rattle.gate.specs.Unit.{pendingOf}
-use Rattle.gate.specs.Gate.{gate}
+use Rattle.gate.specs.Gate.{Reply, gate}
 use Rattle.command.specs.Command.{decode}
-use Rattle.address.specs.Shown.{shownAddress}
 use Rattle.toc.specs.Shown.{isShown, shownTrack, shownTracks}
 use Rattle.toc.specs.Answer.{headed as tocHeaded, format0, tocBytes, tocBad}
 use Rattle.command.specs.Done.{answering}
@@ -80,19 +80,21 @@ fails k a q = record { number = 0; rule = 0; status = 0x02; sense = triple k a q
 abbrev pub refuses : ℕ → List ℕ → Outcome
 refuses n b = record { number = n; rule = 0; status = 0x00; sense = triple 0x00 0x00 0x00; shown = b; start = 0; count = 0 }
 
+-- what a packet's answer shows
+abbrev pub told : Reply Deck → Outcome
+told a = record {
+  number = a .number;
+  rule = a .rule;
+  status = a .status;
+  sense = stateOf a .unit .sense;
+  shown = bytesOf a;
+  start = a .start;
+  count = a .count;
+}
+
 -- what the definitions give
 unfoldable pub asked : Question → Outcome
-asked (packet p) =
-    let a = answer loadedE p tableE bound in
-    record {
-      number = a .number;
-      rule = a .rule;
-      status = a .status;
-      sense = stateOf a .unit .sense;
-      shown = bytesOf a;
-      start = a .start;
-      count = a .count;
-    }
+asked (packet p) = told (answer loadedE p tableE bound)
 asked (addressFor m s f) =
     let a = toBlock m s f in
     record { number = a .number; rule = 0; status = 0x00; sense = triple 0x00 0x00 0x00; shown = a .address ∷ []; start = 0; count = 0 }

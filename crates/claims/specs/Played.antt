@@ -5,8 +5,7 @@ use mathlib.Core.Bool.{Bool, true}
 use mathlib.Core.List.{List, [], _∷_}
 use lib.Dec.{eqb}
 use Rattle.ground.specs.Tests.{_and_, _or_, if_then_else_, every}
-use Rattle.address.specs.Address.{isMsf, toMsf}
-use Rattle.address.specs.Shown.{shownAddress}
+use Rattle.address.specs.Address.{isMsf, toMsf, shownAddress}
 use Rattle.play.specs.declared.Play.{Play}
 use Rattle.drive.specs.declared.state.Drive.{Drive}
 use Rattle.drive.specs.Sense.{senseAt, sameSense, among, isKnown}
@@ -27,8 +26,8 @@ use Rattle.audio.specs.Audio.{started, isOver, pauseResume}
 use Rattle.audio.specs.SubChannel.{subBad, indexOf, relative, shownRelative, subBytes, reported}
 use Rattle.target.specs.Perform.{perform}
 use Rattle.target.specs.Packet.{refusalOf, answer}
-use Rattle.outcome.specs.Outcome.{stateOf, bytesOf}
-use Rattle.claims.specs.Marked.{tableE, loadedE, Outcome, gives, fails, sameBytes, sameOutcome}
+use Rattle.outcome.specs.Outcome.{stateOf}
+use Rattle.claims.specs.Marked.{tableE, loadedE, Outcome, gives, fails, told, sameBytes, sameOutcome}
 
 -- a packet to the loaded drive with Table E and 6,538 bytes of response memory; the outside call, by k blocks
 pub data Step : Type 0 where
@@ -37,17 +36,7 @@ pub data Step : Type 0 where
 
 -- what comes of it, and the state after it
 unfoldable pub comes : Step → Drive → Outcome
-comes (packet p) d =
-    let a = answer d p tableE bound in
-    record {
-      number = a .number;
-      rule = a .rule;
-      status = a .status;
-      sense = stateOf a .unit .sense;
-      shown = bytesOf a;
-      start = a .start;
-      count = a .count;
-    }
+comes (packet p) d = told (answer d p tableE bound)
 comes (moves k) d =
     let a = moveOn k d in
     record { number = a .number; rule = 0; status = 0x00; sense = a .state .unit .sense; shown = []; start = 0; count = 0 }

@@ -14,8 +14,7 @@ use Rattle.address.specs.declared.Msf.{Msf}
 use Rattle.address.specs.declared.Msf.the-variants as msf
 use Rattle.address.specs.declared.Block.{Block}
 use Rattle.address.specs.declared.Block.the-variants as block
-use Rattle.address.specs.Shown.{shownAddress}
-use Rattle.address.specs.Address.{MsfAnswer, BlockAnswer, msfMeaning, blockMeaning, toMsf, toBlock, addressOf, isMsf}
+use Rattle.address.specs.Address.{shownAddress, MsfAnswer, BlockAnswer, msfMeaning, blockMeaning, toMsf, toBlock, addressOf, isMsf}
 use Rattle.drive.specs.declared.sense.Sense.{Sense}
 use Rattle.drive.specs.declared.state.Unit.{Unit}
 use Rattle.drive.specs.declared.state.Deck.{Deck}

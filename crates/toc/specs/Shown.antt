@@ -4,7 +4,7 @@ use mathlib.Core.Bool.{Bool}
 use mathlib.Core.List.{List, [], _∷_, _++_}
 use lib.Dec.{leb}
 use Rattle.ground.specs.Tests.{_and_, if_then_else_}
-use Rattle.address.specs.Shown.{shownAddress}
+use Rattle.address.specs.Address.{shownAddress}
 use Rattle.table.specs.Layout.{flagsAt, pointAt, isTrack}
 use Rattle.table.specs.Row.{addressAt}
 

@@ -12,7 +12,8 @@ use Rattle.table.specs.Layout.{row, flagsAt, pointAt}
 use Rattle.table.specs.Row.{addressAt}
 use Rattle.toc.specs.declared.shown.Show.{Show}
 use Rattle.toc.specs.declared.shown.Show.the-variants.{Tracks, Whole}
-use Rattle.address.specs.Shown.{shownAddress, shownAddress-length}
+use Rattle.address.specs.Address.{shownAddress}
+use Rattle.address.specs.Laws.{shownAddress-length}
 use Rattle.toc.specs.Shown.{described, describedRow, isShown, shownTrack, shownTracks}
 
 -- how many of the first descriptors are shown

@@ -1,7 +1,7 @@
 // What is shown of the table's descriptors, laid into the response memory: each descriptor into the part that begins where the one
 // before ended.
 use address::address_of;
-use address::shown::shown_address;
+use address::shown_address;
 use ground::memory::copy_front;
 use ground::number::wide;
 use table::layout::FLAGS;

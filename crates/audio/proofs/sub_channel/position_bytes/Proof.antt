@@ -3,7 +3,8 @@ use mathlib.Core.Path.{_≡_, sym, ap, _∙_}
 use Prim.Native.Nat.{ℕ}
 use mathlib.Core.List.{List}
 use Rattle.ground.specs.Number.{four}
-use Rattle.address.specs.Shown.{shownAddress, shownAddress-length}
+use Rattle.address.specs.Address.{shownAddress}
+use Rattle.address.specs.Laws.{shownAddress-length}
 use Rattle.audio.specs.SubChannel.{relative, shownRelative}
 use Rattle.audio.specs.SubChannelLaws.{shownRelative-length}
 use borrow.Author.Needs.{needs}

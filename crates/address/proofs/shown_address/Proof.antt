@@ -1,13 +1,12 @@
--- `address::shown::shown_address` meets its contract: each case of the conversion's answer shows that answer's three numbers.
+-- `address::shown_address` meets its contract: each case of the conversion's answer shows that answer's three numbers.
 use mathlib.Core.Path.{sym, ap, _∙_}
 use mathlib.Core.List.{List, [], _∷_}
 use Prim.Native.Nat.{ℕ}
 use Rattle.ground.specs.Tests.{when, unless}
-use Rattle.address.specs.Address.{MsfAnswer, msfMeaning}
-use Rattle.address.specs.Shown.{shownAddress}
+use Rattle.address.specs.Address.{MsfAnswer, msfMeaning, shownAddress}
 use borrow.Author.Needs.{needs}
-use Rattle.address.proofs.shown.shown_address.Statement.{statement}
-use Rattle.address.proofs.shown.shown_address.Tie as tie
+use Rattle.address.proofs.shown_address.Statement.{statement}
+use Rattle.address.proofs.shown_address.Tie as tie
 
 fields : MsfAnswer → List ℕ
 fields r = 0 ∷ r .minute ∷ r .second ∷ r .frame ∷ []
