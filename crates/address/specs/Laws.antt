@@ -8,7 +8,6 @@ use native.Mathlib.Omega.{arith}
 use native.Mathlib.Nat.{lt-of-not-le}
 use native.Mathlib.Decide.{decLe}
 use borrow.Author.Tests.{le-leb, lt-leb, leb-true}
-use lib.Dec.{leb}
 use lib.ListN.{length}
 use Rattle.ground.specs.Tests.{if_then_else_, when, unless, either, and-head, and-tail, and-both}
 use Rattle.address.specs.Address.{BlockAnswer, refused, last, frames, addressOf, isMsf, minuteOf, secondOf, frameOf, msfAt, msfRefused, blockAt, blockRefused, toMsf, toBlock, shownAddress}

@@ -15,7 +15,8 @@ use Rattle.blocks.specs.Range.{ranged}
 unfoldable pub started : ℕ → ℕ → Deck → Deck
 started a n m = if eqb n 0 then m else withPlay m (playOf playing a (a + n))
 
--- "range and 05/64/00 follow READ with audio in place of data": `all` says that every block lies in an audio track
+-- "range and 05/64/00 follow READ with audio in place of data": `all` says that every block lies in an audio track. FFFFFFFFh is an
+-- address like any other; the answer names no blocks
 abbrev pub play : Bool → ℕ → ℕ → ℕ → Deck → Result Deck
 play all a n l m = ranged all a n l (done (started a n m))
 
@@ -27,7 +28,7 @@ isOver status = eqb status completed or eqb status none
 abbrev pub resumed : Bool → ℕ
 resumed resume = if resume then playing else paused
 
--- ".. and changes nothing where it already holds"
+-- ".. and changes nothing where it already holds": the status is set again
 unfoldable pub pauseResume : Bool → Deck → Result Deck
 pauseResume resume m =
     if isOver (m .play .status) then fails BadField else done (withPlay m (withStatus (m .play) (resumed resume)))

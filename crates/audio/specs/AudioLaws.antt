@@ -1,9 +1,9 @@
 -- The laws of PLAY and PAUSE/RESUME: each way out.
-use mathlib.Core.Path.{_≡_, refl, sym, ap, _∙_}
+use mathlib.Core.Path.{_≡_, _∙_}
 use mathlib.Core.Bool.{Bool, true, false}
 use Prim.Native.Nat.{ℕ, _+_}
 use borrow.Author.Tests.{eq-eqb, ne-eqb}
-use Rattle.ground.specs.Tests.{_or_, when, unless, or-left, or-right, or-else}
+use Rattle.ground.specs.Tests.{when, unless, or-left, or-right, or-else}
 use Rattle.drive.specs.declared.state.Deck.{Deck}
 use Rattle.play.specs.Play.{playing, completed, none, playOf, withStatus}
 use Rattle.drive.specs.State.{withPlay}

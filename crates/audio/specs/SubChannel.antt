@@ -17,10 +17,11 @@ use Rattle.command.specs.Command.{byte, bit1, bit6}
 use Rattle.command.specs.Done.{answering}
 use Rattle.audio.specs.declared.sub_channel.SubAsk.{SubAsk}
 
--- "Packet fields are 004's": byte 1 bit 1 MSF, byte 2 bit 6 SubQ, byte 3 the format
+-- "Packet fields are 004's": byte 1 bit 1 MSF, byte 2 bit 6 SubQ, byte 3 the format; its track, byte 6, is not looked at
 abbrev pub subAsk : ℕ → ℕ → ℕ → SubAsk
 subAsk b1 b2 b3 = record { msf = bit1 b1; «sub_q» = bit6 b2; format = b3 }
 
+-- what the packet asks for
 abbrev pub subAskIn : List ℕ → SubAsk
 subAskIn p = subAsk (byte p 1) (byte p 2) (byte p 3)
 
@@ -36,11 +37,12 @@ indexOf u = if isTrack (u .number) then 1 else 0
 unfoldable pub relative : Track → ℕ → ℕ
 relative u b = if isTrack (u .number) then b - u .start else 0
 
--- "(4 bytes each, or 0 M S F; relative MSF without the 150)"
+-- "(4 bytes each, or 0 M S F; relative MSF without the 150)": the minute is a byte, and below 100 of a position up to 449,849
 unfoldable pub shownRelative : Bool → ℕ → List ℕ
 shownRelative msf n = if msf then 0 ∷ n / 75 / 60 % 256 ∷ n / 75 % 60 ∷ n % 75 ∷ [] else bytes32 n
 
--- "The answer is 0, status, 000Ch, 01h, ADR/control, track, index, then absolute and relative address"
+-- "The answer is 0, status, 000Ch, 01h, ADR/control, track, index, then absolute and relative address"; no track has ADR/control and
+-- number 0
 abbrev pub positionBytes : Bool → Track → Play → List ℕ
 positionBytes msf u r =
     0 ∷ r .status ∷ 0x00 ∷ 0x0C ∷ 0x01 ∷ u .flags ∷ u .number ∷ indexOf u
@@ -50,6 +52,7 @@ positionBytes msf u r =
 abbrev pub statusBytes : Play → List ℕ
 statusBytes r = 0 ∷ r .status ∷ 0x00 ∷ 0x00 ∷ []
 
+-- the full answer
 unfoldable pub subBytes : SubAsk → Track → Play → List ℕ
 subBytes ask u r = if ask .«sub_q» then positionBytes (ask .msf) u r else statusBytes r
 
@@ -57,5 +60,6 @@ subBytes ask u r = if ask .«sub_q» then positionBytes (ask .msf) u r else stat
 unfoldable pub reported : Play → Play
 reported r = if eqb (r .status) completed then withStatus r none else r
 
+-- the answer tells the record as it was; after any GOOD 42h, of SubQ 0 or length 0 too, 13h has turned, and position and end stay
 abbrev pub readSubChannel : SubAsk → Track → ℕ → Deck → Result Deck
 readSubChannel ask u limit m = answering (subBad ask) (withPlay m (reported (m .play))) (subBytes ask u (m .play)) limit

@@ -1,18 +1,17 @@
 -- The laws of READ SUB-CHANNEL's answer: its two forms, and how long they are.
-use mathlib.Core.Path.{_≡_, refl, sym, ap, _∙_}
-use mathlib.Core.Bool.{Bool, true, false, not}
+use mathlib.Core.Path.{_≡_, refl}
+use mathlib.Core.Bool.{Bool, true, false}
 use mathlib.Core.List.{List}
-use Prim.Native.Nat.{ℕ, _+_, _≤_}
+use Prim.Native.Nat.{ℕ, _≤_}
 use native.Mathlib.Omega.{arith}
 use lib.ListN.{length, length-append}
-use lib.Dec.{eqb}
-use Rattle.ground.specs.Tests.{_and_, either, when, unless, and-off}
+use Rattle.ground.specs.Tests.{either, when, unless}
 use Rattle.address.specs.Address.{shownAddress}
 use Rattle.address.specs.Laws.{shownAddress-length}
 use Rattle.play.specs.declared.Play.{Play}
 use Rattle.tracks.specs.declared.track.Track.{Track}
 use Rattle.audio.specs.declared.sub_channel.SubAsk.{SubAsk}
-use Rattle.audio.specs.SubChannel.{subBad, shownRelative, relative, positionBytes, statusBytes, subBytes}
+use Rattle.audio.specs.SubChannel.{shownRelative, relative, positionBytes, statusBytes, subBytes}
 
 pub shownRelative-length : (msf : Bool) (n : ℕ) → length (shownRelative msf n) ≡ 4
 unfolding shownRelative

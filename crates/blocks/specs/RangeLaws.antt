@@ -7,7 +7,7 @@ use native.Mathlib.Nat.{lt-of-not-le}
 use native.Mathlib.Decide.{decLe}
 use borrow.Author.Tests.{le-leb, lt-leb, lt-ltb, le-ltb, ltb-false, not-true}
 use lib.Dec.{leb, ltb}
-use Rattle.ground.specs.Tests.{_or_, when, unless, or-left, or-right, or-else}
+use Rattle.ground.specs.Tests.{_and_, _or_, if_then_else_, when, unless, or-left, or-right, or-else}
 use Rattle.drive.specs.declared.state.Deck.{Deck}
 use Rattle.gate.specs.declared.fault.Fault.the-variants.{OutOfRange, IllegalMode}
 use Rattle.gate.specs.Gate.{Result, fails}
@@ -53,6 +53,15 @@ module _ (all : Bool) (a n l : ℕ) (r : Result Deck) where
   pub ranged-out : inRange a n l ≡ false → ranged all a n l r ≡ fails OutOfRange
   unfolding ranged
   ranged-out h = unless _ _ _ h
+
+  -- whether the blocks lie in such tracks need not be known of a run that is out of range
+  pub ranged-looked : ranged (inRange a n l and all) a n l r ≡ ranged all a n l r
+  unfolding ranged if_then_else_ _and_
+  ranged-looked = go (inRange a n l)
+    where
+      go : (b : Bool) → (if b then (if b and all then r else fails IllegalMode) else fails OutOfRange) ≡ (if b then (if all then r else fails IllegalMode) else fails OutOfRange)
+      go true = refl
+      go false = refl
 
   pub ranged-mode : inRange a n l ≡ true → all ≡ false → ranged all a n l r ≡ fails IllegalMode
   unfolding ranged

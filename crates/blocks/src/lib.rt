@@ -1,3 +1,3 @@
-// The commands that name blocks: READ CAPACITY, SEEK and READ, as functions of the last lead-out, and the range that they test.
+// READ CAPACITY, SEEK and READ as functions of the last lead-out, and the range of addresses that READ, SEEK and PLAY test.
 pub mod blocks;
 pub mod range;

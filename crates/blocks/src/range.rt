@@ -14,7 +14,7 @@ pub(crate) fn last_block(l: usize) -> usize
 }
 
 // The address is over the last block's.
-pub fn over(a: usize, l: usize) -> bool
+pub(crate) fn over(a: usize, l: usize) -> bool
     ensures { λ r. ⌜ r ≡ over a l ⌝ }
 {
     last_block(l) < a

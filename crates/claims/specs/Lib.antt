@@ -4,7 +4,7 @@ pub mod NoSuccess
 pub mod TwoRuns
 pub mod Refused
 pub mod Whole
-pub mod Sound
+pub mod Known
 pub mod Marked
 pub mod Played
 pub mod Addresses
@@ -24,5 +24,5 @@ pub mod PacketLaws
 pub mod DriveDevice
 pub mod RefusalLaws
 pub mod WholeLaws
-pub mod SoundLaws
+pub mod KnownLaws
 pub mod AddressLaws

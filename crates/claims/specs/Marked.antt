@@ -12,7 +12,7 @@ use Rattle.drive.specs.declared.state.Drive.{Drive}
 use Rattle.drive.specs.Sense.{triple, senseAt, sameSense, among, isKnown}
 use Rattle.play.specs.Play.{noPlay, isStatus, isPlay}
 use Rattle.drive.specs.Unit.{attend}
-use Rattle.drive.specs.State.{isSound}
+use Rattle.drive.specs.State.{isKnownState}
 use Rattle.table.specs.Layout.{bound, isTrack, isExtra}
 use Rattle.table.specs.Row.{startOf, names, simple, free, plain, headA0, headA1, headed, addressed, rowTest}
 use Rattle.sessions.specs.Session.{one, size, listed, numbered, isSession, starts, before, follows, inPlace, inOrder}
@@ -81,8 +81,8 @@ abbrev pub refuses : ℕ → List ℕ → Outcome
 refuses n b = record { number = n; rule = 0; status = 0x00; sense = triple 0x00 0x00 0x00; shown = b; start = 0; count = 0 }
 
 -- what a packet's answer shows
-abbrev pub told : Reply Deck → Outcome
-told a = record {
+abbrev pub shownBy : Reply Deck → Outcome
+shownBy a = record {
   number = a .number;
   rule = a .rule;
   status = a .status;
@@ -94,7 +94,7 @@ told a = record {
 
 -- what the definitions give
 unfoldable pub asked : Question → Outcome
-asked (packet p) = told (answer loadedE p tableE bound)
+asked (packet p) = shownBy (answer loadedE p tableE bound)
 asked (addressFor m s f) =
     let a = toBlock m s f in
     record { number = a .number; rule = 0; status = 0x00; sense = triple 0x00 0x00 0x00; shown = a .address ∷ []; start = 0; count = 0 }
@@ -176,5 +176,5 @@ marks =
     ∷ []
 
 pub marked : allMarked marks ≡ true
-unfolding allMarked sameOutcome sameBytes asked _and_ _or_ if_then_else_ every isMsf toMsf toBlock senseAt sameSense among isKnown isStatus isPlay isSound attend isTrack isExtra startOf names simple free plain headA0 headA1 headed addressed rowTest one size listed numbered isSession starts before follows inPlace inOrder rule1 rule2 eachRow rises outBefore beginsAfter rising rule7 firstBroken lateRules rowRules fault isFit nextOut outAt covers wanted nextFound found trackOf isMode inMode allIn pendingOf gate decode shownAddress isShown shownTrack shownTracks tocHeaded format0 tocBytes tocBad answering over inRange ranged perform refusalOf answer
+unfolding allMarked sameOutcome sameBytes asked _and_ _or_ if_then_else_ every isMsf toMsf toBlock senseAt sameSense among isKnown isStatus isPlay isKnownState attend isTrack isExtra startOf names simple free plain headA0 headA1 headed addressed rowTest one size listed numbered isSession starts before follows inPlace inOrder rule1 rule2 eachRow rises outBefore beginsAfter rising rule7 firstBroken lateRules rowRules fault isFit nextOut outAt covers wanted nextFound found trackOf isMode inMode allIn pendingOf gate decode shownAddress isShown shownTrack shownTracks tocHeaded format0 tocBytes tocBad answering over inRange ranged perform refusalOf answer
 marked = refl

@@ -9,9 +9,9 @@ use Rattle.address.specs.Address.{isMsf, toMsf, shownAddress}
 use Rattle.play.specs.declared.Play.{Play}
 use Rattle.drive.specs.declared.state.Drive.{Drive}
 use Rattle.drive.specs.Sense.{senseAt, sameSense, among, isKnown}
-use Rattle.play.specs.Play.{playOf, noPlay, isStatus, isPlay, movedOn}
+use Rattle.play.specs.Play.{playOf, isStatus, isPlay, movedOn}
 use Rattle.drive.specs.Unit.{attend}
-use Rattle.drive.specs.State.{isSound, showing, moveOn}
+use Rattle.drive.specs.State.{isKnownState, moveOn}
 use Rattle.table.specs.Layout.{bound, isTrack, isExtra}
 use Rattle.table.specs.Row.{startOf, names, simple, free, plain, headA0, headA1, headed, addressed, rowTest}
 use Rattle.sessions.specs.Session.{one, size, listed, numbered, isSession, starts, before, follows, inPlace, inOrder}
@@ -22,21 +22,22 @@ use Rattle.gate.specs.Gate.{gate}
 use Rattle.command.specs.Command.{decode}
 use Rattle.command.specs.Done.{answering}
 use Rattle.blocks.specs.Range.{over, inRange, ranged}
+use Rattle.blocks.specs.Blocks.{seek}
 use Rattle.audio.specs.Audio.{started, isOver, pauseResume}
 use Rattle.audio.specs.SubChannel.{subBad, indexOf, relative, shownRelative, subBytes, reported}
 use Rattle.target.specs.Perform.{perform}
 use Rattle.target.specs.Packet.{refusalOf, answer}
 use Rattle.outcome.specs.Outcome.{stateOf}
-use Rattle.claims.specs.Marked.{tableE, loadedE, Outcome, gives, fails, told, sameBytes, sameOutcome}
+use Rattle.claims.specs.Marked.{tableE, loadedE, Outcome, gives, reads, fails, shownBy, sameBytes, sameOutcome}
 
 -- a packet to the loaded drive with Table E and 6,538 bytes of response memory; the outside call, by k blocks
 pub data Step : Type 0 where
   packet : (bytes : List ℕ) → Step
   moves : (k : ℕ) → Step
 
--- what comes of it, and the state after it
+-- what comes of it (of the outside call a number and the sense held afterwards, the rest 0), and the state after it
 unfoldable pub comes : Step → Drive → Outcome
-comes (packet p) d = told (answer d p tableE bound)
+comes (packet p) d = shownBy (answer d p tableE bound)
 comes (moves k) d =
     let a = moveOn k d in
     record { number = a .number; rule = 0; status = 0x00; sense = a .state .unit .sense; shown = []; start = 0; count = 0 }
@@ -57,14 +58,14 @@ mark s r p = record { step = s; result = r; play = p }
 unfoldable pub samePlay : Play → Play → Bool
 samePlay a b = eqb (a .status) (b .status) and eqb (a .position) (b .position) and eqb (a .end) (b .end)
 
--- each step comes out as marked, on the record that the one before left
-unfoldable pub allPlayed : Play → List Mark → Bool
+-- each step comes out as marked, on the state that the one before left
+unfoldable pub allPlayed : Drive → List Mark → Bool
 unfolding _and_
-allPlayed r [] = true
-allPlayed r (m ∷ ms) =
-    sameOutcome (comes (m .step) (showing loadedE r)) (m .result)
-    and samePlay (after (m .step) (showing loadedE r) .deck .play) (m .play)
-    and allPlayed (m .play) ms
+allPlayed d [] = true
+allPlayed d (m ∷ ms) =
+    sameOutcome (comes (m .step) d) (m .result)
+    and samePlay (after (m .step) d .deck .play) (m .play)
+    and allPlayed (after (m .step) d) ms
 
 abbrev pub playMarks : List Mark
 playMarks =
@@ -88,22 +89,38 @@ playMarks =
     ∷ mark (packet (0x45 ∷ 0x00 ∷ 0x00 ∷ 0x00 ∷ 0x01 ∷ 0x2C ∷ 0x00 ∷ 0x00 ∷ 0x00 ∷ 0x00 ∷ 0x00 ∷ 0x00 ∷ [])) (fails 0x05 0x21 0x00) (playOf 0x11 160 300)
     -- PLAY 150 for 151
     ∷ mark (packet (0x45 ∷ 0x00 ∷ 0x00 ∷ 0x00 ∷ 0x00 ∷ 0x96 ∷ 0x00 ∷ 0x00 ∷ 0x97 ∷ 0x00 ∷ 0x00 ∷ 0x00 ∷ [])) (fails 0x05 0x21 0x00) (playOf 0x11 160 300)
+    -- PLAY FFFFFFFFh for 1
+    ∷ mark (packet (0x45 ∷ 0x00 ∷ 0xFF ∷ 0xFF ∷ 0xFF ∷ 0xFF ∷ 0x00 ∷ 0x00 ∷ 0x01 ∷ 0x00 ∷ 0x00 ∷ 0x00 ∷ [])) (fails 0x05 0x21 0x00) (playOf 0x11 160 300)
+    -- PLAY 150 for 0: the record stays
+    ∷ mark (packet (0x45 ∷ 0x00 ∷ 0x00 ∷ 0x00 ∷ 0x00 ∷ 0x96 ∷ 0x00 ∷ 0x00 ∷ 0x00 ∷ 0x00 ∷ 0x00 ∷ 0x00 ∷ [])) (gives []) (playOf 0x11 160 300)
     -- pause
     ∷ mark (packet (0x4B ∷ 0x00 ∷ 0x00 ∷ 0x00 ∷ 0x00 ∷ 0x00 ∷ 0x00 ∷ 0x00 ∷ 0x00 ∷ 0x00 ∷ 0x00 ∷ 0x00 ∷ [])) (gives []) (playOf 0x12 160 300)
     -- pause again
     ∷ mark (packet (0x4B ∷ 0x00 ∷ 0x00 ∷ 0x00 ∷ 0x00 ∷ 0x00 ∷ 0x00 ∷ 0x00 ∷ 0x00 ∷ 0x00 ∷ 0x00 ∷ 0x00 ∷ [])) (gives []) (playOf 0x12 160 300)
+    -- on by 5 blocks while paused
+    ∷ mark (moves 5) (gives []) (playOf 0x12 160 300)
     -- resume
     ∷ mark (packet (0x4B ∷ 0x00 ∷ 0x00 ∷ 0x00 ∷ 0x00 ∷ 0x00 ∷ 0x00 ∷ 0x00 ∷ 0x01 ∷ 0x00 ∷ 0x00 ∷ 0x00 ∷ [])) (gives []) (playOf 0x11 160 300)
     -- on by 140 blocks, 150 in all: to the end
     ∷ mark (moves 140) (gives []) (playOf 0x13 300 300)
+    -- pause under 13h
+    ∷ mark (packet (0x4B ∷ 0x00 ∷ 0x00 ∷ 0x00 ∷ 0x00 ∷ 0x00 ∷ 0x00 ∷ 0x00 ∷ 0x00 ∷ 0x00 ∷ 0x00 ∷ 0x00 ∷ [])) (fails 0x05 0x24 0x00) (playOf 0x13 300 300)
     -- 42h then: 13h, at the lead-out and so of no track
     ∷ mark (packet (0x42 ∷ 0x00 ∷ 0x40 ∷ 0x01 ∷ 0x00 ∷ 0x00 ∷ 0x00 ∷ 0x00 ∷ 0x10 ∷ 0x00 ∷ 0x00 ∷ 0x00 ∷ [])) (gives (0x00 ∷ 0x13 ∷ 0x00 ∷ 0x0C ∷ 0x01 ∷ 0x00 ∷ 0x00 ∷ 0x00 ∷ 0x00 ∷ 0x00 ∷ 0x01 ∷ 0x2C ∷ 0x00 ∷ 0x00 ∷ 0x00 ∷ 0x00 ∷ [])) (playOf 0x15 300 300)
     -- 42h once more: 15h
     ∷ mark (packet (0x42 ∷ 0x00 ∷ 0x40 ∷ 0x01 ∷ 0x00 ∷ 0x00 ∷ 0x00 ∷ 0x00 ∷ 0x10 ∷ 0x00 ∷ 0x00 ∷ 0x00 ∷ [])) (gives (0x00 ∷ 0x15 ∷ 0x00 ∷ 0x0C ∷ 0x01 ∷ 0x00 ∷ 0x00 ∷ 0x00 ∷ 0x00 ∷ 0x00 ∷ 0x01 ∷ 0x2C ∷ 0x00 ∷ 0x00 ∷ 0x00 ∷ 0x00 ∷ [])) (playOf 0x15 300 300)
     -- resume under 15h
     ∷ mark (packet (0x4B ∷ 0x00 ∷ 0x00 ∷ 0x00 ∷ 0x00 ∷ 0x00 ∷ 0x00 ∷ 0x00 ∷ 0x01 ∷ 0x00 ∷ 0x00 ∷ 0x00 ∷ [])) (fails 0x05 0x24 0x00) (playOf 0x15 300 300)
+    -- PLAY 200 for 50
+    ∷ mark (packet (0x45 ∷ 0x00 ∷ 0x00 ∷ 0x00 ∷ 0x00 ∷ 0xC8 ∷ 0x00 ∷ 0x00 ∷ 0x32 ∷ 0x00 ∷ 0x00 ∷ 0x00 ∷ [])) (gives []) (playOf 0x11 200 250)
+    -- READ 0 for 1: position and end stay
+    ∷ mark (packet (0x28 ∷ 0x00 ∷ 0x00 ∷ 0x00 ∷ 0x00 ∷ 0x00 ∷ 0x00 ∷ 0x00 ∷ 0x01 ∷ 0x00 ∷ 0x00 ∷ 0x00 ∷ [])) (reads 0 1) (playOf 0x15 200 250)
+    -- PLAY 200 for 50
+    ∷ mark (packet (0x45 ∷ 0x00 ∷ 0x00 ∷ 0x00 ∷ 0x00 ∷ 0xC8 ∷ 0x00 ∷ 0x00 ∷ 0x32 ∷ 0x00 ∷ 0x00 ∷ 0x00 ∷ [])) (gives []) (playOf 0x11 200 250)
+    -- SEEK 0: position and end stay
+    ∷ mark (packet (0x2B ∷ 0x00 ∷ 0x00 ∷ 0x00 ∷ 0x00 ∷ 0x00 ∷ 0x00 ∷ 0x00 ∷ 0x00 ∷ 0x00 ∷ 0x00 ∷ 0x00 ∷ [])) (gives []) (playOf 0x15 200 250)
     ∷ []
 
-pub played : allPlayed noPlay playMarks ≡ true
-unfolding allPlayed samePlay after comes sameOutcome sameBytes _and_ _or_ if_then_else_ every isMsf toMsf senseAt sameSense among isKnown isStatus isPlay isSound movedOn moveOn attend isTrack isExtra startOf names simple free plain headA0 headA1 headed addressed rowTest one size listed numbered isSession starts before follows inPlace inOrder rule1 rule2 eachRow rises outBefore beginsAfter rising rule7 firstBroken lateRules rowRules fault isFit nextOut outAt covers wanted nextFound found trackOf isMode inMode allIn pendingOf gate decode shownAddress answering over inRange ranged started isOver pauseResume subBad indexOf relative shownRelative subBytes reported perform refusalOf answer
+pub played : allPlayed loadedE playMarks ≡ true
+unfolding allPlayed samePlay after comes sameOutcome sameBytes _and_ _or_ if_then_else_ every isMsf toMsf senseAt sameSense among isKnown isStatus isPlay isKnownState movedOn moveOn attend isTrack isExtra startOf names simple free plain headA0 headA1 headed addressed rowTest one size listed numbered isSession starts before follows inPlace inOrder rule1 rule2 eachRow rises outBefore beginsAfter rising rule7 firstBroken lateRules rowRules fault isFit nextOut outAt covers wanted nextFound found trackOf isMode inMode allIn pendingOf gate decode shownAddress answering over inRange ranged started isOver pauseResume seek subBad indexOf relative shownRelative subBytes reported perform refusalOf answer
 played = refl

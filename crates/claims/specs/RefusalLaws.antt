@@ -16,7 +16,7 @@ use Rattle.drive.specs.declared.state.Deck.{Deck}
 use Rattle.drive.specs.declared.state.Drive.{Drive}
 use Rattle.drive.specs.declared.state.Moved.{Moved}
 use Rattle.drive.specs.declared.sense.Sense.{Sense}
-use Rattle.drive.specs.State.{isSound, isLoaded, button, lay, lift, moveOn}
+use Rattle.drive.specs.State.{isKnownState, isLoaded, button, lay, lift, moveOn}
 use Rattle.drive.specs.StateLaws.{button-unknown, button-closes, button-locked, button-opens, button-refused, lay-unknown, lay-closed, lay-full, lay-lays, lay-refused, lift-unknown, lift-closed, lift-empty, lift-lifts, lift-refused, moveOn-unknown, moveOn-moves, moveOn-refused}
 use Rattle.table.specs.Layout.{bound, lastSession}
 use Rattle.disc.specs.Rules.{fault, isFit}
@@ -174,9 +174,9 @@ pub record Ordered (twelve known short unfit : Bool) (n : ℕ) : Type 0 where
   pub most : n ≤ 4
 
 module _ (d : Drive) (p t : List ℕ) (n : ℕ) where
-  pub refusal-ordered : Ordered (eqb (length p) 12) (isSound d) (ltb n bound) (isLoaded (d .deck) and not (isFit t)) (refusalOf d p t n)
+  pub refusal-ordered : Ordered (eqb (length p) 12) (isKnownState d) (ltb n bound) (isLoaded (d .deck) and not (isFit t)) (refusalOf d p t n)
   unfolding refusalOf if_then_else_ _and_
-  refusal-ordered = by-tests (eqb (length p) 12) (isSound d) (ltb n bound) (isLoaded (d .deck) and not (isFit t))
+  refusal-ordered = by-tests (eqb (length p) 12) (isKnownState d) (ltb n bound) (isLoaded (d .deck) and not (isFit t))
     where
       by-tests : (twelve known short unfit : Bool)
           → Ordered twelve known short unfit (if not twelve then 1 else (if not known then 2 else (if short then 3 else (if unfit then 4 else 0))))
@@ -190,12 +190,12 @@ module _ (d : Drive) (p t : List ℕ) (n : ℕ) where
   reply-refusal : Numbered (refusalOf d p t n) (ruleOf d p t n) (replyTo d p t n)
   reply-refusal = rw (reply-kind d p t n) (meets-numbered (refusalOf d p t n) t (kind p (d .deck) t) (d .unit) (d .deck))
 
-  pub reply-ordered : Ordered (eqb (length p) 12) (isSound d) (ltb n bound) (isLoaded (d .deck) and not (isFit t)) (replyTo d p t n .number)
+  pub reply-ordered : Ordered (eqb (length p) 12) (isKnownState d) (ltb n bound) (isLoaded (d .deck) and not (isFit t)) (replyTo d p t n .number)
   reply-ordered = rw (reply-refusal .0) refusal-ordered
 
   -- the packet's table is looked at
   abbrev looked : Bool
-  looked = eqb (length p) 12 and isSound d and not (ltb n bound) and isLoaded (d .deck)
+  looked = eqb (length p) 12 and isKnownState d and not (ltb n bound) and isLoaded (d .deck)
 
   refusal-unfit : eqb (refusalOf d p t n) 4 ≡ looked and not (isFit t)
   refusal-unfit = refusal-ordered .four ∙ sym (simp and-assoc)
@@ -245,7 +245,7 @@ neither false true = refl
 neither false false = refl
 
 module _ (d : Drive) where
-  press-number : (k t l : Bool) → isSound d ≡ k → d .deck .«tray_open» ≡ t → d .deck .lock ≡ l
+  press-number : (k t l : Bool) → isKnownState d ≡ k → d .deck .«tray_open» ≡ t → d .deck .lock ≡ l
       → button d .number ≡ numberFor k (t or not l) 5
   unfolding _or_
   press-number false t l h i j = ap numberIn (button-unknown d h)
@@ -253,7 +253,7 @@ module _ (d : Drive) where
   press-number true false true h i j = ap numberIn (button-locked d h i j)
   press-number true false false h i j = ap numberIn (button-opens d h i j)
 
-  lay-number : (k t i : Bool) → isSound d ≡ k → d .deck .«tray_open» ≡ t → d .deck .«disc_in» ≡ i
+  lay-number : (k t i : Bool) → isKnownState d ≡ k → d .deck .«tray_open» ≡ t → d .deck .«disc_in» ≡ i
       → lay d .number ≡ numberFor k (t and not i) 6
   unfolding _and_
   lay-number false t i h j l = ap numberIn (lay-unknown d h)
@@ -261,7 +261,7 @@ module _ (d : Drive) where
   lay-number true true true h j l = ap numberIn (lay-full d h j l)
   lay-number true true false h j l = ap numberIn (lay-lays d h j l)
 
-  lift-number : (k t i : Bool) → isSound d ≡ k → d .deck .«tray_open» ≡ t → d .deck .«disc_in» ≡ i
+  lift-number : (k t i : Bool) → isKnownState d ≡ k → d .deck .«tray_open» ≡ t → d .deck .«disc_in» ≡ i
       → lift d .number ≡ numberFor k (t and i) 7
   unfolding _and_
   lift-number false t i h j l = ap numberIn (lift-unknown d h)
@@ -269,17 +269,17 @@ module _ (d : Drive) where
   lift-number true true true h j l = ap numberIn (lift-lifts d h j l)
   lift-number true true false h j l = ap numberIn (lift-empty d h j l)
 
-  pub press-tested : Tested (isSound d) (d .deck .«tray_open» or not (d .deck .lock)) 5 (button d .number)
+  pub press-tested : Tested (isKnownState d) (d .deck .«tray_open» or not (d .deck .lock)) 5 (button d .number)
   press-tested = rw (press-number _ _ _ refl refl refl) (number-tested _ _ 5 (omega arith))
 
   -- a closed tray that is locked
-  pub press-locked : eqb (button d .number) 5 ≡ isSound d and not (d .deck .«tray_open») and d .deck .lock
-  press-locked = press-tested .next ∙ ap (λ (b : Bool). isSound d and b) (neither (d .deck .«tray_open») (d .deck .lock))
+  pub press-locked : eqb (button d .number) 5 ≡ isKnownState d and not (d .deck .«tray_open») and d .deck .lock
+  press-locked = press-tested .next ∙ ap (λ (b : Bool). isKnownState d and b) (neither (d .deck .«tray_open») (d .deck .lock))
 
-  pub lay-tested : Tested (isSound d) (d .deck .«tray_open» and not (d .deck .«disc_in»)) 6 (lay d .number)
+  pub lay-tested : Tested (isKnownState d) (d .deck .«tray_open» and not (d .deck .«disc_in»)) 6 (lay d .number)
   lay-tested = rw (lay-number _ _ _ refl refl refl) (number-tested _ _ 6 (omega arith))
 
-  pub lift-tested : Tested (isSound d) (d .deck .«tray_open» and d .deck .«disc_in») 7 (lift d .number)
+  pub lift-tested : Tested (isKnownState d) (d .deck .«tray_open» and d .deck .«disc_in») 7 (lift d .number)
   lift-tested = rw (lift-number _ _ _ refl refl refl) (number-tested _ _ 7 (omega arith))
 
 -- n is the number of a call that tests 2 alone
@@ -288,10 +288,10 @@ pub record TestedAlone (known : Bool) (n : ℕ) : Type 0 where
   pub two : eqb n 2 ≡ not known
   pub four : eqb n 4 ≡ false
 
-pub move-tested : (d : Drive) (k : ℕ) → TestedAlone (isSound d) (moveOn k d .number)
-move-tested d k = go (isSound d) refl
+pub move-tested : (d : Drive) (k : ℕ) → TestedAlone (isKnownState d) (moveOn k d .number)
+move-tested d k = go (isKnownState d) refl
   where
-    go : (b : Bool) → isSound d ≡ b → TestedAlone b (moveOn k d .number)
+    go : (b : Bool) → isKnownState d ≡ b → TestedAlone b (moveOn k d .number)
     go true h = rw (moveOn-moves d h k) (record { zero = refl; two = refl; four = refl })
     go false h = rw (moveOn-unknown d k h) (record { zero = refl; two = refl; four = refl })
 

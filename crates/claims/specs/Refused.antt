@@ -12,7 +12,7 @@ use Rattle.address.specs.Address.{toMsf, toBlock, isMsf}
 use Rattle.drive.specs.declared.state.Drive.{Drive}
 use Rattle.drive.specs.Sense.{triple, senseAt, isKnown}
 use Rattle.play.specs.Play.{isStatus, isPlay}
-use Rattle.drive.specs.State.{isSound, isLoaded}
+use Rattle.drive.specs.State.{isKnownState, isLoaded}
 use Rattle.drive.specs.StateLaws.{powerOn-with, powerOnWithoutChange-with}
 use Rattle.table.specs.Layout.{bound, lastSession, descriptors}
 use Rattle.sessions.specs.Session.{inOrder}
@@ -85,7 +85,7 @@ module _ (d : Drive) where
 
   -- none of that holds of the state
   abbrev isState : Bool
-  isState = isSound d
+  isState = isKnownState d
 
   -- the held sense is one of the ten
   abbrev isOfTen : Bool
@@ -100,7 +100,7 @@ module _ (d : Drive) where
       or eqb (d .deck .play .status) 0x15
 
   pub refused-2-state : isState ≡ isOfTen and isOfFour and leb (d .deck .play .position) (d .deck .play .end) and leb (d .deck .play .end) 449849
-  unfolding isSound isPlay isStatus
+  unfolding isKnownState isPlay isStatus
   refused-2-state = refl
 
   -- ---- "Packets test 1, 2, 3, 4, then the steps below"; K9: and nothing more

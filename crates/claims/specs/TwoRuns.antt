@@ -15,7 +15,8 @@ use Rattle.claims.specs.Device.{runs}
 use Rattle.claims.specs.DriveDevice.{drive, cause-attends, lend-alike, left-alike}
 
 -- calls in common, then c, a power-on in either form or a loading, then calls that are alike, one by one, but for the fit tables lent:
--- the events at place i have the same answer, with the memory that it leaves, and the same state after it,
+-- the events at place i have the same answer, with the memory that it leaves, and the same state after it (K2: "demand 3's state includes
+-- the record"),
 -- where each answer after c and before that place leaves an attention pending
 pub two-runs : (handed : Drive) (common : List Call) (c : Call) → isCause (event c (final handed common)) ≡ true
     → {cs ds : List Call} → Pairwise Alike cs ds

@@ -25,7 +25,7 @@ use Rattle.drive.specs.Sense.{senseAt, sameSense, isKnown}
 use Rattle.play.specs.declared.Play.{Play}
 use Rattle.play.specs.Play.{noPlay, withStatus, isPlay, movedOn}
 use Rattle.drive.specs.Unit.{poweredOn, attend}
-use Rattle.drive.specs.State.{isSound, isLoaded, opening, closing, withDisc, withLock, withPlay, shift, powerOn, powerOnWithoutChange, button, lay, lift, moveOn}
+use Rattle.drive.specs.State.{isKnownState, isLoaded, opening, closing, withDisc, withLock, withPlay, shift, powerOn, powerOnWithoutChange, button, lay, lift, moveOn}
 use Rattle.gate.specs.declared.fault.Fault.{Fault}
 use Rattle.gate.specs.declared.unit.Pending.{Pending}
 use Rattle.gate.specs.declared.unit.Giving.{Giving}
@@ -45,7 +45,7 @@ use Rattle.sessions.specs.Session.{size, starts, readSession}
 use Rattle.disc.specs.Rules.{fault}
 use Rattle.disc.specs.Part.{PartOf, partRefused, partStart, partSize}
 use Rattle.tracks.specs.declared.track.Mode.{Mode}
-use Rattle.tracks.specs.Track.{isData, isMode, trackOf, trackNumbered, runIs}
+use Rattle.tracks.specs.Track.{isData, trackOf, trackNumbered, runIs}
 use Rattle.disc.specs.Disc.{reading}
 use Rattle.command.specs.declared.decode.Command.{Command}
 use Rattle.command.specs.declared.decode.Kind.{Kind}
@@ -54,7 +54,7 @@ use Rattle.command.specs.Command.{decode, kindOf, needing, bit0, bit1, bit6}
 use Rattle.command.specs.Tray.{startStop, prevent, noMedium}
 use Rattle.command.specs.Inquiry.{inquiryBytes}
 use Rattle.command.specs.Done.{done, doneOf}
-use Rattle.blocks.specs.Range.{over, inRange}
+use Rattle.blocks.specs.Range.{inRange}
 use Rattle.blocks.specs.Blocks.{capacity, seek, read}
 use Rattle.audio.specs.declared.sub_channel.SubAsk.{SubAsk}
 use Rattle.audio.specs.Audio.{play, pauseResume}
@@ -192,8 +192,8 @@ unique-with-lock m b r s = value-once
 pub unique-with-play : (m : Deck) (a : Play) (r s : Deck) → r ≡ withPlay m a → s ≡ withPlay m a → r ≡ s
 unique-with-play m a r s = value-once
 
-pub unique-is-sound : (d : Drive) (r s : Bool) → r ≡ isSound d → s ≡ isSound d → r ≡ s
-unique-is-sound d r s = value-once
+pub unique-is-known-state : (d : Drive) (r s : Bool) → r ≡ isKnownState d → s ≡ isKnownState d → r ≡ s
+unique-is-known-state d r s = value-once
 
 pub unique-shift : (d : Drive) (m : Shifted) (r s : Drive) → r ≡ shift d m → s ≡ shift d m → r ≡ s
 unique-shift d m r s = value-once
@@ -321,9 +321,6 @@ unique-track-of t b r s = value-once
 pub unique-track-numbered : (t : List ℕ) (n : ℕ) (r s : Track) → r ≡ trackNumbered (descriptors t) n → s ≡ trackNumbered (descriptors t) n → r ≡ s
 unique-track-numbered t n r s = value-once
 
-pub unique-is-mode : (mode : Mode) (u : Track) (r s : Bool) → r ≡ isMode mode u → s ≡ isMode mode u → r ≡ s
-unique-is-mode mode u r s = value-once
-
 pub unique-run-is : (mode : Mode) (t : List ℕ) (a n : ℕ) (r s : Bool)
     → r ≡ runIs mode (descriptors t) a n → s ≡ runIs mode (descriptors t) a n → r ≡ s
 unique-run-is mode t a n r s = value-once
@@ -392,9 +389,6 @@ pub unique-put-toc : (disc : Disc) (f : ℕ) (msf : Bool) (n room : ℕ) (d m m�
 unique-put-toc disc f msf n room d m m₁ m₂ r s = laying-once
 
 -- ---- blocks
-
-pub unique-over : (a l : ℕ) (r s : Bool) → r ≡ over a l → s ≡ over a l → r ≡ s
-unique-over a l r s = value-once
 
 pub unique-in-range : (a n l : ℕ) (r s : Bool) → r ≡ inRange a n l → s ≡ inRange a n l → r ≡ s
 unique-in-range a n l r s = value-once

@@ -12,9 +12,9 @@ use Rattle.drive.specs.declared.state.Deck.{Deck}
 use Rattle.drive.specs.declared.state.Drive.{Drive}
 use Rattle.drive.specs.Sense.{senseAt}
 use Rattle.drive.specs.SenseLaws.{isKnown-at}
-use Rattle.play.specs.PlayLaws.{noPlay-sound}
-use Rattle.drive.specs.State.{isSound, isLoaded}
-use Rattle.drive.specs.StateLaws.{sound-isSound}
+use Rattle.play.specs.PlayLaws.{noPlay-known}
+use Rattle.drive.specs.State.{isKnownState, isLoaded}
+use Rattle.drive.specs.StateLaws.{known-isKnownState}
 use Rattle.table.specs.Layout.{bound, lastSession, descriptors}
 use Rattle.disc.specs.Rules.{isFit}
 use Rattle.disc.specs.RulesLaws.{isFit-true, fit-numbered}
@@ -71,14 +71,14 @@ stepsOf-whole : (t : List ℕ) → isFit t ≡ true → stepsOf loadedE wholeToc
 unfolding decode if_then_else_ gate pendingOf perform answering tocBad tocBytes _and_
 stepsOf-whole t f = rw (le-ltb (lastSession t) 1 (fit-numbered (isFit-true f) .low))
 
-loadedE-sound : isSound loadedE ≡ true
+loadedE-known : isKnownState loadedE ≡ true
 unfolding senseAt
-loadedE-sound = sound-isSound loadedE (isKnown-at 0) noPlay-sound
+loadedE-known = known-isKnownState loadedE (isKnown-at 0) noPlay-known
 
 -- and so does the drive, into a memory that passes refusal 3: of any fit table the answer is as long as the table
 pub format2-as-long : (t m : List ℕ) → isFit t ≡ true → bound ≤ length m → length (answer (packet wholeToc t m) loadedE .full) ≡ length t
 format2-as-long t m f h =
-    ap (λ (r : Reply Deck). length (r .full)) (answer-steps loadedE wholeToc t (length m) refl loadedE-sound h (λ l. f)) ∙ ap length (stepsOf-whole t f) ∙ format2-length t f
+    ap (λ (r : Reply Deck). length (r .full)) (answer-steps loadedE wholeToc t (length m) refl loadedE-known h (λ l. f)) ∙ ap length (stepsOf-whole t f) ∙ format2-length t f
 
 -- 99 sessions of one track with a B0h and a C0h each are 594 descriptors, and fit: their answer has 6,538 bytes
 pub bound-reached : (m : List ℕ) → bound ≤ length m → length (answer (packet wholeToc longest m) loadedE .full) ≡ bound

@@ -6,12 +6,12 @@ use Prim.Native.Nat.{ℕ, zero, suc, _+_, _≤_}
 use native.Mathlib.Omega.{arith}
 use lib.ListN.{length, length-append, length-drop}
 use lib.Dec.{eqb, ltb}
-use borrow.Author.Tests.{ltb-false}
+use borrow.Author.Tests.{ltb-false, not-true}
 use Rattle.ground.specs.Tests.{_and_, _or_, either, and-head, and-tail}
 use Rattle.drive.specs.declared.state.Unit.{Unit}
 use Rattle.drive.specs.declared.state.Deck.{Deck}
 use Rattle.drive.specs.declared.state.Drive.{Drive}
-use Rattle.drive.specs.State.{isSound, isLoaded}
+use Rattle.drive.specs.State.{isKnownState, isLoaded}
 use Rattle.table.specs.Layout.{bound, header, descriptors, lastSession}
 use Rattle.sessions.specs.Session.{session}
 use Rattle.disc.specs.Rules.{isFit}
@@ -43,10 +43,6 @@ use Rattle.claims.specs.PacketLaws.{kind, ruleOf, stepsOf-kind, reply-ki
 use Rattle.claims.specs.RefusalLaws.{refusal-ordered}
 
 -- ---- tests
-
-not-true : (b : Bool) → not b ≡ true → b ≡ false
-not-true true h = sym h
-not-true false h = refl
 
 -- the first does not hold without the second
 pub second-holds : (a b : Bool) → a and not b ≡ false → a ≡ true → b ≡ true
@@ -140,7 +136,7 @@ Held n r = (length (r .full) ≤ bound) × (length (r .full) ≤ n)
 pub reply-held : (d : Drive) (p t : List ℕ) (n : ℕ) → Held n (replyTo d p t n)
 reply-held d p t n = rw (reply-kind d p t n) (by-number (refusalOf d p t n) (refusal-ordered d p t n .zero))
   where
-    by-number : (j : ℕ) → eqb j 0 ≡ eqb (length p) 12 and isSound d and not (ltb n bound) and not (isLoaded (d .deck) and not (isFit t))
+    by-number : (j : ℕ) → eqb j 0 ≡ eqb (length p) 12 and isKnownState d and not (ltb n bound) and not (isLoaded (d .deck) and not (isFit t))
         → Held n (meets j (ruleOf d p t n) (kind p (d .deck) t) (d .unit) (d .deck))
     by-number zero e =
         let h = and-tail _ _ (and-tail _ _ (sym e)) in

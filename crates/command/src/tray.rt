@@ -1,4 +1,4 @@
-// What the commands do that look at the drive alone: the tray, the lock, and a drive with no disc.
+// START/STOP UNIT, PREVENT/ALLOW, and a drive with no disc.
 use crate::done::Done;
 use crate::done::Went;
 use crate::done::done_with;

@@ -25,14 +25,15 @@ abbrev pub cannotLift : ℕ
 cannotLift = 7
 
 -- "2: held sense is none of the ten"; K2: "2 also covers another status, a position past its end, or an end over 449,849": none of that
-unfoldable pub isSound : Drive → Bool
-isSound d = isKnown (d .unit .sense) and isPlay (d .deck .play)
+unfoldable pub isKnownState : Drive → Bool
+isKnownState d = isKnown (d .unit .sense) and isPlay (d .deck .play)
 
 -- "Loaded means tray closed with a disc in."
 abbrev pub isLoaded : Deck → Bool
 isLoaded m = not (m .«tray_open») and m .«disc_in»
 
--- the tray opens, by button or packet: no loading; K2: "opening set 15h, position 0 and end 0"
+-- the tray opens, by button or packet: no loading; K2: "opening set 15h, position 0 and end 0",
+-- with no disc in too
 abbrev pub opening : Deck → Shifted
 opening m = record { deck = record { «tray_open» = true; «disc_in» = m .«disc_in»; lock = m .lock; play = noPlay }; loading = false }
 
@@ -94,9 +95,9 @@ refuse n d = record { number = n; state = d }
 abbrev pub moves : Drive → Moved
 moves d = record { number = 0; state = d }
 
--- "Button, laying and lifting test 2 before 5 to 7."
+-- "Button, laying and lifting test 2 before 5 to 7."; K2: "An outside call, testing 2"
 abbrev pub tested : Drive → Moved → Moved
-tested d r = if isSound d then r else refuse unknownState d
+tested d r = if isKnownState d then r else refuse unknownState d
 
 -- "Button: an open tray closes; a closed one opens, unless locked (5). The lock never stops closing."
 unfoldable pub button : Drive → Moved

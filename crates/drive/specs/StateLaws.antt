@@ -7,8 +7,8 @@ use Rattle.drive.specs.declared.state.Drive.{Drive}
 use Rattle.drive.specs.declared.state.Moved.{Moved}
 use Rattle.drive.specs.Sense.{isKnown}
 use Rattle.play.specs.Play.{movedOn}
-use Rattle.play.specs.PlayLaws.{Sound, isPlay-sound, sound-isPlay}
-use Rattle.drive.specs.State.{unknownState, locked, cannotLay, cannotLift, isSound, isLoaded, opening, closing, shift, holding, showing, powerOnWith, powerOn, powerOnWithoutChange, refuse, moves, button, lay, lift, moveOn}
+use Rattle.play.specs.PlayLaws.{Known, isPlay-known, known-isPlay}
+use Rattle.drive.specs.State.{unknownState, locked, cannotLay, cannotLift, isKnownState, isLoaded, opening, closing, shift, holding, showing, powerOnWith, powerOn, powerOnWithoutChange, refuse, moves, button, lay, lift, moveOn}
 
 -- a call with a number other than 0 hands back the state as it came
 abbrev pub Unmoved : Drive → Moved → Type 0
@@ -16,17 +16,17 @@ Unmoved d r = (r .number ≡ 0 → ⊥) → r .state ≡ d
 
 -- ---- refusal 2
 
-pub isSound-sense : (d : Drive) → isSound d ≡ true → isKnown (d .unit .sense) ≡ true
-unfolding isSound
-isSound-sense d h = and-head _ _ h
+pub isKnownState-sense : (d : Drive) → isKnownState d ≡ true → isKnown (d .unit .sense) ≡ true
+unfolding isKnownState
+isKnownState-sense d h = and-head _ _ h
 
-pub isSound-play : (d : Drive) → isSound d ≡ true → Sound (d .deck .play)
-unfolding isSound
-isSound-play d h = isPlay-sound _ (and-tail _ _ h)
+pub isKnownState-play : (d : Drive) → isKnownState d ≡ true → Known (d .deck .play)
+unfolding isKnownState
+isKnownState-play d h = isPlay-known _ (and-tail _ _ h)
 
-pub sound-isSound : (d : Drive) → isKnown (d .unit .sense) ≡ true → Sound (d .deck .play) → isSound d ≡ true
-unfolding isSound
-sound-isSound d h k = and-both _ _ h (sound-isPlay k)
+pub known-isKnownState : (d : Drive) → isKnown (d .unit .sense) ≡ true → Known (d .deck .play) → isKnownState d ≡ true
+unfolding isKnownState
+known-isKnownState d h k = and-both _ _ h (known-isPlay k)
 
 -- ---- the two ways in which a call ends
 
@@ -49,23 +49,23 @@ module _ (d : Drive) where
 
   -- ---- each case of the other calls
 
-  pub button-unknown : isSound d ≡ false → button d ≡ refuse unknownState d
+  pub button-unknown : isKnownState d ≡ false → button d ≡ refuse unknownState d
   unfolding button
   button-unknown h = unless _ _ _ h
 
-  pub lay-unknown : isSound d ≡ false → lay d ≡ refuse unknownState d
+  pub lay-unknown : isKnownState d ≡ false → lay d ≡ refuse unknownState d
   unfolding lay
   lay-unknown h = unless _ _ _ h
 
-  pub lift-unknown : isSound d ≡ false → lift d ≡ refuse unknownState d
+  pub lift-unknown : isKnownState d ≡ false → lift d ≡ refuse unknownState d
   unfolding lift
   lift-unknown h = unless _ _ _ h
 
-  pub moveOn-unknown : (n : ℕ) → isSound d ≡ false → moveOn n d ≡ refuse unknownState d
+  pub moveOn-unknown : (n : ℕ) → isKnownState d ≡ false → moveOn n d ≡ refuse unknownState d
   unfolding moveOn
   moveOn-unknown n h = unless _ _ _ h
 
-  module _ (k : isSound d ≡ true) where
+  module _ (k : isKnownState d ≡ true) where
     pub moveOn-moves : (n : ℕ) → moveOn n d ≡ moves (showing d (movedOn n (d .deck .play)))
     unfolding moveOn
     moveOn-moves n = when _ _ _ k

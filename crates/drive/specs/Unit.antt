@@ -1,5 +1,5 @@
 -- The attention unit: power attention, change attention and held sense, beside any deck.
-use mathlib.Core.Bool.{Bool, true, false}
+use mathlib.Core.Bool.{Bool, true}
 use Rattle.ground.specs.Tests.{if_then_else_}
 use Rattle.drive.specs.declared.state.Unit.{Unit}
 use Rattle.drive.specs.Sense.{noSense}

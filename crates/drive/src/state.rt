@@ -7,7 +7,7 @@ use play::Play;
 use play::no_play;
 ghost use mathlib.Core.Path.{_≡_};
 ghost use Rattle.drive.specs.Unit.{poweredOn, attend};
-ghost use Rattle.drive.specs.State.{isSound, opening, closedPlay, closing, restarted, withDisc, withLock, withPlay, withDeck, isLoaded, shift, powerOnWith, powerOn, powerOnWithoutChange, moves, refuse, button, lay, lift, moveOn};
+ghost use Rattle.drive.specs.State.{isKnownState, opening, closedPlay, closing, restarted, withDisc, withLock, withPlay, withDeck, isLoaded, shift, powerOnWith, powerOn, powerOnWithoutChange, moves, refuse, button, lay, lift, moveOn};
 
 // What is pending and what is held: this is the same for every device that stands behind the gate.
 pub struct Unit {
@@ -179,9 +179,10 @@ impl Deck {
 }
 
 impl Drive {
-    // The state is one that refusal 2 does not meet: its sense is one of the ten, and its play record is one.
-    pub fn is_sound(self) -> bool
-        ensures { λ r. ⌜ r ≡ isSound self ⌝ }
+    // Refusal 2 does not meet the state: the sense is one of the ten, the play status one of the four, the position not past the end, the end
+    // not over the last address.
+    pub fn is_known_state(self) -> bool
+        ensures { λ r. ⌜ r ≡ isKnownState self ⌝ }
     {
         if is_known(self.unit.sense) {
             return self.deck.play.is_play();
@@ -229,7 +230,7 @@ impl Drive {
     pub fn button(self) -> Moved
         ensures { λ r. ⌜ r ≡ button self ⌝ }
     {
-        if self.is_sound() {
+        if self.is_known_state() {
             if self.deck.tray_open {
                 return moves(self.shift(self.deck.closing()));
             }
@@ -244,7 +245,7 @@ impl Drive {
     pub fn lay(self) -> Moved
         ensures { λ r. ⌜ r ≡ lay self ⌝ }
     {
-        if self.is_sound() {
+        if self.is_known_state() {
             if self.deck.tray_open {
                 if self.deck.disc_in {
                     return refuse(CANNOT_LAY, self);
@@ -259,7 +260,7 @@ impl Drive {
     pub fn lift(self) -> Moved
         ensures { λ r. ⌜ r ≡ lift self ⌝ }
     {
-        if self.is_sound() {
+        if self.is_known_state() {
             if self.deck.tray_open {
                 if self.deck.disc_in {
                     return moves(self.with_deck(self.deck.with_disc(false)));
@@ -275,7 +276,7 @@ impl Drive {
     pub fn move_on(self, k: usize) -> Moved
         ensures { λ r. ⌜ r ≡ moveOn k self ⌝ }
     {
-        if self.is_sound() {
+        if self.is_known_state() {
             return moves(self.with_deck(self.deck.with_play(self.deck.play.moved_on(k))));
         }
         refuse(UNKNOWN_STATE, self)

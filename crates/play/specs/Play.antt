@@ -42,7 +42,7 @@ isPlay r = isStatus (r .status) and leb (r .position) (r .end) and leb (r .end) 
 abbrev pub onward : ℕ → Play → ℕ
 onward k r = min (r .position + k) (r .end)
 
--- "where the status becomes 13h; in any other status it changes nothing"
+-- "where the status becomes 13h", wherever the new position is the end, of k = 0 too; "in any other status it changes nothing"
 unfoldable pub movedOn : ℕ → Play → Play
 movedOn k r =
     if eqb (r .status) playing

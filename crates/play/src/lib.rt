@@ -1,4 +1,4 @@
-// The play record: what is played, how far it has come, and where it ends.
+// The play record: its status, position and end.
 use address::LAST;
 ghost use mathlib.Core.Path.{_≡_};
 ghost use Prim.Native.Nat.{_+_};

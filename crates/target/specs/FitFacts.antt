@@ -4,22 +4,19 @@ use mathlib.Core.List.{List}
 use Prim.Native.Nat.{ℕ, _≤_}
 use lib.ListN.{length}
 use Rattle.table.specs.Layout.{bound, header, descriptors}
-use Rattle.disc.specs.Rules.{leadOut}
 use Rattle.disc.specs.RulesLaws.{Fit, isFit-true, fit-sized}
-use Rattle.disc.specs.FitLaws.{fit-lead-out}
 use Rattle.tracks.specs.declared.track.Mode.{Mode}
 use Rattle.tracks.specs.Track.{allIn, runIs}
 use Rattle.tracks.specs.SpreadLaws.{fit-run-agrees}
 use Rattle.disc.specs.declared.disc.Disc.{Disc}
 use Rattle.disc.specs.declared.disc.Reading.the-variants as reads
-use Rattle.disc.specs.Disc.{discOf, lastPart, reading}
+use Rattle.disc.specs.Disc.{discOf, reading}
 use Rattle.disc.specs.DiscLaws.{reading-fit}
 
--- a fit table's length, its last lead-out, and how a run of blocks is tested
+-- a fit table's length, and how a run of blocks is tested
 pub record FitFacts (t : List ℕ) : Type 0 where
   pub head : header ≤ length t
   pub most : length t ≤ bound
-  pub leads : 1 ≤ leadOut (lastPart t)
   pub runs : (mode : Mode) (a n : ℕ) → runIs mode (descriptors t) a n ≡ allIn mode (descriptors t) a n
 
 -- a fit table and what was read off it
@@ -33,7 +30,6 @@ fit-facts f =
     record {
       head = s .least;
       most = s .most;
-      leads = fit-lead-out f .0;
       runs = fit-run-agrees f;
     }
 

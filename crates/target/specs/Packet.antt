@@ -8,7 +8,7 @@ use Rattle.ground.specs.Tests.{_and_, if_then_else_}
 use Rattle.drive.specs.declared.state.Unit.{Unit}
 use Rattle.drive.specs.declared.state.Deck.{Deck}
 use Rattle.drive.specs.declared.state.Drive.{Drive}
-use Rattle.drive.specs.State.{isSound, isLoaded, unknownState}
+use Rattle.drive.specs.State.{isKnownState, isLoaded, unknownState}
 use Rattle.table.specs.Layout.{bound}
 use Rattle.disc.specs.Rules.{isFit}
 use Rattle.disc.specs.Part.{unfit, ruleWith}
@@ -39,7 +39,7 @@ steps c u m p t = stepsBy (kindOf c) c u m p t
 unfoldable pub refusalOf : Drive → List ℕ → List ℕ → ℕ → ℕ
 refusalOf d p t n =
     if not (eqb (length p) 12) then notTwelve
-    else (if not (isSound d) then unknownState
+    else (if not (isKnownState d) then unknownState
     else (if ltb n bound then shortMemory
     else (if isLoaded (d .deck) and not (isFit t) then unfit else 0)))
 

@@ -12,7 +12,7 @@ use Rattle.drive.specs.declared.sense.Sense.{Sense}
 use Rattle.drive.specs.declared.state.Unit.{Unit}
 use Rattle.drive.specs.declared.state.Deck.{Deck}
 use Rattle.drive.specs.declared.state.Drive.{Drive}
-use Rattle.drive.specs.State.{isSound, isLoaded, unknownState}
+use Rattle.drive.specs.State.{isKnownState, isLoaded, unknownState}
 use Rattle.table.specs.Layout.{bound}
 use Rattle.disc.specs.Rules.{fault, isFit}
 use Rattle.disc.specs.Part.{unfit, ruleWith}
@@ -108,12 +108,12 @@ module _ (d : Drive) (p t : List ℕ) (n : ℕ) where
   answer-1 h = refused-plainly notTwelve (when _ _ _ (ap not (ne-eqb _ _ h))) (λ z. omega arith) (λ z. omega arith)
 
   module _ (a : length p ≡ 12) where
-    pub answer-2 : isSound d ≡ false → answer d p t n ≡ refuse unknownState 0 (d .unit) (d .deck)
+    pub answer-2 : isKnownState d ≡ false → answer d p t n ≡ refuse unknownState 0 (d .unit) (d .deck)
     unfolding refusalOf
     answer-2 h =
         refused-plainly unknownState (unless _ _ _ (ap not (eq-eqb _ _ a)) ∙ when _ _ _ (ap not h)) (λ z. omega arith) (λ z. omega arith)
 
-    module _ (b : isSound d ≡ true) where
+    module _ (b : isKnownState d ≡ true) where
       pub answer-3 : n < bound → answer d p t n ≡ refuse shortMemory 0 (d .unit) (d .deck)
       unfolding refusalOf
       answer-3 h =

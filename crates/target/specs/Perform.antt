@@ -23,6 +23,7 @@ use Rattle.command.specs.Tray.{startStop, prevent, noMedium}
 use Rattle.command.specs.Inquiry.{inquiry}
 use Rattle.command.specs.Done.{done, doneOf}
 use Rattle.blocks.specs.Blocks.{readCapacity, seek, read}
+use Rattle.audio.specs.declared.sub_channel.SubAsk.{SubAsk}
 use Rattle.audio.specs.Audio.{play, pauseResume}
 use Rattle.audio.specs.SubChannel.{subAskIn, readSubChannel}
 use Rattle.target.specs.ReadToc.{readToc}
@@ -39,6 +40,10 @@ reads a n m t = read (allIn Data (descriptors t) a n) a n (L t) m
 abbrev pub plays : ℕ → ℕ → Deck → List ℕ → Result Deck
 plays a n m t = play (allIn Audio (descriptors t) a n) a n (L t) m
 
+-- K2: READ SUB-CHANNEL, of the position's track on the disc of the table lent now
+abbrev pub tells : SubAsk → ℕ → Deck → List ℕ → Result Deck
+tells ask limit m t = readSubChannel ask (trackOf (descriptors t) (m .play .position)) limit m
+
 -- step 5: each command's own work (REQUEST SENSE never comes here: `stepsBy` answers it by `requestSense`)
 abbrev pub work : Command → List ℕ → Deck → List ℕ → Result Deck
 work TestUnitReady p m t = done m
@@ -53,7 +58,7 @@ work ReadToc p m t = readToc p m t
 work Read12 p m t = reads (addressIn p) (count12 p) m t
 work PlayAudio p m t = plays (addressIn p) (count10 p) m t
 work PauseResume p m t = pauseResume (bit0 (byte p 8)) m
-work ReadSubChannel p m t = readSubChannel (subAskIn p) (trackOf (descriptors t) (m .play .position)) (lengthIn p) m
+work ReadSubChannel p m t = tells (subAskIn p) (lengthIn p) m t
 work Unknown p m t = fails UnknownCode
 
 -- steps 3 and 4: "Unknown code: 05/20/00." (an unknown code needs no disc) "If the command needs a disc and the drive isn't loaded: .."

@@ -45,9 +45,6 @@ pub record Ready (m : Deck) (p t : List ℕ) (disc : Disc) (mem : List ℕ) : Ty
 pub readOff-leads : {t : List ℕ} {disc : Disc} → ReadOff t disc → disc .«lead_out» ≡ L t
 readOff-leads r = ap (λ (d : Disc). d .«lead_out») (r .same)
 
-pub readOff-least : {t : List ℕ} {disc : Disc} → ReadOff t disc → 1 ≤ disc .«lead_out»
-readOff-least r = rw (readOff-leads r) (r .fits .leads)
-
 -- its descriptors are what its header leaves of the bound
 pub readOff-length : {t : List ℕ} {disc : Disc} → ReadOff t disc → header + length (descriptors t) ≤ bound
 readOff-length {t} r = let l = length-drop header t in let a = r .fits .head in let b = r .fits .most in omega arith

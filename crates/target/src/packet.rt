@@ -27,7 +27,7 @@ ghost use mathlib.Core.Path.{_≡_};
 ghost use mathlib.Core.Bool.{true};
 ghost use Prim.Native.Nat.{_≤_};
 ghost use lib.ListN.{length};
-ghost use Rattle.drive.specs.State.{isSound};
+ghost use Rattle.drive.specs.State.{isKnownState};
 ghost use Rattle.table.specs.Layout.{bound};
 ghost use Rattle.gate.specs.Gate.{requestSense, pass, gate};
 ghost use Rattle.target.specs.Perform.{perform};
@@ -114,7 +114,7 @@ fn unread() -> Disc
 
 // Refusal 4, with the broken rule: a loaded drive's table is read first.
 fn meet(d: Drive, p: &[u8], t: &[u8], mem: &mut [u8]) -> Outcome
-    requires { ⌜ (length (now p) ≡ 12) × (isSound d ≡ true) × (bound ≤ length (now mem)) ⌝ }
+    requires { ⌜ (length (now p) ≡ 12) × (isKnownState d ≡ true) × (bound ≤ length (now mem)) ⌝ }
     ensures { λ r. ⌜ Answered (answer d (now (p .entry)) (now (t .entry)) (length (now (mem .entry)))) (now (mem .entry)) r (now (mem .exit)) ⌝ }
 {
     if d.deck.is_loaded() {
@@ -131,7 +131,7 @@ pub fn packet(d: Drive, p: &[u8], t: &[u8], mem: &mut [u8]) -> Outcome
     ensures { λ r. ⌜ Answered (answer d (now (p .entry)) (now (t .entry)) (length (now (mem .entry)))) (now (mem .entry)) r (now (mem .exit)) ⌝ }
 {
     if p.len() == 12 {
-        if d.is_sound() {
+        if d.is_known_state() {
             if mem.len() < BOUND {
                 return refuse(SHORT_MEMORY, 0, d);
             }

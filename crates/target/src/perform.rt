@@ -6,6 +6,7 @@ use audio::audio::play_blocks;
 use blocks::blocks::capacity_bytes;
 use blocks::blocks::read_blocks;
 use blocks::blocks::seek;
+use blocks::range::in_range;
 use command::decode::Command;
 use command::decode::needs_disc;
 use command::done::Done;
@@ -28,11 +29,15 @@ use tracks::track::Mode;
 ghost use mathlib.Core.Path.{_≡_};
 ghost use Prim.Native.Nat.{_+_, _≤_};
 ghost use lib.ListN.{length};
+ghost use Rattle.ground.specs.Tests.{_and_};
+ghost use Rattle.table.specs.Layout.{descriptors};
+ghost use Rattle.tracks.specs.Track.{allIn};
+ghost use Rattle.blocks.specs.Range.{inRange};
 ghost use Rattle.command.specs.Command.{wordAt};
 ghost use Rattle.command.specs.Done.{answering, doneOf};
 ghost use Rattle.target.specs.FitFacts.{ReadOff};
 ghost use Rattle.target.specs.PerformLaws.{Met, Ready};
-ghost use Rattle.target.specs.Perform.{Performed, reads, plays, work, perform};
+ghost use Rattle.target.specs.Perform.{Performed, L, reads, plays, work, perform};
 
 // A command's answer: a field in the packet is bad, or the full answer is laid, cut to the limit.
 pub(crate) fn answer(bad: bool, next: Deck, full: &[u8], limit: usize, mem: &mut [u8]) -> Done
@@ -60,12 +65,23 @@ fn word_at(p: &[u8], i: usize) -> usize
     word32(p[i], p[i + 1], p[i + 2], p[i + 3])
 }
 
+// Every one of the n blocks from a on lies in a track of the mode; a run that is out of range is not looked at.
+fn lies_in(mode: Mode, a: usize, n: usize, t: &[u8], disc: Disc) -> bool
+    requires { ⌜ ReadOff (now t) disc ⌝ }
+    ensures { λ r. ⌜ r ≡ inRange a n (L (now (t .entry))) and allIn mode (descriptors (now (t .entry))) a n ⌝ }
+{
+    if in_range(a, n, disc.lead_out) {
+        return run_is(mode, t, a, n);
+    }
+    false
+}
+
 // READ of n blocks from a on.
 fn read_run(a: usize, n: usize, m: Deck, t: &[u8], disc: Disc) -> Done
     requires { ⌜ ReadOff (now t) disc ⌝ }
     ensures { λ r. ⌜ r ≡ doneOf (reads a n m (now (t .entry))) ⌝ }
 {
-    read_blocks(run_is(Mode::Data, t, a, n), a, n, disc.lead_out, m)
+    read_blocks(lies_in(Mode::Data, a, n, t, disc), a, n, disc.lead_out, m)
 }
 
 // PLAY of n blocks from a on.
@@ -73,7 +89,7 @@ fn play_run(a: usize, n: usize, m: Deck, t: &[u8], disc: Disc) -> Done
     requires { ⌜ ReadOff (now t) disc ⌝ }
     ensures { λ r. ⌜ r ≡ doneOf (plays a n m (now (t .entry))) ⌝ }
 {
-    play_blocks(run_is(Mode::Audio, t, a, n), a, n, disc.lead_out, m)
+    play_blocks(lies_in(Mode::Audio, a, n, t, disc), a, n, disc.lead_out, m)
 }
 
 // Step 5: each command's own work. (REQUEST SENSE never comes here: `steps` answers it by `ask_sense`.)

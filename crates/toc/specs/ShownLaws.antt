@@ -1,18 +1,17 @@
 -- The laws of what is shown of the descriptors: how long it is, and how it is made, one descriptor after the other.
 use mathlib.Core.Path.{_≡_, refl, sym, ap, _∙_}
 use mathlib.Core.Bool.{Bool, true, false}
-use mathlib.Core.List.{List, [], _∷_, _++_}
+use mathlib.Core.List.{List, [], _++_}
 use Prim.Native.Nat.{ℕ, zero, suc, _+_, _*_, _≤_}
 use native.Mathlib.Omega.{arith}
 use native.Mathlib.Numerals.{add-one}
-use lib.ListN.{length, take, drop, getD, length-append}
+use lib.ListN.{length, take, drop, length-append}
 use lib.Seq.{take-add}
 use Rattle.ground.specs.Tests.{if_then_else_, when, unless, either}
 use Rattle.table.specs.Layout.{row, flagsAt, pointAt}
 use Rattle.table.specs.Row.{addressAt}
 use Rattle.toc.specs.declared.shown.Show.{Show}
 use Rattle.toc.specs.declared.shown.Show.the-variants.{Tracks, Whole}
-use Rattle.address.specs.Address.{shownAddress}
 use Rattle.address.specs.Laws.{shownAddress-length}
 use Rattle.toc.specs.Shown.{described, describedRow, isShown, shownTrack, shownTracks}
 

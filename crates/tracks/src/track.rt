@@ -65,7 +65,7 @@ pub(crate) fn is_flagged(mode: Mode, flags: u8) -> bool
 }
 
 // A track of that mode; no track is of neither.
-pub fn is_mode(mode: Mode, u: Track) -> bool
+pub(crate) fn is_mode(mode: Mode, u: Track) -> bool
     ensures { λ r. ⌜ r ≡ isMode mode u ⌝ }
 {
     if is_track(wide(u.number)) {

@@ -1,6 +1,5 @@
 -- `audio::audio::pause_resume` meets its contract: each way out is one law of the definition.
 use mathlib.Core.Path.{sym, ap, _∙_}
-use Prim.Native.Nat.{ℕ}
 use Rattle.drive.specs.declared.state.Deck.{Deck}
 use Rattle.play.specs.Play.{withStatus}
 use Rattle.drive.specs.State.{withPlay}

@@ -1,7 +1,5 @@
 -- `audio::sub_channel::position_bytes` meets its contract: the sixteen bytes are the answer's, the four of each address among them.
-use mathlib.Core.Path.{_≡_, sym, ap, _∙_}
-use Prim.Native.Nat.{ℕ}
-use mathlib.Core.List.{List}
+use mathlib.Core.Path.{ap, _∙_}
 use Rattle.ground.specs.Number.{four}
 use Rattle.address.specs.Address.{shownAddress}
 use Rattle.address.specs.Laws.{shownAddress-length}

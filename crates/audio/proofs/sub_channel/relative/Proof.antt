@@ -1,6 +1,6 @@
 -- `audio::sub_channel::relative` meets its contract: the number tells whether there is a track, and a start past the block leaves 0.
 use mathlib.Core.Path.{_≡_, sym, ap, _∙_}
-use Prim.Native.Nat.{ℕ, _-_}
+use Prim.Native.Nat.{_-_}
 use native.Mathlib.Omega.{arith}
 use Rattle.ground.specs.Tests.{when, unless}
 use Rattle.table.specs.Layout.{isTrack}
