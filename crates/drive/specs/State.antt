@@ -32,8 +32,7 @@ isKnownState d = isKnown (d .unit .sense) and isPlay (d .deck .play)
 abbrev pub isLoaded : Deck → Bool
 isLoaded m = not (m .«tray_open») and m .«disc_in»
 
--- the tray opens, by button or packet: no loading; K2: "opening set 15h, position 0 and end 0",
--- with no disc in too
+-- the tray opens, by button or packet: no loading; K2: "opening set 15h, position 0 and end 0", with no disc in too
 abbrev pub opening : Deck → Shifted
 opening m = record { deck = record { «tray_open» = true; «disc_in» = m .«disc_in»; lock = m .lock; play = noPlay }; loading = false }
 
