@@ -6,10 +6,10 @@ use lib.ListN.{getD}
 use lib.Dec.{eqb}
 use Rattle.ground.specs.Tests.{if_then_else_, every}
 use Rattle.command.specs.declared.decode.Command.{Command}
-use Rattle.command.specs.declared.decode.Command.the-variants.{TestUnitReady, RequestSense, Inquiry, StartStop, Prevent, ReadCapacity, Read10, Seek, ReadToc, Read12, PlayAudio, PauseResume, ReadSubChannel, Unknown}
+use Rattle.command.specs.declared.decode.Command.the-variants.{TestUnitReady, RequestSense, Inquiry, StartStop, Prevent, ReadCapacity, Read10, Seek, ReadToc, Read12, PlayAudio, PauseResume, ReadSubChannel, ModeSense, ModeSelect, Unknown}
 use Rattle.command.specs.Command.{decode}
 
--- "the command's class": its number in 01's list of packets, K2's after them, and 0 for "unknown"
+-- "the command's class": its number in 01's list of packets, K2's and K4's after them, and 0 for "unknown"
 unfoldable pub classOf : Command → ℕ
 classOf Unknown = 0
 classOf TestUnitReady = 1
@@ -25,6 +25,8 @@ classOf Read12 = 10
 classOf PlayAudio = 11
 classOf PauseResume = 12
 classOf ReadSubChannel = 13
+classOf ModeSense = 14
+classOf ModeSelect = 15
 
 -- the class of an operation code
 abbrev pub classAt : ℕ → ℕ
@@ -38,7 +40,7 @@ rowAt rows code = getD rows code 0
 abbrev pub keepsRule : List ℕ → Bool
 keepsRule rows = every 256 (λ code. eqb (getD rows code 0) (classAt code))
 
--- 01's list of packets, and K2's
+-- 01's list of packets, K2's and K4's
 abbrev pub packets : List Command
 packets =
     TestUnitReady
@@ -54,6 +56,8 @@ packets =
     ∷ PlayAudio
     ∷ PauseResume
     ∷ ReadSubChannel
+    ∷ ModeSense
+    ∷ ModeSelect
     ∷ []
 
 -- the command in a list that has the class; where none has it, "unknown"

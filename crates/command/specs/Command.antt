@@ -9,10 +9,11 @@ use Rattle.ground.specs.Number.{word16, word32}
 use Rattle.command.specs.declared.decode.Command.{Command}
 use Rattle.command.specs.declared.decode.Kind.{Kind}
 use Rattle.command.specs.declared.decode.Kind.the-variants.{Asks, Passes, Gates}
-use Rattle.command.specs.declared.decode.Command.the-variants.{TestUnitReady, RequestSense, Inquiry, StartStop, Prevent, ReadCapacity, Read10, Seek, ReadToc, Read12, PlayAudio, PauseResume, ReadSubChannel, Unknown}
+use Rattle.command.specs.declared.decode.Command.the-variants.{TestUnitReady, RequestSense, Inquiry, StartStop, Prevent, ReadCapacity, Read10, Seek, ReadToc, Read12, PlayAudio, PauseResume, ReadSubChannel, ModeSense, ModeSelect, Unknown}
 
 -- "TEST UNIT READY 00h, REQUEST SENSE 03h, INQUIRY 12h, START/STOP UNIT 1Bh, PREVENT/ALLOW 1Eh, READ CAPACITY 25h, READ(10) 28h,
--- SEEK(10) 2Bh, READ TOC 43h, READ(12) A8h"; K2: "PLAY AUDIO(10) 45h, PAUSE/RESUME 4Bh and READ SUB-CHANNEL 42h"
+-- SEEK(10) 2Bh, READ TOC 43h, READ(12) A8h"; K2: "PLAY AUDIO(10) 45h, PAUSE/RESUME 4Bh and READ SUB-CHANNEL 42h"; K4: "MODE SENSE(10) 5Ah
+-- and MODE SELECT(10) 55h"
 unfoldable pub decode : ℕ → Command
 decode code =
     if eqb code 0x00 then TestUnitReady else (
@@ -27,7 +28,9 @@ decode code =
     if eqb code 0xA8 then Read12 else (
     if eqb code 0x45 then PlayAudio else (
     if eqb code 0x4B then PauseResume else (
-    if eqb code 0x42 then ReadSubChannel else Unknown))))))))))))
+    if eqb code 0x42 then ReadSubChannel else (
+    if eqb code 0x5A then ModeSense else (
+    if eqb code 0x55 then ModeSelect else Unknown))))))))))))))
 
 -- byte k of a packet, and the numbers that stand in it
 abbrev pub byte : List ℕ → ℕ → ℕ
@@ -62,7 +65,7 @@ count10 p = word16 (byte p 7) (byte p 8)
 abbrev pub count12 : List ℕ → ℕ
 count12 p = wordAt p 6
 
--- "length in 7 to 8" (43h); K2: 42h's stands there too
+-- "length in 7 to 8" (43h); K2: 42h's stands there too, and K4: 5Ah's and 55h's
 abbrev pub lengthIn : List ℕ → ℕ
 lengthIn p = word16 (byte p 7) (byte p 8)
 
@@ -92,6 +95,8 @@ needing Read12 b = true
 needing PlayAudio b = true
 needing PauseResume b = true
 needing ReadSubChannel b = true
+needing ModeSense b = false
+needing ModeSelect b = false
 needing Unknown b = false
 
 abbrev pub needsDisc : Command → List ℕ → Bool
@@ -112,4 +117,6 @@ kindOf Read12 = Gates
 kindOf PlayAudio = Gates
 kindOf PauseResume = Gates
 kindOf ReadSubChannel = Gates
+kindOf ModeSense = Gates
+kindOf ModeSelect = Gates
 kindOf Unknown = Gates

@@ -49,6 +49,12 @@ const PAUSE_RESUME: u8 = 12;
 // READ SUB-CHANNEL
 const READ_SUB_CHANNEL: u8 = 13;
 
+// MODE SENSE(10)
+const MODE_SENSE: u8 = 14;
+
+// MODE SELECT(10)
+const MODE_SELECT: u8 = 15;
+
 // Row `code` holds the class of that operation code.
 const ROWS: [u8; 256] = [
     TEST_UNIT_READY, // 00h
@@ -136,12 +142,12 @@ const ROWS: [u8; 256] = [
     UNKNOWN, // 52h
     UNKNOWN, // 53h
     UNKNOWN, // 54h
-    UNKNOWN, // 55h
+    MODE_SELECT, // 55h
     UNKNOWN, // 56h
     UNKNOWN, // 57h
     UNKNOWN, // 58h
     UNKNOWN, // 59h
-    UNKNOWN, // 5Ah
+    MODE_SENSE, // 5Ah
     UNKNOWN, // 5Bh
     UNKNOWN, // 5Ch
     UNKNOWN, // 5Dh
@@ -341,6 +347,8 @@ pub(crate) fn command_of(class: u8) -> Command
         PLAY_AUDIO => Command::PlayAudio,
         PAUSE_RESUME => Command::PauseResume,
         READ_SUB_CHANNEL => Command::ReadSubChannel,
+        MODE_SENSE => Command::ModeSense,
+        MODE_SELECT => Command::ModeSelect,
         _ => Command::Unknown,
     }
 }

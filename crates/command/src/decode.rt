@@ -20,6 +20,8 @@ pub enum Command {
     PlayAudio,
     PauseResume,
     ReadSubChannel,
+    ModeSense,
+    ModeSelect,
     Unknown,
 }
 
@@ -57,6 +59,8 @@ pub fn kind_of(c: Command) -> Kind
         Command::PlayAudio => Kind::Gates,
         Command::PauseResume => Kind::Gates,
         Command::ReadSubChannel => Kind::Gates,
+        Command::ModeSense => Kind::Gates,
+        Command::ModeSelect => Kind::Gates,
         Command::Unknown => Kind::Gates,
     }
 }
@@ -89,6 +93,8 @@ pub fn needs_disc(c: Command, b: u8) -> bool
         Command::PlayAudio => true,
         Command::PauseResume => true,
         Command::ReadSubChannel => true,
+        Command::ModeSense => false,
+        Command::ModeSelect => false,
         Command::Unknown => false,
     }
 }

@@ -16,7 +16,7 @@ use Rattle.drive.specs.declared.sense.Sense.{Sense}
 use Rattle.drive.specs.Sense.{triple, senses, senseAt, sameSense, among, isKnown}
 
 -- past the end of the table stands 00/00/00
-pub senseAt-past : (i : ℕ) → 10 ≤ i → triple 0 0 0 ≡ senseAt i
+pub senseAt-past : (i : ℕ) → 13 ≤ i → triple 0 0 0 ≡ senseAt i
 unfolding senseAt
 senseAt-past i h = sym (List·getD-eq-default senses (triple 0 0 0) h)
 
@@ -35,17 +35,17 @@ unfolding sameSense
 sameSense-refl a = and-both _ _ (eq-eqb (a .key) _ refl) (and-both _ _ (eq-eqb (a .asc) _ refl) (eq-eqb (a .ascq) _ refl))
 
 -- the search: the row at i is the triple
-pub among-here : (i : ℕ) (s : Sense) → i < 10 → sameSense (senseAt i) s ≡ true → true ≡ among (drop i senses) s
+pub among-here : (i : ℕ) (s : Sense) → i < 13 → sameSense (senseAt i) s ≡ true → true ≡ among (drop i senses) s
 unfolding senseAt among _or_
 among-here i s h k = rw (drop-cons senses i (triple 0 0 0) h, k)
 
 -- the search: it is not, so what is left decides
-pub among-on : (i : ℕ) (s : Sense) → i < 10 → sameSense (senseAt i) s ≡ false → among (drop i senses) s ≡ among (drop (i + 1) senses) s
+pub among-on : (i : ℕ) (s : Sense) → i < 13 → sameSense (senseAt i) s ≡ false → among (drop i senses) s ≡ among (drop (i + 1) senses) s
 unfolding senseAt among _or_
 among-on i s h k = rw (drop-cons senses i (triple 0 0 0) h, k, add-one i)
 
 -- the search: nothing is left
-pub among-none : (i : ℕ) (s : Sense) → 10 ≤ i → false ≡ among (drop i senses) s
+pub among-none : (i : ℕ) (s : Sense) → 13 ≤ i → false ≡ among (drop i senses) s
 unfolding among
 among-none i s h = rw (drop-of-length-le senses {i = i} h)
 
@@ -59,7 +59,7 @@ among-at (r ∷ rows) (suc i) d h = or-right (sameSense r (getD rows i d)) _ (am
 -- each row of the table is known, and so is 00/00/00 past its end
 pub isKnown-at : (i : ℕ) → isKnown (senseAt i) ≡ true
 unfolding isKnown senseAt among _or_ sameSense _and_
-isKnown-at i = elim (decLe 10 i) [
+isKnown-at i = elim (decLe 13 i) [
   | yes h ↦ ap (among senses) (List·getD-eq-default senses (triple 0 0 0) h)
   | no h ↦ among-at senses i (triple 0 0 0) (lt-of-not-le h)
 ]

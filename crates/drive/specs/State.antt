@@ -7,8 +7,10 @@ use Rattle.drive.specs.declared.state.Drive.{Drive}
 use Rattle.drive.specs.declared.state.Shifted.{Shifted}
 use Rattle.drive.specs.declared.state.Moved.{Moved}
 use Rattle.play.specs.declared.Play.{Play}
+use Rattle.page.specs.declared.Page.{Page}
 use Rattle.drive.specs.Sense.{isKnown}
 use Rattle.play.specs.Play.{noPlay, isPlay, movedOn}
+use Rattle.page.specs.Page.{defaults, isSetting}
 use Rattle.drive.specs.Unit.{poweredOn, attend}
 
 -- the refusals of these calls
@@ -24,9 +26,10 @@ cannotLay = 6
 abbrev pub cannotLift : ℕ
 cannotLift = 7
 
--- "2: held sense is none of the ten"; K2: "2 also covers another status, a position past its end, or an end over 449,849": none of that
+-- "2: held sense is none of the ten"; K2: "2 also covers another status, a position past its end, or an end over 449,849"; K4: "refusal 2
+-- admits these triples, and covers a recovery byte outside the twenty": none of that
 unfoldable pub isKnownState : Drive → Bool
-isKnownState d = isKnown (d .unit .sense) and isPlay (d .deck .play)
+isKnownState d = isKnown (d .unit .sense) and isPlay (d .deck .play) and isSetting (d .deck .page .recovery)
 
 -- "Loaded means tray closed with a disc in."
 abbrev pub isLoaded : Deck → Bool
@@ -34,7 +37,8 @@ isLoaded m = not (m .«tray_open») and m .«disc_in»
 
 -- the tray opens, by button or packet: no loading; K2: "opening set 15h, position 0 and end 0", with no disc in too
 abbrev pub opening : Deck → Shifted
-opening m = record { deck = record { «tray_open» = true; «disc_in» = m .«disc_in»; lock = m .lock; play = noPlay }; loading = false }
+opening m =
+    record { deck = record { «tray_open» = true; «disc_in» = m .«disc_in»; lock = m .lock; play = noPlay; page = m .page }; loading = false }
 
 -- K2: "loading .. set 15h, position 0 and end 0": the record after a closing, which without a disc is no loading
 abbrev pub closedPlay : Deck → Play
@@ -43,16 +47,19 @@ closedPlay m = if m .«disc_in» then noPlay else m .play
 -- the tray closes, by button or packet: "Loading is any closing of the tray .. with a disc in"
 abbrev pub closing : Deck → Shifted
 closing m =
-    record { deck = record { «tray_open» = false; «disc_in» = m .«disc_in»; lock = m .lock; play = closedPlay m }; loading = m .«disc_in» }
+    record { deck = record { «tray_open» = false; «disc_in» = m .«disc_in»; lock = m .lock; play = closedPlay m; page = m .page }; loading = m .«disc_in» }
 
 abbrev pub withDisc : Deck → Bool → Deck
-withDisc m b = record { «tray_open» = m .«tray_open»; «disc_in» = b; lock = m .lock; play = m .play }
+withDisc m b = record { «tray_open» = m .«tray_open»; «disc_in» = b; lock = m .lock; play = m .play; page = m .page }
 
 abbrev pub withLock : Deck → Bool → Deck
-withLock m b = record { «tray_open» = m .«tray_open»; «disc_in» = m .«disc_in»; lock = b; play = m .play }
+withLock m b = record { «tray_open» = m .«tray_open»; «disc_in» = m .«disc_in»; lock = b; play = m .play; page = m .page }
 
 abbrev pub withPlay : Deck → Play → Deck
-withPlay m r = record { «tray_open» = m .«tray_open»; «disc_in» = m .«disc_in»; lock = m .lock; play = r }
+withPlay m r = record { «tray_open» = m .«tray_open»; «disc_in» = m .«disc_in»; lock = m .lock; play = r; page = m .page }
+
+abbrev pub withPage : Deck → Page → Deck
+withPage m g = record { «tray_open» = m .«tray_open»; «disc_in» = m .«disc_in»; lock = m .lock; play = m .play; page = g }
 
 -- the state after the tray moved: a loading is attended to
 abbrev pub shift : Drive → Shifted → Drive
@@ -70,9 +77,10 @@ holding d b = withDeck d (withDisc (d .deck) b)
 abbrev pub showing : Drive → Play → Drive
 showing d r = withDeck d (withPlay (d .deck) r)
 
--- "Power-on (also reset) keeps the handed state's tray and disc ..: lock off"; K2: "Power-on .. set 15h, position 0 and end 0"
+-- "Power-on (also reset) keeps the handed state's tray and disc ..: lock off"; K2: "Power-on .. set 15h, position 0 and end 0"; K4: "Power-on
+-- restores defaults."
 abbrev pub restarted : Deck → Deck
-restarted m = record { «tray_open» = m .«tray_open»; «disc_in» = m .«disc_in»; lock = false; play = noPlay }
+restarted m = record { «tray_open» = m .«tray_open»; «disc_in» = m .«disc_in»; lock = false; play = noPlay; page = defaults }
 
 -- ".. and is never refused"; in both forms of K3
 abbrev pub powerOnWith : Drive → Bool → Drive

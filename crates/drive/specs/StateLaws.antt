@@ -3,11 +3,13 @@ use mathlib.Core.Path.{_≡_, refl, _∙_}
 use mathlib.Core.Bool.{true, false}
 use Prim.Native.Nat.{ℕ}
 use Rattle.ground.specs.Tests.{_and_, and-head, and-tail, and-both, when, unless, either}
+use Rattle.drive.specs.declared.state.Deck.{Deck}
 use Rattle.drive.specs.declared.state.Drive.{Drive}
 use Rattle.drive.specs.declared.state.Moved.{Moved}
 use Rattle.drive.specs.Sense.{isKnown}
 use Rattle.play.specs.Play.{movedOn}
 use Rattle.play.specs.PlayLaws.{Known, isPlay-known, known-isPlay}
+use Rattle.page.specs.Page.{isSetting}
 use Rattle.drive.specs.State.{unknownState, locked, cannotLay, cannotLift, isKnownState, isLoaded, opening, closing, shift, holding, showing, powerOnWith, powerOn, powerOnWithoutChange, refuse, moves, button, lay, lift, moveOn}
 
 -- a call with a number other than 0 hands back the state as it came
@@ -16,17 +18,22 @@ Unmoved d r = (r .number ≡ 0 → ⊥) → r .state ≡ d
 
 -- ---- refusal 2
 
+-- what it asks of the deck
+pub record KnownDeck (m : Deck) : Type 0 where
+  pub play : Known (m .play)
+  pub page : isSetting (m .page .recovery) ≡ true
+
 pub isKnownState-sense : (d : Drive) → isKnownState d ≡ true → isKnown (d .unit .sense) ≡ true
 unfolding isKnownState
 isKnownState-sense d h = and-head _ _ h
 
-pub isKnownState-play : (d : Drive) → isKnownState d ≡ true → Known (d .deck .play)
+pub isKnownState-deck : (d : Drive) → isKnownState d ≡ true → KnownDeck (d .deck)
 unfolding isKnownState
-isKnownState-play d h = isPlay-known _ (and-tail _ _ h)
+isKnownState-deck d h = let t = and-tail _ _ h in record { play = isPlay-known _ (and-head _ _ t); page = and-tail _ _ t }
 
-pub known-isKnownState : (d : Drive) → isKnown (d .unit .sense) ≡ true → Known (d .deck .play) → isKnownState d ≡ true
+pub known-isKnownState : (d : Drive) → isKnown (d .unit .sense) ≡ true → KnownDeck (d .deck) → isKnownState d ≡ true
 unfolding isKnownState
-known-isKnownState d h k = and-both _ _ h (known-isPlay k)
+known-isKnownState d h k = and-both _ _ h (and-both _ _ (known-isPlay (k .play)) (k .page))
 
 -- ---- the two ways in which a call ends
 

@@ -1,4 +1,4 @@
-// The ten sense triples (key/ASC/ASCQ): a table, searched to accept a held sense and cited by every CHECK CONDITION.
+// The thirteen sense triples (key/ASC/ASCQ): a table, searched to accept a held sense and cited by every CHECK CONDITION.
 ghost use mathlib.Core.Path.{_≡_};
 ghost use Rattle.drive.specs.Sense.{senseAt, sameSense, isKnown};
 
@@ -29,7 +29,13 @@ pub const CHANGED: usize = 8;
 
 pub const POWERED: usize = 9;
 
-const ROWS: [Sense; 10] = [
+pub const LIST_LENGTH: usize = 10;
+
+pub const LIST_FIELD: usize = 11;
+
+pub const NO_SAVING: usize = 12;
+
+const ROWS: [Sense; 13] = [
     Sense {
         key: 0x00,
         asc: 0x00,
@@ -80,13 +86,28 @@ const ROWS: [Sense; 10] = [
         asc: 0x29,
         ascq: 0x00,
     },
+    Sense {
+        key: 0x05,
+        asc: 0x1A,
+        ascq: 0x00,
+    },
+    Sense {
+        key: 0x05,
+        asc: 0x26,
+        ascq: 0x00,
+    },
+    Sense {
+        key: 0x05,
+        asc: 0x39,
+        ascq: 0x00,
+    },
 ];
 
 // Row i of the table, and 00/00/00 past its end.
 pub fn sense_at(i: usize) -> Sense
     ensures { λ r. ⌜ r ≡ senseAt i ⌝ }
 {
-    if i < 10 {
+    if i < 13 {
         return ROWS[i];
     }
     ROWS[NO_SENSE]
@@ -105,12 +126,12 @@ pub fn same(a: Sense, b: Sense) -> bool
     false
 }
 
-// The held sense is one of the ten.
+// The held sense is one of the thirteen.
 pub fn is_known(s: Sense) -> bool
     ensures { λ r. ⌜ r ≡ isKnown s ⌝ }
 {
     let mut i = 0;
-    while i < 10 {
+    while i < 13 {
         if same(sense_at(i), s) {
             return true;
         }

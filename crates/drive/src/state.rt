@@ -3,11 +3,14 @@ use crate::sense::NO_SENSE;
 use crate::sense::Sense;
 use crate::sense::is_known;
 use crate::sense::sense_at;
+use page::Page;
+use page::defaults;
+use page::is_setting;
 use play::Play;
 use play::no_play;
 ghost use mathlib.Core.Path.{_≡_};
 ghost use Rattle.drive.specs.Unit.{poweredOn, attend};
-ghost use Rattle.drive.specs.State.{isKnownState, opening, closedPlay, closing, restarted, withDisc, withLock, withPlay, withDeck, isLoaded, shift, powerOnWith, powerOn, powerOnWithoutChange, moves, refuse, button, lay, lift, moveOn};
+ghost use Rattle.drive.specs.State.{isKnownState, opening, closedPlay, closing, restarted, withDisc, withLock, withPlay, withPage, withDeck, isLoaded, shift, powerOnWith, powerOn, powerOnWithoutChange, moves, refuse, button, lay, lift, moveOn};
 
 // What is pending and what is held: this is the same for every device that stands behind the gate.
 pub struct Unit {
@@ -16,12 +19,13 @@ pub struct Unit {
     pub sense: Sense,
 }
 
-// Tray open or closed; disc in or not; lock; the play record.
+// Tray open or closed; disc in or not; lock; the play record; the mode page.
 pub struct Deck {
     pub tray_open: bool,
     pub disc_in: bool,
     pub lock: bool,
     pub play: Play,
+    pub page: Page,
 }
 
 pub struct Drive {
@@ -93,12 +97,14 @@ impl Deck {
     pub fn opening(self) -> Shifted
         ensures { λ r. ⌜ r ≡ opening self ⌝ }
     {
+        let page = self.page;
         Shifted {
             deck: Deck {
                 tray_open: true,
                 disc_in: self.disc_in,
                 lock: self.lock,
                 play: no_play(),
+                page,
             },
             loading: false,
         }
@@ -118,27 +124,31 @@ impl Deck {
     pub fn closing(self) -> Shifted
         ensures { λ r. ⌜ r ≡ closing self ⌝ }
     {
+        let page = self.page;
         Shifted {
             deck: Deck {
                 tray_open: false,
                 disc_in: self.disc_in,
                 lock: self.lock,
                 play: self.closed_play(),
+                page,
             },
             loading: self.disc_in,
         }
     }
 
-    // What power-on leaves: tray and disc kept, lock off, nothing played.
+    // What power-on leaves: tray and disc kept, lock off, nothing played, the page's default values.
     fn restarted(self) -> Deck
         ensures { λ r. ⌜ r ≡ restarted self ⌝ }
     {
         let play = no_play();
+        let page = defaults();
         Deck {
             tray_open: self.tray_open,
             disc_in: self.disc_in,
             lock: false,
             play,
+            page,
         }
     }
 
@@ -146,11 +156,13 @@ impl Deck {
         ensures { λ r. ⌜ r ≡ withDisc self disc_in ⌝ }
     {
         let play = self.play;
+        let page = self.page;
         Deck {
             tray_open: self.tray_open,
             disc_in,
             lock: self.lock,
             play,
+            page,
         }
     }
 
@@ -158,34 +170,54 @@ impl Deck {
         ensures { λ r. ⌜ r ≡ withLock self lock ⌝ }
     {
         let play = self.play;
+        let page = self.page;
         Deck {
             tray_open: self.tray_open,
             disc_in: self.disc_in,
             lock,
             play,
+            page,
         }
     }
 
     pub fn with_play(self, play: Play) -> Deck
         ensures { λ r. ⌜ r ≡ withPlay self play ⌝ }
     {
+        let page = self.page;
         Deck {
             tray_open: self.tray_open,
             disc_in: self.disc_in,
             lock: self.lock,
             play,
+            page,
+        }
+    }
+
+    pub fn with_page(self, page: Page) -> Deck
+        ensures { λ r. ⌜ r ≡ withPage self page ⌝ }
+    {
+        let play = self.play;
+        Deck {
+            tray_open: self.tray_open,
+            disc_in: self.disc_in,
+            lock: self.lock,
+            play,
+            page,
         }
     }
 }
 
 impl Drive {
-    // Refusal 2 does not meet the state: the sense is one of the ten, the play status one of the four, the position not past the end, the end
-    // not over the last address.
+    // Refusal 2 does not meet the state: the sense is one of the thirteen, the play status one of the four, the position not past the end, the
+    // end not over the last address, the recovery byte one of the twenty.
     pub fn is_known_state(self) -> bool
         ensures { λ r. ⌜ r ≡ isKnownState self ⌝ }
     {
         if is_known(self.unit.sense) {
-            return self.deck.play.is_play();
+            if self.deck.play.is_play() {
+                return is_setting(self.deck.page.recovery);
+            }
+            return false;
         }
         false
     }
@@ -215,8 +247,8 @@ impl Drive {
         self.power_on_with(false)
     }
 
-    // What both forms do: tray and disc kept, lock off, nothing played, sense 00/00/00, power attention pending; they differ in `change`
-    // alone.
+    // What both forms do: tray and disc kept, lock off, nothing played, the page's default values, sense 00/00/00, power attention pending;
+    // they differ in `change` alone.
     fn power_on_with(self, change: bool) -> Drive
         ensures { λ r. ⌜ r ≡ powerOnWith self change ⌝ }
     {

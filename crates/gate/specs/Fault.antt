@@ -1,8 +1,8 @@
--- The triples with which a command fails: the seven of the ten that are neither 00/00/00 nor an attention's.
+-- The triples with which a command fails: the ten of the thirteen that are neither 00/00/00 nor an attention's.
 use Rattle.drive.specs.declared.sense.Sense.{Sense}
-use Rattle.drive.specs.Sense.{noMediumClosed, noMediumOpen, unknownCode, outOfRange, badField, removalPrevented, illegalMode}
+use Rattle.drive.specs.Sense.{noMediumClosed, noMediumOpen, unknownCode, outOfRange, badField, removalPrevented, illegalMode, listLength, listField, noSaving}
 use Rattle.gate.specs.declared.fault.Fault.{Fault}
-use Rattle.gate.specs.declared.fault.Fault.the-variants.{NoMediumClosed, NoMediumOpen, UnknownCode, OutOfRange, BadField, RemovalPrevented, IllegalMode}
+use Rattle.gate.specs.declared.fault.Fault.the-variants.{NoMediumClosed, NoMediumOpen, UnknownCode, OutOfRange, BadField, RemovalPrevented, IllegalMode, ListLength, ListField, NoSaving}
 
 -- the row of the table of triples that a fault cites
 abbrev pub senseOf : Fault → Sense
@@ -13,3 +13,6 @@ senseOf OutOfRange = outOfRange
 senseOf BadField = badField
 senseOf RemovalPrevented = removalPrevented
 senseOf IllegalMode = illegalMode
+senseOf ListLength = listLength
+senseOf ListField = listField
+senseOf NoSaving = noSaving

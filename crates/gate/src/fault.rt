@@ -1,8 +1,11 @@
-// The triples with which a command fails: the seven of the table that are neither an attention nor 00/00/00.
+// The triples with which a command fails: the ten of the table that are neither an attention nor 00/00/00.
 use drive::sense::BAD_FIELD;
 use drive::sense::ILLEGAL_MODE;
+use drive::sense::LIST_FIELD;
+use drive::sense::LIST_LENGTH;
 use drive::sense::NO_MEDIUM_CLOSED;
 use drive::sense::NO_MEDIUM_OPEN;
+use drive::sense::NO_SAVING;
 use drive::sense::OUT_OF_RANGE;
 use drive::sense::REMOVAL_PREVENTED;
 use drive::sense::Sense;
@@ -19,6 +22,9 @@ pub enum Fault {
     BadField,
     RemovalPrevented,
     IllegalMode,
+    ListLength,
+    ListField,
+    NoSaving,
 }
 
 // The row of the table that the fault cites.
@@ -33,5 +39,8 @@ pub fn sense_of(f: Fault) -> Sense
         Fault::BadField => sense_at(BAD_FIELD),
         Fault::RemovalPrevented => sense_at(REMOVAL_PREVENTED),
         Fault::IllegalMode => sense_at(ILLEGAL_MODE),
+        Fault::ListLength => sense_at(LIST_LENGTH),
+        Fault::ListField => sense_at(LIST_FIELD),
+        Fault::NoSaving => sense_at(NO_SAVING),
     }
 }

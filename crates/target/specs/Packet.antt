@@ -27,13 +27,13 @@ abbrev pub shortMemory : ℕ
 shortMemory = 3
 
 -- steps 1 and 2, by how the command meets a pending attention
-abbrev pub stepsBy : Kind → Command → Unit → Deck → List ℕ → List ℕ → Reply Deck
-stepsBy Asks c u m p t = requestSense (byte p 4) u m
-stepsBy Passes c u m p t = pass u m (perform c p m t)
-stepsBy Gates c u m p t = gate u m (perform c p m t)
+abbrev pub stepsBy : Kind → Command → Unit → Deck → List ℕ → List ℕ → List ℕ → Reply Deck
+stepsBy Asks c u m p t l = requestSense (byte p 4) u m
+stepsBy Passes c u m p t l = pass u m (perform c p m t l)
+stepsBy Gates c u m p t l = gate u m (perform c p m t l)
 
-abbrev pub steps : Command → Unit → Deck → List ℕ → List ℕ → Reply Deck
-steps c u m p t = stepsBy (kindOf c) c u m p t
+abbrev pub steps : Command → Unit → Deck → List ℕ → List ℕ → List ℕ → Reply Deck
+steps c u m p t l = stepsBy (kindOf c) c u m p t l
 
 -- "Packets test 1, 2, 3, 4, then the steps below": n is the length of the response memory. "When not loaded, the table isn't looked at."
 unfoldable pub refusalOf : Drive → List ℕ → List ℕ → ℕ → ℕ
@@ -43,8 +43,9 @@ refusalOf d p t n =
     else (if ltb n bound then shortMemory
     else (if isLoaded (d .deck) and not (isFit t) then unfit else 0)))
 
--- K6: "Refusal 4 carries that number"; K9: no number is tested after the steps (claims' Whole: no full answer passes the bound)
-unfoldable pub answer : Drive → List ℕ → List ℕ → ℕ → Reply Deck
-answer d p t n =
-    if eqb (refusalOf d p t n) 0 then steps (decode (codeOf p)) (d .unit) (d .deck) p t
+-- the answer to the packet p with the table t, K4's parameter list l and a response memory of n bytes; K6: "Refusal 4 carries that number";
+-- K9: no number is tested after the steps (claims' Whole: no full answer passes the bound)
+unfoldable pub answer : Drive → List ℕ → List ℕ → List ℕ → ℕ → Reply Deck
+answer d p t l n =
+    if eqb (refusalOf d p t n) 0 then steps (decode (codeOf p)) (d .unit) (d .deck) p t l
     else refuse (refusalOf d p t n) (ruleWith (refusalOf d p t n) t) (d .unit) (d .deck)

@@ -35,8 +35,8 @@ abbrev pub unread : Disc
 unread = record { first = 0; last = 0; sessions = 0; «lead_out» = 0; «lead_flags» = 0; «last_first» = 0; «last_first_flags» = 0; «last_first_start» = 0 }
 
 -- the steps for the drive's packet
-abbrev pub stepsOf : Drive → List ℕ → List ℕ → Reply Deck
-stepsOf d p t = steps (decode (codeOf p)) (d .unit) (d .deck) p t
+abbrev pub stepsOf : Drive → List ℕ → List ℕ → List ℕ → Reply Deck
+stepsOf d p t l = steps (decode (codeOf p)) (d .unit) (d .deck) p t l
 
 -- what is finished is what is settled, or passed
 pub finished-settle : (u : Unit) (m : Deck) (r : Result Deck) → finished u (clear u) m (doneOf r) ≡ outcomeOf (settle u m r)
@@ -90,38 +90,38 @@ answered-good full u k {limit} {n} h l =
 
 -- ---- the refusals in order
 
-module _ (d : Drive) (p t : List ℕ) (n : ℕ) where
+module _ (d : Drive) (p t l : List ℕ) (n : ℕ) where
   -- by k with the rule r beside it, and with none
   refused-by :
-      (k : ℕ) {r : ℕ} → refusalOf d p t n ≡ k → (k ≡ 0 → ⊥) → r ≡ ruleWith k t → answer d p t n ≡ refuse k r (d .unit) (d .deck)
+      (k : ℕ) {r : ℕ} → refusalOf d p t n ≡ k → (k ≡ 0 → ⊥) → r ≡ ruleWith k t → answer d p t l n ≡ refuse k r (d .unit) (d .deck)
   unfolding answer
   refused-by k e z h =
       unless _ _ _ (ne-eqb _ 0 (λ w. z (sym e ∙ w)))
       ∙ ap (λ (x : ℕ). refuse x (ruleWith x t) (d .unit) (d .deck)) e
       ∙ ap (λ (x : ℕ). refuse k x (d .unit) (d .deck)) (sym h)
 
-  refused-plainly : (k : ℕ) → refusalOf d p t n ≡ k → (k ≡ 0 → ⊥) → (k ≡ unfit → ⊥) → answer d p t n ≡ refuse k 0 (d .unit) (d .deck)
+  refused-plainly : (k : ℕ) → refusalOf d p t n ≡ k → (k ≡ 0 → ⊥) → (k ≡ unfit → ⊥) → answer d p t l n ≡ refuse k 0 (d .unit) (d .deck)
   refused-plainly k e z w = refused-by k e z (ruleWith-none k t w)
 
-  pub answer-1 : (length p ≡ 12 → ⊥) → answer d p t n ≡ refuse notTwelve 0 (d .unit) (d .deck)
+  pub answer-1 : (length p ≡ 12 → ⊥) → answer d p t l n ≡ refuse notTwelve 0 (d .unit) (d .deck)
   unfolding refusalOf
   answer-1 h = refused-plainly notTwelve (when _ _ _ (ap not (ne-eqb _ _ h))) (λ z. omega arith) (λ z. omega arith)
 
   module _ (a : length p ≡ 12) where
-    pub answer-2 : isKnownState d ≡ false → answer d p t n ≡ refuse unknownState 0 (d .unit) (d .deck)
+    pub answer-2 : isKnownState d ≡ false → answer d p t l n ≡ refuse unknownState 0 (d .unit) (d .deck)
     unfolding refusalOf
     answer-2 h =
         refused-plainly unknownState (unless _ _ _ (ap not (eq-eqb _ _ a)) ∙ when _ _ _ (ap not h)) (λ z. omega arith) (λ z. omega arith)
 
     module _ (b : isKnownState d ≡ true) where
-      pub answer-3 : n < bound → answer d p t n ≡ refuse shortMemory 0 (d .unit) (d .deck)
+      pub answer-3 : n < bound → answer d p t l n ≡ refuse shortMemory 0 (d .unit) (d .deck)
       unfolding refusalOf
       answer-3 h =
           refused-plainly shortMemory (unless _ _ _ (ap not (eq-eqb _ _ a)) ∙ unless _ _ _ (ap not b) ∙ when _ _ _ (lt-ltb _ _ h))
           (λ z. omega arith) (λ z. omega arith)
 
       module _ (c : bound ≤ n) where
-        pub answer-4 : isLoaded (d .deck) ≡ true → isFit t ≡ false → answer d p t n ≡ refuse unfit (fault t) (d .unit) (d .deck)
+        pub answer-4 : isLoaded (d .deck) ≡ true → isFit t ≡ false → answer d p t l n ≡ refuse unfit (fault t) (d .unit) (d .deck)
         unfolding refusalOf
         answer-4 h k =
             refused-by unfit
@@ -129,13 +129,13 @@ module _ (d : Drive) (p t : List ℕ) (n : ℕ) where
             (λ z. omega arith) (ruleWith-fault t)
 
         -- none of them: the steps
-        pub answer-steps : (isLoaded (d .deck) ≡ true → isFit t ≡ true) → answer d p t n ≡ stepsOf d p t
+        pub answer-steps : (isLoaded (d .deck) ≡ true → isFit t ≡ true) → answer d p t l n ≡ stepsOf d p t l
         unfolding answer refusalOf
         answer-steps f =
             when _ _ _ (eq-eqb _ _
             (unless _ _ _ (ap not (eq-eqb _ _ a)) ∙ unless _ _ _ (ap not b) ∙ unless _ _ _ (le-ltb _ _ c) ∙ unless _ _ _ (fits (isLoaded (d .deck)) refl)))
           where
-            fits : (l : Bool) → isLoaded (d .deck) ≡ l → isLoaded (d .deck) and not (isFit t) ≡ false
+            fits : (b : Bool) → isLoaded (d .deck) ≡ b → isLoaded (d .deck) and not (isFit t) ≡ false
             fits true e = sym (and-late _ _ (sym (ap not (f e))))
             fits false e = sym (and-off _ _ e)
 

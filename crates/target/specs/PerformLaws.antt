@@ -24,6 +24,7 @@ use Rattle.command.specs.Done.{doneOf, answering, answering-fails, answering-go
 use Rattle.blocks.specs.Range.{ranged}
 use Rattle.blocks.specs.Blocks.{seek}
 use Rattle.audio.specs.Audio.{pauseResume}
+use Rattle.mode.specs.ModeSelect.{selected, modeSelect}
 use Rattle.target.specs.FitFacts.{ReadOff}
 use Rattle.target.specs.Perform.{written, Performed, L, work, perform}
 
@@ -109,16 +110,21 @@ pub pauseResume-quiet : (resume : Bool) (m : Deck) → Quiet (pauseResume resume
 unfolding pauseResume
 pauseResume-quiet resume m = either Quiet _ (λ h. refl) (λ h. refl)
 
+pub modeSelect-quiet : (n : ℕ) (l : List ℕ) (m : Deck) → Quiet (modeSelect n l m)
+unfolding modeSelect selected
+modeSelect-quiet n l m =
+    either Quiet _ (λ h. either Quiet _ (λ k. refl) (λ k. either Quiet _ (λ s. refl) (λ s. refl))) (λ h. refl)
+
 -- ---- steps 3 and 4
 
-pub perform-empty : (c : Command) (p : List ℕ) (m : Deck) (t : List ℕ) → needsDisc c p ≡ true → isLoaded m ≡ false → perform c p m t ≡ fails (noMedium m)
+pub perform-empty : (c : Command) (p : List ℕ) (m : Deck) (t l : List ℕ) → needsDisc c p ≡ true → isLoaded m ≡ false → perform c p m t l ≡ fails (noMedium m)
 unfolding perform
-perform-empty c p m t h k = when _ _ _ (and-both _ _ h (ap not k))
+perform-empty c p m t l h k = when _ _ _ (and-both _ _ h (ap not k))
 
-pub perform-loaded : (c : Command) (p : List ℕ) (m : Deck) (t : List ℕ) → isLoaded m ≡ true → perform c p m t ≡ work c p m t
+pub perform-loaded : (c : Command) (p : List ℕ) (m : Deck) (t l : List ℕ) → isLoaded m ≡ true → perform c p m t l ≡ work c p m t l
 unfolding perform
-perform-loaded c p m t k = unless _ _ _ (sym (and-late _ _ (sym (ap not k))))
+perform-loaded c p m t l k = unless _ _ _ (sym (and-late _ _ (sym (ap not k))))
 
-pub perform-free : (c : Command) (p : List ℕ) (m : Deck) (t : List ℕ) → needsDisc c p ≡ false → perform c p m t ≡ work c p m t
+pub perform-free : (c : Command) (p : List ℕ) (m : Deck) (t l : List ℕ) → needsDisc c p ≡ false → perform c p m t l ≡ work c p m t l
 unfolding perform
-perform-free c p m t h = unless _ _ _ (sym (and-off _ _ h))
+perform-free c p m t l h = unless _ _ _ (sym (and-off _ _ h))

@@ -1,4 +1,5 @@
-// The target: packets met by the drive, its lent table and its response memory.
+// The target: packets met by the drive, its lent table, its parameter list and its response memory.
+mod mode_sense;
 pub mod packet;
 mod perform;
 mod read_sub_channel;

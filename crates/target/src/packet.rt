@@ -1,4 +1,4 @@
-// One packet met by the drive, its lent table and its response memory.
+// One packet met by the drive, its lent table, its parameter list and its response memory.
 use crate::perform::perform;
 use command::decode::Command;
 use command::decode::Kind;
@@ -55,20 +55,36 @@ fn ask_sense(d: Drive, limit: usize, mem: &mut [u8]) -> Outcome
 }
 
 // Step 1: performed even with an attention pending; GOOD leaves the sense.
-fn passed(d: Drive, c: Command, p: &[u8], t: &[u8], disc: Disc, mem: &mut [u8]) -> Outcome
+fn passed(
+    d: Drive,
+    c: Command,
+    p: &[u8],
+    t: &[u8],
+    list: &[u8],
+    disc: Disc,
+    mem: &mut [u8],
+) -> Outcome
     requires { ⌜ Ready (d .deck) (now p) (now t) disc (now mem) ⌝ }
-    ensures { λ r. ⌜ Answered (pass (d .unit) (d .deck) (perform c (now (p .entry)) (d .deck) (now (t .entry)))) (now (mem .entry)) r (now (mem .exit)) ⌝ }
+    ensures { λ r. ⌜ Answered (pass (d .unit) (d .deck) (perform c (now (p .entry)) (d .deck) (now (t .entry)) (now (list .entry)))) (now (mem .entry)) r (now (mem .exit)) ⌝ }
 {
     let unit = d.unit;
     let deck = d.deck;
-    let done = perform(c, p, deck, t, disc, mem);
+    let done = perform(c, p, deck, t, list, disc, mem);
     finish(unit, unit, deck, done)
 }
 
 // Step 2: a pending attention is told, power first; with none the command is performed.
-fn gated(d: Drive, c: Command, p: &[u8], t: &[u8], disc: Disc, mem: &mut [u8]) -> Outcome
+fn gated(
+    d: Drive,
+    c: Command,
+    p: &[u8],
+    t: &[u8],
+    list: &[u8],
+    disc: Disc,
+    mem: &mut [u8],
+) -> Outcome
     requires { ⌜ Ready (d .deck) (now p) (now t) disc (now mem) ⌝ }
-    ensures { λ r. ⌜ Answered (gate (d .unit) (d .deck) (perform c (now (p .entry)) (d .deck) (now (t .entry)))) (now (mem .entry)) r (now (mem .exit)) ⌝ }
+    ensures { λ r. ⌜ Answered (gate (d .unit) (d .deck) (perform c (now (p .entry)) (d .deck) (now (t .entry)) (now (list .entry)))) (now (mem .entry)) r (now (mem .exit)) ⌝ }
 {
     let unit = d.unit;
     let deck = d.deck;
@@ -77,22 +93,22 @@ fn gated(d: Drive, c: Command, p: &[u8], t: &[u8], disc: Disc, mem: &mut [u8]) -
         Pending::Power => tell(a, unit, deck),
         Pending::Change => tell(a, unit, deck),
         Pending::Nothing => {
-            let done = perform(c, p, deck, t, disc, mem);
+            let done = perform(c, p, deck, t, list, disc, mem);
             finish(unit, clear(unit), deck, done)
         }
     }
 }
 
 // The steps, by how the command meets a pending attention.
-fn steps(d: Drive, p: &[u8], t: &[u8], disc: Disc, mem: &mut [u8]) -> Outcome
+fn steps(d: Drive, p: &[u8], t: &[u8], list: &[u8], disc: Disc, mem: &mut [u8]) -> Outcome
     requires { ⌜ Ready (d .deck) (now p) (now t) disc (now mem) ⌝ }
-    ensures { λ r. ⌜ Answered (stepsOf d (now (p .entry)) (now (t .entry))) (now (mem .entry)) r (now (mem .exit)) ⌝ }
+    ensures { λ r. ⌜ Answered (stepsOf d (now (p .entry)) (now (t .entry)) (now (list .entry))) (now (mem .entry)) r (now (mem .exit)) ⌝ }
 {
     let c = decode(p[0]);
     match kind_of(c) {
         Kind::Asks => ask_sense(d, wide(p[4]), mem),
-        Kind::Passes => passed(d, c, p, t, disc, mem),
-        Kind::Gates => gated(d, c, p, t, disc, mem),
+        Kind::Passes => passed(d, c, p, t, list, disc, mem),
+        Kind::Gates => gated(d, c, p, t, list, disc, mem),
     }
 }
 
@@ -113,29 +129,29 @@ fn unread() -> Disc
 }
 
 // Refusal 4, with the broken rule: a loaded drive's table is read first.
-fn meet(d: Drive, p: &[u8], t: &[u8], mem: &mut [u8]) -> Outcome
+fn meet(d: Drive, p: &[u8], t: &[u8], list: &[u8], mem: &mut [u8]) -> Outcome
     requires { ⌜ (length (now p) ≡ 12) × (isKnownState d ≡ true) × (bound ≤ length (now mem)) ⌝ }
-    ensures { λ r. ⌜ Answered (answer d (now (p .entry)) (now (t .entry)) (length (now (mem .entry)))) (now (mem .entry)) r (now (mem .exit)) ⌝ }
+    ensures { λ r. ⌜ Answered (answer d (now (p .entry)) (now (t .entry)) (now (list .entry)) (length (now (mem .entry)))) (now (mem .entry)) r (now (mem .exit)) ⌝ }
 {
     if d.deck.is_loaded() {
         return match read(t) {
-            Reading::Fit(disc) => steps(d, p, t, disc, mem),
+            Reading::Fit(disc) => steps(d, p, t, list, disc, mem),
             Reading::Unfit(rule) => refuse(UNFIT, rule, d),
         };
     }
-    steps(d, p, t, unread(), mem)
+    steps(d, p, t, list, unread(), mem)
 }
 
-// A packet met by the drive: the refusals 1, 2, 3, 4 in order, then the steps.
-pub fn packet(d: Drive, p: &[u8], t: &[u8], mem: &mut [u8]) -> Outcome
-    ensures { λ r. ⌜ Answered (answer d (now (p .entry)) (now (t .entry)) (length (now (mem .entry)))) (now (mem .entry)) r (now (mem .exit)) ⌝ }
+// A packet met by the drive, with a disc table, a parameter list and a response memory: the refusals 1, 2, 3, 4 in order, then the steps.
+pub fn packet(d: Drive, p: &[u8], t: &[u8], list: &[u8], mem: &mut [u8]) -> Outcome
+    ensures { λ r. ⌜ Answered (answer d (now (p .entry)) (now (t .entry)) (now (list .entry)) (length (now (mem .entry)))) (now (mem .entry)) r (now (mem .exit)) ⌝ }
 {
     if p.len() == 12 {
         if d.is_known_state() {
             if mem.len() < BOUND {
                 return refuse(SHORT_MEMORY, 0, d);
             }
-            return meet(d, p, t, mem);
+            return meet(d, p, t, list, mem);
         }
         return refuse(UNKNOWN_STATE, 0, d);
     }

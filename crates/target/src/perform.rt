@@ -1,4 +1,5 @@
 // Steps 3 to 5: what each command does that is performed.
+use crate::mode_sense::mode_sense;
 use crate::read_sub_channel::read_sub_channel;
 use crate::read_toc::read_toc;
 use audio::audio::pause_resume;
@@ -24,6 +25,7 @@ use ground::memory::put_cut;
 use ground::number::wide;
 use ground::number::word16;
 use ground::number::word32;
+use mode::mode_select::mode_select;
 use tracks::run::run_is;
 use tracks::track::Mode;
 ghost use mathlib.Core.Path.{_≡_};
@@ -93,9 +95,9 @@ fn play_run(a: usize, n: usize, m: Deck, t: &[u8], disc: Disc) -> Done
 }
 
 // Step 5: each command's own work. (REQUEST SENSE never comes here: `steps` answers it by `ask_sense`.)
-fn work(c: Command, p: &[u8], m: Deck, t: &[u8], disc: Disc, mem: &mut [u8]) -> Done
+fn work(c: Command, p: &[u8], m: Deck, t: &[u8], list: &[u8], disc: Disc, mem: &mut [u8]) -> Done
     requires { ⌜ Met c (now p) (now t) disc (now mem) ⌝ }
-    ensures { λ r. ⌜ Performed (work c (now (p .entry)) m (now (t .entry))) (now (mem .entry)) r (now (mem .exit)) ⌝ }
+    ensures { λ r. ⌜ Performed (work c (now (p .entry)) m (now (t .entry)) (now (list .entry))) (now (mem .entry)) r (now (mem .exit)) ⌝ }
 {
     match c {
         Command::TestUnitReady => done_with(m),
@@ -111,20 +113,30 @@ fn work(c: Command, p: &[u8], m: Deck, t: &[u8], disc: Disc, mem: &mut [u8]) -> 
         Command::PlayAudio => play_run(word_at(p, 2), word16(p[7], p[8]), m, t, disc),
         Command::PauseResume => pause_resume(bit0(p[8]), m),
         Command::ReadSubChannel => read_sub_channel(p, m, t, mem),
+        Command::ModeSense => mode_sense(p, m, mem),
+        Command::ModeSelect => mode_select(word16(p[7], p[8]), list, m),
         Command::Unknown => Done::Fails(Fault::UnknownCode),
     }
 }
 
 // Steps 3 to 5: an unknown code, then a disc that is needed, then the work.
-pub(crate) fn perform(c: Command, p: &[u8], m: Deck, t: &[u8], disc: Disc, mem: &mut [u8]) -> Done
+pub(crate) fn perform(
+    c: Command,
+    p: &[u8],
+    m: Deck,
+    t: &[u8],
+    list: &[u8],
+    disc: Disc,
+    mem: &mut [u8],
+) -> Done
     requires { ⌜ Ready m (now p) (now t) disc (now mem) ⌝ }
-    ensures { λ r. ⌜ Performed (perform c (now (p .entry)) m (now (t .entry))) (now (mem .entry)) r (now (mem .exit)) ⌝ }
+    ensures { λ r. ⌜ Performed (perform c (now (p .entry)) m (now (t .entry)) (now (list .entry))) (now (mem .entry)) r (now (mem .exit)) ⌝ }
 {
     if needs_disc(c, p[4]) {
         if m.is_loaded() {
-            return work(c, p, m, t, disc, mem);
+            return work(c, p, m, t, list, disc, mem);
         }
         return Done::Fails(no_medium(m));
     }
-    work(c, p, m, t, disc, mem)
+    work(c, p, m, t, list, disc, mem)
 }

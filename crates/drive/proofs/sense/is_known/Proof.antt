@@ -11,10 +11,10 @@ use Rattle.drive.proofs.sense.is_known.Statement.{statement}
 use Rattle.drive.proofs.sense.is_known.Tie as tie
 
 abbrev Inv-loop : tie.InvT-loop
-Inv-loop s i₀ i = (i ≤ 10) × (among (drop i senses) s ≡ isKnown s)
+Inv-loop s i₀ i = (i ≤ 13) × (among (drop i senses) s ≡ isKnown s)
 
 abbrev μ-loop : tie.MeasureT-loop
-μ-loop s i₀ i = 10 - i
+μ-loop s i₀ i = 13 - i
 
 loop-holds : tie.Need-loop-holds Inv-loop μ-loop
 unfolding isKnown

@@ -26,9 +26,16 @@ returns-6 c = c .sense-at6 .ensures ∙ sym (ap senseOf (c .before .enum-told6 .
 returns-7 : tie.Need-returns-7
 returns-7 c = c .sense-at7 .ensures ∙ sym (ap senseOf (c .before .enum-told7 .given .1))
 
+returns-8 : tie.Need-returns-8
+returns-8 c = c .sense-at8 .ensures ∙ sym (ap senseOf (c .before .enum-told8 .given .1))
+
+returns-9 : tie.Need-returns-9
+returns-9 c = c .sense-at9 .ensures ∙ sym (ap senseOf (c .before .enum-told9 .given .1))
+
+returns-10 : tie.Need-returns-10
+returns-10 c = c .sense-at10 .ensures ∙ sym (ap senseOf (c .before .enum-told10 .given .1))
+
 pub sense-of-spec : {M : Type 1} → statement M
 sense-of-spec =
     tie.close
-    (tie.spec (λ c. search needs) (λ c κs. search needs) (λ c. search needs) (λ c κs. search needs) (λ c. search needs)
-    (λ c κs. search needs) (λ c. search needs) (λ c κs. search needs) (λ c. search needs) (λ c κs. search needs) (λ c. search needs)
-    (λ c κs. search needs) (λ c. search needs) (λ c κs. search needs) returns returns-2 returns-3 returns-4 returns-5 returns-6 returns-7)
+    (tie.spec (λ c. search needs) (λ c κs. search needs) (λ c. search needs) (λ c κs. search needs) (λ c. search needs) (λ c κs. search needs) (λ c. search needs) (λ c κs. search needs) (λ c. search needs) (λ c κs. search needs) (λ c. search needs) (λ c κs. search needs) (λ c. search needs) (λ c κs. search needs) (λ c. search needs) (λ c κs. search needs) (λ c. search needs) (λ c κs. search needs) (λ c. search needs) (λ c κs. search needs) returns returns-2 returns-3 returns-4 returns-5 returns-6 returns-7 returns-8 returns-9 returns-10)

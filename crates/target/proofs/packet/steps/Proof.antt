@@ -6,19 +6,19 @@ use Rattle.target.proofs.packet.steps.Statement.{statement}
 use Rattle.target.proofs.packet.steps.Tie as tie
 
 returns : tie.Need-returns
-returns c = let x = c .before .before .before .before .before .before .before .before .before .before .before .before .before .before .args in
+returns c =
     let e = sym (c .before .before .before .before .before .before .before .before .kind-of .ensures ∙ ap kindOf (c .before .before .before .before .before .before .before .before .before .decode .ensures)) ∙ c .before .before .before .before .before .before .enum-told .given .1 in
-    rw (e) (rw (c .before .before .before .before .wide .ensures .same) at (c .before .before .ask-sense .ensures))
+    rw e (rw (c .before .before .before .before .wide .ensures .same) at (c .before .before .ask-sense .ensures))
 
 returns-2 : tie.Need-returns-2
-returns-2 c = let x = c .before .before .before .before .before .before .before .before .before .before .before .before .args in
+returns-2 c =
     let e = sym (c .before .before .before .before .before .before .kind-of .ensures ∙ ap kindOf (c .before .before .before .before .before .before .before .decode .ensures)) ∙ c .before .before .before .before .enum-told2 .given .1 in
-    rw (e) (rw (c .before .before .before .before .before .before .before .decode .ensures) at (c .before .before .passed .ensures))
+    rw e (rw (c .before .before .before .before .before .before .before .decode .ensures) at (c .before .before .passed .ensures))
 
 returns-3 : tie.Need-returns-3
-returns-3 c = let x = c .before .before .before .before .before .before .before .before .before .before .before .before .args in
+returns-3 c =
     let e = sym (c .before .before .before .before .before .before .kind-of .ensures ∙ ap kindOf (c .before .before .before .before .before .before .before .decode .ensures)) ∙ c .before .before .before .before .enum-told3 .given .1 in
-    rw (e) (rw (c .before .before .before .before .before .before .before .decode .ensures) at (c .before .before .gated .ensures))
+    rw e (rw (c .before .before .before .before .before .before .before .decode .ensures) at (c .before .before .gated .ensures))
 
 pub steps-spec : {M : Type 1} → statement M
 steps-spec =

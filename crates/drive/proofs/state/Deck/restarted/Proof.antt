@@ -1,10 +1,10 @@
--- `drive::state::Deck::restarted` meets its contract: nothing is played.
+-- `drive::state::Deck::restarted` meets its contract: nothing is played, and the page has its default values.
 use borrow.Author.Needs.{needs}
 use Rattle.drive.proofs.state.Deck.restarted.Statement.{statement}
 use Rattle.drive.proofs.state.Deck.restarted.Tie as tie
 
 returns : tie.Need-returns
-returns c = rw (c .no-play .ensures)
+returns c = rw (c .before .no-play .ensures, c .defaults .ensures)
 
 pub restarted-spec : {M : Type 1} → statement M
-restarted-spec = tie.close (tie.spec (λ c κs. search needs) returns)
+restarted-spec = tie.close (tie.spec (λ c κs. search needs) (λ c κs. search needs) returns)

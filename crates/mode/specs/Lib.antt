@@ -1,0 +1,4 @@
+pub mod ModeSense
+pub mod ModeSenseLaws
+pub mod ModeSelect
+pub mod ModeSelectLaws
