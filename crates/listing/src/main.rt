@@ -11,15 +11,20 @@ use file::load;
 use libc::STDERR_FILENO;
 use libc::STDOUT_FILENO;
 use line::put_line;
+use outcome::Outcome;
+use page::defaults;
 use play::no_play;
 use print::front::front;
 use table::layout::BOUND;
 use target::packet::packet;
 ghost use mathlib.Core.Path.{_≡_};
 ghost use mathlib.Core.Bool.{true};
+ghost use mathlib.Core.List.{[]};
 ghost use Prim.Native.Nat.{_*_, _≤_};
 ghost use lib.ListN.{length};
 ghost use Rattle.table.specs.Layout.{bound};
+ghost use Rattle.outcome.specs.Outcome.{Answered};
+ghost use Rattle.target.specs.Packet.{answer};
 ghost use Rattle.listing.specs.Run.{loaded, stateAfter};
 
 // The bytes of a packet.
@@ -51,8 +56,16 @@ fn loaded() -> Drive
         disc_in: true,
         lock: false,
         play: no_play(),
+        page: defaults(),
     };
     Drive { unit, deck }.power_on_without_change()
+}
+
+// A packet met by the drive, with an empty parameter list.
+fn met_by(d: Drive, p: &[u8], table: &[u8], mem: &mut [u8]) -> Outcome
+    ensures { λ r. ⌜ Answered (answer d (now (p .entry)) (now (table .entry)) [] (length (now (mem .entry)))) (now (mem .entry)) r (now (mem .exit)) ⌝ }
+{
+    packet(d, p, table, &[], mem)
 }
 
 // How many packets were met, the state after the last of them, and whether that was the file's last: not so where a line could not be
@@ -72,7 +85,7 @@ fn list(table: &[u8], packets: &[u8], mem: &mut [u8], line: &mut [u8]) -> Listed
     let mut n = 0;
     let mut at = 0;
     while at < packets.len() {
-        let o = packet(state, front(&packets[at..], PACKET), table, mem);
+        let o = met_by(state, front(&packets[at..], PACKET), table, mem);
         n += 1;
         let k = put_line(n, o, front(mem, o.len), line);
         state = o.state;

@@ -12,6 +12,8 @@ use Rattle.print.specs.Decimal.{decimal}
 use Rattle.print.specs.Sum.{adler32}
 use Rattle.drive.specs.declared.sense.Sense.{Sense}
 use Rattle.play.specs.declared.Play.{Play}
+use Rattle.page.specs.declared.Page.{Page}
+use Rattle.drive.specs.declared.state.Deck.{Deck}
 use Rattle.drive.specs.declared.state.Drive.{Drive}
 use Rattle.disc.specs.Part.{unfit}
 use Rattle.outcome.specs.declared.Outcome.{Outcome}
@@ -41,9 +43,16 @@ flags d =
 unfoldable pub playText : Play → List ℕ
 playText r = spaced (hexByte (r .status)) next spaced (decimal (r .position)) next spaced (decimal (r .end))
 
--- "STATE is five digits 0 or 1 and three hex bytes"; K2: and the play record
+-- K4: ` RR CC` "(two hex bytes)"
+unfoldable pub pageText : Page → List ℕ
+pageText g = spaced (hexByte (g .recovery)) next spaced (hexByte (g .retry))
+
+unfoldable pub keptText : Deck → List ℕ
+keptText m = playText (m .play) next pageText (m .page)
+
+-- "STATE is five digits 0 or 1 and three hex bytes"; K2: and the play record; K4: and the mode page
 unfoldable pub stateText : Drive → List ℕ
-stateText d = spaced (flags d) next triple (d .unit .sense) next playText (d .deck .play)
+stateText d = spaced (flags d) next triple (d .unit .sense) next keptText (d .deck)
 
 -- the call's letter, and "N .. the refusal's number or 0"
 unfoldable pub call : ℕ → ℕ → List ℕ

@@ -18,6 +18,7 @@ use drive::state::Unit;
 use ground::memory::copy_front;
 use ground::number::word16;
 use ground::number::word32;
+use page::Page;
 use play::Play;
 use print::front::front;
 use target::packet::packet;
@@ -25,10 +26,11 @@ ghost use mathlib.Core.Path.{_≡_};
 ghost use Prim.Native.Nat.{_≤_};
 ghost use lib.ListN.{length, replicate};
 
-// The drive, and how many bytes of the table and of the response memory are lent.
+// The drive, and how many bytes of the table, of the parameter list and of the response memory are lent.
 pub struct Bench {
     pub drive: Drive,
     pub table: usize,
+    pub list: usize,
     pub memory: usize,
 }
 
@@ -39,7 +41,7 @@ pub struct Turn {
     pub bench: Bench,
 }
 
-// Everything zero, no table and no memory.
+// Everything zero, no table, no list and no memory.
 pub(crate) fn empty() -> Bench {
     let sense = Sense {
         key: 0,
@@ -56,16 +58,32 @@ pub(crate) fn empty() -> Bench {
         position: 0,
         end: 0,
     };
+    let page = Page {
+        recovery: 0,
+        retry: 0,
+    };
     let deck = Deck {
         tray_open: false,
         disc_in: false,
         lock: false,
         play,
+        page,
     };
     Bench {
         drive: Drive { unit, deck },
         table: 0,
+        list: 0,
         memory: 0,
+    }
+}
+
+// What is kept, with that drive.
+fn with_drive(bench: Bench, drive: Drive) -> Bench {
+    Bench {
+        drive,
+        table: bench.table,
+        list: bench.list,
+        memory: bench.memory,
     }
 }
 
@@ -119,18 +137,23 @@ fn fill(m: &mut [u8], x: u8)
 
 // The state that a record gives.
 fn state_of(body: &[u8]) -> Drive
-    requires { ⌜ length (now body) ≡ 17 ⌝ }
+    requires { ⌜ length (now body) ≡ 19 ⌝ }
 {
     let play = Play {
         status: body[8],
         position: word32(body[9], body[10], body[11], body[12]),
         end: word32(body[13], body[14], body[15], body[16]),
     };
+    let page = Page {
+        recovery: body[17],
+        retry: body[18],
+    };
     let deck = Deck {
         tray_open: body[0] == 1,
         disc_in: body[1] == 1,
         lock: body[2] == 1,
         play,
+        page,
     };
     let sense = Sense {
         key: body[5],
@@ -162,16 +185,9 @@ fn are_flags(body: &[u8]) -> bool {
 
 // Kind 0: the state.
 fn set_state(body: &[u8], bench: Bench, line: &mut [u8]) -> Turn {
-    if body.len() == 17 {
+    if body.len() == 19 {
         if are_flags(body) {
-            return printed(
-                0,
-                Bench {
-                    drive: state_of(body),
-                    table: bench.table,
-                    memory: bench.memory,
-                },
-            );
+            return printed(0, with_drive(bench, state_of(body)));
         }
     }
     bad(bench, line)
@@ -185,6 +201,21 @@ fn set_table(body: &[u8], bench: Bench, table: &mut [u8]) -> Turn {
         Bench {
             drive,
             table: copy_front(body, table),
+            list: bench.list,
+            memory: bench.memory,
+        },
+    )
+}
+
+// Kind 13: the parameter list lent from now on.
+fn set_list(body: &[u8], bench: Bench, list: &mut [u8]) -> Turn {
+    let drive = bench.drive;
+    printed(
+        0,
+        Bench {
+            drive,
+            table: bench.table,
+            list: copy_front(body, list),
             memory: bench.memory,
         },
     )
@@ -202,6 +233,7 @@ fn set_memory(body: &[u8], bench: Bench, memory: &mut [u8], line: &mut [u8]) -> 
                 Bench {
                     drive,
                     table: bench.table,
+                    list: bench.list,
                     memory: n,
                 },
             );
@@ -214,14 +246,7 @@ fn set_memory(body: &[u8], bench: Bench, memory: &mut [u8], line: &mut [u8]) -> 
 fn moved(letter: u8, m: Moved, bench: Bench, line: &mut [u8]) -> Turn {
     let drive = m.state;
     let len = put_moved(letter, m.number, drive, line);
-    printed(
-        len,
-        Bench {
-            drive,
-            table: bench.table,
-            memory: bench.memory,
-        },
-    )
+    printed(len, with_drive(bench, drive))
 }
 
 // Power-on is never refused.
@@ -253,27 +278,26 @@ fn call_move(body: &[u8], bench: Bench, line: &mut [u8]) -> Turn {
     bad(bench, line)
 }
 
-// Kind 7: a packet, with the table and the memory as they are lent.
+// Kind 7: a packet, with the table, the list and the memory as they are lent.
 fn call_packet(
     body: &[u8],
     bench: Bench,
     table: &[u8],
+    list: &[u8],
     memory: &mut [u8],
     line: &mut [u8],
 ) -> Turn {
     let n = least(bench.memory, memory.len());
     let lent = &mut memory[..n];
-    let o = packet(bench.drive, body, front(table, bench.table), lent);
+    let o = packet(
+        bench.drive,
+        body,
+        front(table, bench.table),
+        front(list, bench.list),
+        lent,
+    );
     let len = put_packet(o, lent, line);
-    let drive = o.state;
-    printed(
-        len,
-        Bench {
-            drive,
-            table: bench.table,
-            memory: bench.memory,
-        },
-    )
+    printed(len, with_drive(bench, o.state))
 }
 
 // Kind 8: an address to M:S:F.
@@ -320,6 +344,7 @@ pub(crate) fn meet(
     body: &[u8],
     bench: Bench,
     table: &mut [u8],
+    list: &mut [u8],
     memory: &mut [u8],
     line: &mut [u8],
 ) -> Turn {
@@ -328,11 +353,12 @@ pub(crate) fn meet(
         1 => set_table(body, bench, table),
         2 => set_memory(body, bench, memory, line),
         3..=6 | 11 => call_drive(kind, body, bench, line),
-        7 => call_packet(body, bench, table, memory, line),
+        7 => call_packet(body, bench, table, list, memory, line),
         8 => call_msf(body, bench, line),
         9 => call_block(body, bench, line),
         10 => call_part(body, bench, table, line),
         12 => call_move(body, bench, line),
+        13 => set_list(body, bench, list),
         _ => bad(bench, line),
     }
 }

@@ -1,10 +1,12 @@
 // The lines that a call prints.
 use disc::part::UNFIT;
+use drive::state::Deck;
 use drive::state::Drive;
 use ground::memory::copy_front;
 use ground::number::bytes32;
 use ground::number::wide;
 use outcome::Outcome;
+use page::Page;
 use play::Play;
 use print::decimal::next_decimal;
 use print::decimal::put_decimal;
@@ -16,7 +18,7 @@ use print::sum::adler32;
 ghost use mathlib.Core.Path.{_≡_};
 ghost use Rattle.ground.specs.Memory.{Laid};
 ghost use Rattle.replay.specs.Line.{digit as Line·digit};
-ghost use Rattle.replay.specs.Line.{playText, stateText, call, ruleText, ruledCall, sumText, decimals, movedLine, outcomeText, memoryText, packetLine, msfLine, addressLine, partText, partLine};
+ghost use Rattle.replay.specs.Line.{playText, pageText, keptText, stateText, call, ruleText, ruledCall, sumText, decimals, movedLine, outcomeText, memoryText, packetLine, msfLine, addressLine, partText, partLine};
 
 // A flag as '0' or '1'.
 fn digit(b: bool) -> u8
@@ -38,7 +40,25 @@ fn next_play(r: Play, out: &mut [u8]) -> usize
     at
 }
 
-// The state: five flags, the held sense and the play record.
+// The mode page: its recovery byte and retry count.
+fn next_page(g: Page, out: &mut [u8]) -> usize
+    ensures { λ n. ⌜ Laid (now (out .entry)) (pageText g) n (now (out .exit)) ⌝ }
+{
+    let mut at = next_hex(g.recovery, out);
+    at += next_hex(g.retry, &mut out[at..]);
+    at
+}
+
+// What the deck keeps beside its flags: the play record and the mode page.
+fn next_kept(m: Deck, out: &mut [u8]) -> usize
+    ensures { λ n. ⌜ Laid (now (out .entry)) (keptText m) n (now (out .exit)) ⌝ }
+{
+    let mut at = next_play(m.play, out);
+    at += next_page(m.page, &mut out[at..]);
+    at
+}
+
+// The state: five flags, the held sense, the play record and the mode page.
 fn next_state(d: Drive, out: &mut [u8]) -> usize
     ensures { λ r. ⌜ Laid (now (out .entry)) (stateText d) r (now (out .exit)) ⌝ }
 {
@@ -55,7 +75,7 @@ fn next_state(d: Drive, out: &mut [u8]) -> usize
     ];
     let mut at = copy_front(&flags, out);
     at += next_three(s.key, s.asc, s.ascq, &mut out[at..]);
-    at += next_play(m.play, &mut out[at..]);
+    at += next_kept(m, &mut out[at..]);
     at
 }
 

@@ -13,13 +13,14 @@ use libc::STDIN_FILENO;
 use libc::STDOUT_FILENO;
 use print::front::front;
 
-// The most bytes of a record's body, of a table and of a response memory.
+// The most bytes of a record's body, of a table, of a parameter list and of a response memory.
 const BODY: usize = 8191;
 
 // Reads a record and meets it.
 fn turn(
     bench: Bench,
     table: &mut [u8],
+    list: &mut [u8],
     memory: &mut [u8],
     body: &mut [u8],
     line: &mut [u8],
@@ -39,16 +40,16 @@ fn turn(
     if io::read_full(STDIN_FILENO, &mut body[..n]) < n {
         return bad(bench, line);
     }
-    meet(head[0], front(body, n), bench, table, memory, line)
+    meet(head[0], front(body, n), bench, table, list, memory, line)
 }
 
 // A proved loop has to end, and nothing says that the input does. So the loop counts its turns down, from a number that
 // no run uses up.
-fn run(table: &mut [u8], memory: &mut [u8], body: &mut [u8], line: &mut [u8]) {
+fn run(table: &mut [u8], list: &mut [u8], memory: &mut [u8], body: &mut [u8], line: &mut [u8]) {
     let mut bench = empty();
     let mut turns = u64::MAX;
     while turns > 0 {
-        let t = turn(bench, table, memory, body, line);
+        let t = turn(bench, table, list, memory, body, line);
         if !io::write_all(STDOUT_FILENO, front(line, t.len)) {
             return;
         }
@@ -62,8 +63,9 @@ fn run(table: &mut [u8], memory: &mut [u8], body: &mut [u8], line: &mut [u8]) {
 
 fn main() {
     let mut table = [0u8; BODY];
+    let mut list = [0u8; BODY];
     let mut memory = [0u8; BODY];
     let mut body = [0u8; BODY];
     let mut line = [0u8; 17000];
-    run(&mut table, &mut memory, &mut body, &mut line);
+    run(&mut table, &mut list, &mut memory, &mut body, &mut line);
 }

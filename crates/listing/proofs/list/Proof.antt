@@ -22,10 +22,10 @@ loop-holds : tie.Need-loop-holds Inv-loop μ-loop
 loop-holds c = (refl, omega arith, refl, refl, c .loaded .ensures ∙ sym (stateAfter-none _ _))
 
 -- the packet's outcome holds the state after one packet more
-more : (c : tie.After-write Inv-loop μ-loop) → c .before .before .before .before .before .before .before .before .before .before .before .before .packet .result .state ≡ stateAfter (c .before .before .before .before .before .before .before .before .before .before .before .before .before .before .before .before .before .before .before .before .before .before .before .args .table .now) (c .before .before .before .before .before .before .before .before .before .before .before .before .before .before .before .before .before .before .before .before .before .before .before .args .packets .now) (c .before .before .before .before .before .before .before .before .before .before .before .before .before .before .before .before .before .loop .n + 1)
+more : (c : tie.After-write Inv-loop μ-loop) → c .before .before .before .before .before .before .before .before .before .before .before .before .met-by .result .state ≡ stateAfter (c .before .before .before .before .before .before .before .before .before .before .before .before .before .before .before .before .before .before .before .before .before .before .before .args .table .now) (c .before .before .before .before .before .before .before .before .before .before .before .before .before .before .before .before .before .before .before .before .before .before .before .args .packets .now) (c .before .before .before .before .before .before .before .before .before .before .before .before .before .before .before .before .before .loop .n + 1)
 more c =
     let l = c .before .before .before .before .before .before .before .before .before .before .before .before .before .before .before .before .before .loop .inv in
-    stateAfter-met _ _ _ _ (l .0) (l .4) (c .before .before .before .before .before .before .before .before .before .before .before .before .before .before .front .ensures .shows ∙ ap (take 12) (rest-all (c .before .before .before .before .before .before .before .before .before .before .before .before .before .before .before .before .before .loop .at) (c .before .before .before .before .before .before .before .before .before .before .before .before .before .before .before .before .before .before .before .before .before .before .before .args .packets .now))) (l .2 ∙ c .before .before .before .before .before .before .before .before .before .before .before .before .before .before .before .before .before .before .before .before .before .before .before .pre .1) (c .before .before .before .before .before .before .before .before .before .before .before .before .packet .ensures)
+    stateAfter-met _ _ _ _ (l .0) (l .4) (c .before .before .before .before .before .before .before .before .before .before .before .before .before .before .front .ensures .shows ∙ ap (take 12) (rest-all (c .before .before .before .before .before .before .before .before .before .before .before .before .before .before .before .before .before .loop .at) (c .before .before .before .before .before .before .before .before .before .before .before .before .before .before .before .before .before .before .before .before .before .before .before .args .packets .now))) (l .2 ∙ c .before .before .before .before .before .before .before .before .before .before .before .before .before .before .before .before .before .before .before .before .before .before .before .pre .1) (c .before .before .before .before .before .before .before .before .before .before .before .before .met-by .ensures)
 
 returns : tie.Need-returns Inv-loop μ-loop
 returns c = (more (c .before), λ e. absurd (true≢false (sym e)))

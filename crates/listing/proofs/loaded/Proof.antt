@@ -4,7 +4,7 @@ use Rattle.listing.proofs.loaded.Statement.{statement}
 use Rattle.listing.proofs.loaded.Tie as tie
 
 returns : tie.Need-returns
-returns c = rw (c .before .before .sense-at .ensures, c .before .no-play .ensures) at (c .power-on-without-change .ensures)
+returns c = rw (c .before .before .before .sense-at .ensures, c .before .before .no-play .ensures, c .before .defaults .ensures) at (c .power-on-without-change .ensures)
 
 pub loaded-spec : {M : Type 1} → statement M
-loaded-spec = tie.close (tie.spec (λ c κs. search needs) (λ c κs. search needs) (λ c κs. search needs) returns)
+loaded-spec = tie.close (tie.spec (λ c κs. search needs) (λ c κs. search needs) (λ c κs. search needs) (λ c κs. search needs) returns)

@@ -12,4 +12,5 @@ pub call-packet-spec : {M : Type 1} → statement M
 call-packet-spec =
     tie.close
     (tie.spec (λ c κs. search needs) (λ c. search needs) slice-aggregate-lent (λ c κs. search needs) (λ c κs. search needs)
-    (λ c κs. search needs) (λ c κs. search needs) (λ c. search needs) (λ c. search needs) (λ c. search needs))
+    (λ c κs. search needs) (λ c κs. search needs) (λ c κs. search needs) (λ c κs. search needs) (λ c. search needs) (λ c. search needs)
+    (λ c. search needs))
