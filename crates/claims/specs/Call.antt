@@ -16,6 +16,7 @@ use Rattle.target.specs.Packet.{answer as replyTo}
 use Rattle.claims.specs.Telling.{Attention, power, change, pending, anyPending, Answer, answerOf, isGood, tellsTo}
 use Rattle.claims.specs.History as past
 use Rattle.claims.specs.History.{Event}
+use Rattle.claims.specs.Runs.{Pairwise, pairwise-map}
 use Rattle.claims.specs.Carried.{Board, answerOn, nextOn}
 
 -- K3: the two forms of power-on, that "by default" and "A second form"
@@ -23,15 +24,15 @@ pub data Form : Type 0 where
   byDefault : Form
   withoutChange : Form
 
--- power-on in either form, button, laying, lifting, K2's outside call, by k blocks, and a packet with its bytes, its lent table and its
--- response memory: "They and the packets are the calls on the drive."
+-- power-on in either form, button, laying, lifting, K2's outside call, by k blocks, and a packet with its bytes, its lent table, K4's parameter
+-- list and its response memory: "They and the packets are the calls on the drive."
 pub data Call : Type 0 where
   powering : Form → Call
   pressing : Call
   laying : Call
   lifting : Call
   movingOn : (k : ℕ) → Call
-  packet : (bytes table memory : List ℕ) → Call
+  packet : (bytes table list memory : List ℕ) → Call
 
 -- the response memory that is lent: a packet alone has one
 abbrev pub memoryOf : Call → List ℕ
@@ -40,7 +41,7 @@ memoryOf pressing = []
 memoryOf laying = []
 memoryOf lifting = []
 memoryOf (movingOn k) = []
-memoryOf (packet p t m) = m
+memoryOf (packet p t l m) = m
 
 -- the answer of a call that is no packet: no rule stands beside its number
 abbrev pub numbered : ℕ → Answer
@@ -53,7 +54,7 @@ answer pressing d = numbered (button d .number)
 answer laying d = numbered (lay d .number)
 answer lifting d = numbered (lift d .number)
 answer (movingOn k) d = numbered (moveOn k d .number)
-answer (packet p t m) d = answerOf m (replyTo d p t (length m))
+answer (packet p t l m) d = answerOf m (replyTo d p t l (length m))
 
 -- the state after it
 abbrev pub next : Call → Drive → Drive
@@ -63,7 +64,7 @@ next pressing d = button d .state
 next laying d = lay d .state
 next lifting d = lift d .state
 next (movingOn k) d = moveOn k d .state
-next (packet p t m) d = stateOf (replyTo d p t (length m))
+next (packet p t l m) d = stateOf (replyTo d p t l (length m))
 
 -- ---- the drive's histories
 
@@ -96,7 +97,7 @@ isPowering pressing = false
 isPowering laying = false
 isPowering lifting = false
 isPowering (movingOn k) = false
-isPowering (packet p t m) = false
+isPowering (packet p t l m) = false
 
 -- "Power-on (also reset)", in either form
 abbrev pub isPowerOn : Happening → Bool
@@ -109,7 +110,7 @@ closes pressing = true
 closes laying = false
 closes lifting = false
 closes (movingOn k) = false
-closes (packet p t m) = true
+closes (packet p t l m) = true
 
 -- the tray was open and is closed, with a disc in
 abbrev pub closed : Deck → Deck → Bool
@@ -127,7 +128,7 @@ greets pressing = false
 greets laying = false
 greets lifting = false
 greets (movingOn k) = false
-greets (packet p t m) = false
+greets (packet p t l m) = false
 
 -- K3: "Power-on with a loaded disc .. by default": it meets a drive with the tray closed and a disc in
 abbrev pub isGreeting : Happening → Bool
@@ -159,7 +160,7 @@ tells k e = toldBy (e .call)
     toldBy laying = false
     toldBy lifting = false
     toldBy (movingOn j) = false
-    toldBy (packet p t m) = tellsTo k (isRequestSense p) (e .old .unit) (e .answer) (e .new .unit)
+    toldBy (packet p t l m) = tellsTo k (isRequestSense p) (e .old .unit) (e .answer) (e .new .unit)
 
 -- ---- successes
 
@@ -187,14 +188,28 @@ isSuccess e = ofNeeding (e .call) and isGood (e .answer)
     ofNeeding laying = false
     ofNeeding lifting = false
     ofNeeding (movingOn k) = false
-    ofNeeding (packet p t m) = isNeeding p
+    ofNeeding (packet p t l m) = isNeeding p
 
 -- ---- runs
 
--- the same call, or the same packet with the same memory and two fit tables
+-- the same call, or the same packet with the same memory, any two parameter lists, and one table or two fit ones
 pub data Alike : Call → Call → Type 0 where
   same : (c : Call) → Alike c c
-  tables : (p m : List ℕ) {t u : List ℕ} → isFit t ≡ true → isFit u ≡ true → Alike (packet p t m) (packet p u m)
+  lists : (p t m : List ℕ) {k l : List ℕ} → Alike (packet p t k m) (packet p t l m)
+  tables : (p m : List ℕ) {t u k l : List ℕ} → isFit t ≡ true → isFit u ≡ true → Alike (packet p t k m) (packet p u l m)
+
+-- K4: "Demand 3's two runs share the lent parameter list": the same call, or the same packet with the same list and memory and two fit tables
+pub data Sharing : Call → Call → Type 0 where
+  itself : (c : Call) → Sharing c c
+  fitting : (p l m : List ℕ) {t u : List ℕ} → isFit t ≡ true → isFit u ≡ true → Sharing (packet p t l m) (packet p u l m)
+
+sharing-alike : (c e : Call) → Sharing c e → Alike c e
+sharing-alike c e (itself b) = same b
+sharing-alike c e (fitting p l m f g) = tables p m f g
+
+-- and so calls that share their lists are alike, one by one
+pub shared : {cs ds : List Call} → Pairwise Sharing cs ds → Pairwise Alike cs ds
+shared = pairwise-map sharing-alike
 
 -- the call, lent that memory in place of its own
 abbrev pub lend : List ℕ → Call → Call
@@ -203,7 +218,7 @@ lend memory pressing = pressing
 lend memory laying = laying
 lend memory lifting = lifting
 lend memory (movingOn k) = movingOn k
-lend memory (packet p t m) = packet p t memory
+lend memory (packet p t l m) = packet p t l memory
 
 -- what a call with that answer leaves in the memory: one that is no packet leaves it as it was
 abbrev pub left : Call → Answer → List ℕ → List ℕ
@@ -212,7 +227,7 @@ left pressing a memory = memory
 left laying a memory = memory
 left lifting a memory = memory
 left (movingOn k) a memory = memory
-left (packet p t m) a memory = a .memory
+left (packet p t l m) a memory = a .memory
 
 -- the drive with one response memory, each call lent what the one before left
 abbrev pub historyOn : Board Drive → List Call → List (Event Call (Board Drive) Answer)

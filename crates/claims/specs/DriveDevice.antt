@@ -16,8 +16,8 @@ use Rattle.outcome.specs.Outcome.{stateOf}
 use Rattle.target.specs.Packet.{refusalOf}
 use Rattle.claims.specs.Telling.{Attention, power, change, Answer, answerOf, isGood, tellsTo}
 use Rattle.claims.specs.UnitLaws.{Turn, only, or-none, only-none, unmoved, attended, meets-turn, orders-blocks, any-pending}
-use Rattle.claims.specs.Call.{Form, byDefault, withoutChange, Call, powering, pressing, laying, lifting, movingOn, packet, answer, next, event, isPending, isAttending, isPowering, isPowerOn, closed, isLoading, isCause, causes, tells, isNeeding, isSuccess, Alike, same, tables, lend, left}
-use Rattle.claims.specs.PacketLaws.{kind, ruleOf, reply-kind, closed-still, packet-fair, packet-request, packet-orders, packet-blind}
+use Rattle.claims.specs.Call.{Form, byDefault, withoutChange, Call, powering, pressing, laying, lifting, movingOn, packet, answer, next, event, isPending, isAttending, isPowering, isPowerOn, closed, isLoading, isCause, causes, tells, isNeeding, isSuccess, Alike, same, lists, tables, lend, left}
+use Rattle.claims.specs.PacketLaws.{kind, ruleOf, reply-kind, closed-still, packet-fair, packet-request, packet-orders, packet-blind, packet-unlisted}
 use Rattle.claims.specs.Device.{Device, or-cases, cause-lives}
 
 -- ---- how a call turns an attention
@@ -67,15 +67,15 @@ moveOn-turn k n d = either P _ (λ h. here) (λ h. here)
     here : Turn k (d .unit) false false (d .unit)
     here = unmoved k (d .unit) (d .unit .sense)
 
-packet-turn : (k : Attention) (p t m : List ℕ) (d : Drive)
-    → Turn k (d .unit) (tells k (event (packet p t m) d)) (isLoading (event (packet p t m) d)) (next (packet p t m) d .unit)
+packet-turn : (k : Attention) (p t l m : List ℕ) (d : Drive)
+    → Turn k (d .unit) (tells k (event (packet p t l m) d)) (isLoading (event (packet p t l m) d)) (next (packet p t l m) d .unit)
 unfolding _and_
-packet-turn k p t m d =
+packet-turn k p t l m d =
     let T : Bool → Reply Deck → Type 0 =
     λ a r. Turn k (d .unit) (tellsTo k a (d .unit) (answerOf m r) (r .unit)) (closed (d .deck) (r .deck)) (r .unit) in
-    subst₂ T (packet-request p (d .deck) t) (sym (reply-kind d p t (length m)))
-    (meets-turn closed k m (d .deck) (refusalOf d p t (length m)) (ruleOf d p t (length m)) (kind p (d .deck) t) (d .unit)
-    (packet-fair p (d .deck) t))
+    subst₂ T (packet-request p (d .deck) t l) (sym (reply-kind d p t l (length m)))
+    (meets-turn closed k m (d .deck) (refusalOf d p t (length m)) (ruleOf d p t (length m)) (kind p (d .deck) t l) (d .unit)
+    (packet-fair p (d .deck) t l))
 
 -- every call but power-on
 call-turn : (k : Attention) (c : Call) (d : Drive) → isPowering c ≡ false → Turn k (d .unit) (tells k (event c d)) (isLoading (event c d)) (next c d .unit)
@@ -85,7 +85,7 @@ call-turn k pressing d h = press-turn k d
 call-turn k laying d h = lay-turn k d
 call-turn k lifting d h = lift-turn k d
 call-turn k (movingOn n) d h = moveOn-turn k n d
-call-turn k (packet p t m) d h = packet-turn k p t m d
+call-turn k (packet p t l m) d h = packet-turn k p t l m d
 
 -- the causes of a call that is no power-on
 pub causes-only : (k : Attention) (c : Call) (d : Drive) → isPowering c ≡ false → causes k (event c d) ≡ only k (isLoading (event c d))
@@ -96,7 +96,7 @@ causes-only change pressing d h = or-none _
 causes-only change laying d h = or-none _
 causes-only change lifting d h = or-none _
 causes-only change (movingOn n) d h = or-none _
-causes-only change (packet p t m) d h = or-none _
+causes-only change (packet p t l m) d h = or-none _
 
 -- ---- the four laws
 
@@ -121,12 +121,12 @@ drive-turns k pressing d = call-turns k pressing d refl
 drive-turns k laying d = call-turns k laying d refl
 drive-turns k lifting d = call-turns k lifting d refl
 drive-turns k (movingOn n) d = call-turns k (movingOn n) d refl
-drive-turns k (packet p t m) d = call-turns k (packet p t m) d refl
+drive-turns k (packet p t l m) d = call-turns k (packet p t l m) d refl
 
-pub packet-blocked : (k : Attention) (d : Drive) (p t m : List ℕ) → isPending k d ≡ true → isNeeding p ≡ true → isGood (answer (packet p t m) d) ≡ false
-packet-blocked k d p t m h n =
-    let o = packet-orders p (d .deck) t n in
-    rw (reply-kind d p t (length m), o .1)
+pub packet-blocked : (k : Attention) (d : Drive) (p t l m : List ℕ) → isPending k d ≡ true → isNeeding p ≡ true → isGood (answer (packet p t l m) d) ≡ false
+packet-blocked k d p t l m h n =
+    let o = packet-orders p (d .deck) t l n in
+    rw (reply-kind d p t l (length m), o .1)
     (orders-blocks (refusalOf d p t (length m)) (ruleOf d p t (length m)) (o .0) (d .unit) (d .deck) m (any-pending k (d .unit) h))
 
 pub drive-blocks : (k : Attention) (c : Call) (d : Drive) → isPending k d ≡ true → isSuccess (event c d) ≡ false
@@ -136,16 +136,19 @@ drive-blocks k pressing d h = refl
 drive-blocks k laying d h = refl
 drive-blocks k lifting d h = refl
 drive-blocks k (movingOn n) d h = refl
-drive-blocks k (packet p t m) d h = go (isNeeding p) refl
+drive-blocks k (packet p t l m) d h = go (isNeeding p) refl
   where
-    go : (b : Bool) → isNeeding p ≡ b → b and isGood (answer (packet p t m) d) ≡ false
+    go : (b : Bool) → isNeeding p ≡ b → b and isGood (answer (packet p t l m) d) ≡ false
     go false n = refl
-    go true n = packet-blocked k d p t m h n
+    go true n = packet-blocked k d p t l m h n
 
 pub drive-blind : (c e : Call) (d : Drive) → Alike c e → isAttending d ≡ true → (answer c d ≡ answer e d) × (next c d ≡ next e d)
-drive-blind c e d (same b) l = (refl, refl)
-drive-blind c e d (tables p m {t} {u} f g) l =
-    let q = packet-blind d p t u (length m) f g l in
+drive-blind c e d (same b) a = (refl, refl)
+drive-blind c e d (lists p t m {k} {l}) a =
+    let q = packet-unlisted d p t k l (length m) a in
+    (ap (answerOf m) q, ap stateOf q)
+drive-blind c e d (tables p m {t} {u} {k} {l} f g) a =
+    let q = packet-blind d p t u k l (length m) f g a in
     (ap (answerOf m) q, ap stateOf q)
 
 -- ---- what tells
@@ -169,7 +172,7 @@ drive-told k pressing d t = absurd (false≢true t)
 drive-told k laying d t = absurd (false≢true t)
 drive-told k lifting d t = absurd (false≢true t)
 drive-told k (movingOn n) d t = absurd (false≢true t)
-drive-told k (packet p q m) d t = call-told k (packet p q m) d refl t
+drive-told k (packet p q l m) d t = call-told k (packet p q l m) d refl t
 
 -- ---- the device
 
@@ -202,8 +205,10 @@ greeting-causes change d l = l
 
 pub lend-alike : (c e : Call) (m : List ℕ) → Alike c e → Alike (lend m c) (lend m e)
 lend-alike c e m (same b) = same (lend m c)
+lend-alike c e m (lists p t n) = lists p t m
 lend-alike c e m (tables p n f g) = tables p m f g
 
 pub left-alike : (c e : Call) (a : Answer) (m : List ℕ) → Alike c e → left c a m ≡ left e a m
 left-alike c e a m (same b) = refl
+left-alike c e a m (lists p t n) = refl
 left-alike c e a m (tables p n f g) = refl

@@ -7,8 +7,9 @@ use lib.Dec.{eqb}
 use Rattle.address.specs.Address.{last}
 use Rattle.drive.specs.declared.state.Drive.{Drive}
 use Rattle.play.specs.Play.{isStatus}
+use Rattle.page.specs.Page.{settings, among, isSetting}
 use Rattle.drive.specs.State.{isKnownState}
-use Rattle.drive.specs.StateLaws.{isKnownState-play}
+use Rattle.drive.specs.StateLaws.{isKnownState-deck}
 use Rattle.claims.specs.Call.{Form, Call, powering, answer, next, final}
 use Rattle.claims.specs.KnownLaws.{power-state, call-state, known-final, known-never-2}
 
@@ -33,4 +34,9 @@ known-not-2 f handed calls c = known-never-2 c _ (known-always f handed calls)
 pub known-record : (f : Form) (handed : Drive) (calls : List Call) →
     let r = final handed (powering f ∷ calls) .deck .play in
     (isStatus (r .status) ≡ true) × (r .position ≤ r .end) × (r .end ≤ last)
-known-record f handed calls = let s = isKnownState-play _ (known-always f handed calls) in (s .status, s .within, s .most)
+known-record f handed calls = let s = isKnownState-deck _ (known-always f handed calls) .play in (s .status, s .within, s .most)
+
+-- K4's: the recovery byte is one of the twenty
+pub known-page : (f : Form) (handed : Drive) (calls : List Call) → among settings (final handed (powering f ∷ calls) .deck .page .recovery) ≡ true
+unfolding isSetting
+known-page f handed calls = isKnownState-deck _ (known-always f handed calls) .page

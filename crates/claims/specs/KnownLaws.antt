@@ -1,4 +1,5 @@
--- A state that refusal 2 does not meet stays one: every triple that is held is a row of the table, and what is played lies below L.
+-- A state that refusal 2 does not meet stays one: every triple that is held is a row of the table, what is played lies below L, and a page that
+-- is set has one of the twenty.
 use mathlib.Core.Path.{_≡_, refl, sym, ap, _∙_}
 use mathlib.Core.Bool.{Bool, true, false, not}
 use mathlib.Core.List.{List, [], _∷_}
@@ -16,24 +17,28 @@ use Rattle.drive.specs.declared.state.Drive.{Drive}
 use Rattle.drive.specs.declared.state.Moved.{Moved}
 use Rattle.drive.specs.Sense.{sameSense, noSense, isKnown}
 use Rattle.drive.specs.SenseLaws.{isKnown-at}
+use Rattle.play.specs.declared.Play.{Play}
+use Rattle.page.specs.declared.Page.{Page}
+use Rattle.page.specs.Page.{isSetting}
+use Rattle.page.specs.PageLaws.{isSetting-default}
 use Rattle.play.specs.Play.{none, isStatus, withStatus}
 use Rattle.play.specs.PlayLaws.{Known, isStatus-playing, isStatus-paused, isStatus-none, noPlay-known, withStatus-known, movedOn-known}
 use Rattle.drive.specs.Unit.{attend}
-use Rattle.drive.specs.State.{isKnownState, isLoaded, closedPlay, button, lay, lift, moveOn}
-use Rattle.drive.specs.StateLaws.{isKnownState-sense, isKnownState-play, known-isKnownState, powerOn-with, powerOnWithoutChange-with}
+use Rattle.drive.specs.State.{isKnownState, isLoaded, opening, closing, restarted, withDisc, withLock, withPlay, withPage, button, lay, lift, moveOn}
+use Rattle.drive.specs.StateLaws.{KnownDeck, isKnownState-sense, isKnownState-deck, known-isKnownState, powerOn-with, powerOnWithoutChange-with}
 use Rattle.table.specs.Layout.{bound}
 use Rattle.disc.specs.Rules.{isFit}
 use Rattle.disc.specs.RulesLaws.{isFit-true}
 use Rattle.disc.specs.FitLaws.{fit-lead-out}
 use Rattle.gate.specs.declared.fault.Fault.{Fault}
-use Rattle.gate.specs.declared.fault.Fault.the-variants.{NoMediumClosed, NoMediumOpen, UnknownCode, OutOfRange, BadField, RemovalPrevented, IllegalMode}
+use Rattle.gate.specs.declared.fault.Fault.the-variants.{NoMediumClosed, NoMediumOpen, UnknownCode, OutOfRange, BadField, RemovalPrevented, IllegalMode, ListLength, ListField, NoSaving}
 use Rattle.gate.specs.declared.unit.Giving.{Giving}
 use Rattle.gate.specs.Fault.{senseOf}
 use Rattle.gate.specs.Unit.{pendingOf, give}
 use Rattle.gate.specs.Gate.{Result, fails, goes, gate}
 use Rattle.command.specs.declared.decode.Command.{Command}
-use Rattle.command.specs.declared.decode.Command.the-variants.{TestUnitReady, RequestSense, Inquiry, StartStop, Prevent, ReadCapacity, Read10, Seek, ReadToc, Read12, PlayAudio, PauseResume, ReadSubChannel, Unknown}
-use Rattle.command.specs.Command.{byte, bit0, decode, codeOf, needsDisc, addressIn, count10}
+use Rattle.command.specs.declared.decode.Command.the-variants.{TestUnitReady, RequestSense, Inquiry, StartStop, Prevent, ReadCapacity, Read10, Seek, ReadToc, Read12, PlayAudio, PauseResume, ReadSubChannel, ModeSense, ModeSelect, Unknown}
+use Rattle.command.specs.Command.{byte, bit0, decode, codeOf, needsDisc, addressIn, count10, lengthIn}
 use Rattle.command.specs.Tray.{eject, load, startStop}
 use Rattle.command.specs.Done.{answering}
 use Rattle.blocks.specs.Range.{inRange, ranged}
@@ -41,6 +46,10 @@ use Rattle.blocks.specs.RangeLaws.{inRange-end}
 use Rattle.blocks.specs.Blocks.{seek}
 use Rattle.audio.specs.Audio.{started, resumed, pauseResume}
 use Rattle.audio.specs.SubChannel.{reported}
+use Rattle.mode.specs.declared.mode_sense.Shown.{Shown}
+use Rattle.mode.specs.declared.mode_sense.Shown.the-variants.{Fails, Values}
+use Rattle.mode.specs.ModeSense.{pageShown, gives}
+use Rattle.mode.specs.ModeSelect.{isPage, selected, modeSelect}
 use Rattle.target.specs.Perform.{L, work, perform}
 use Rattle.target.specs.Packet.{refusalOf, answer as replyTo}
 use Rattle.claims.specs.UnitLaws.{Kind, asks, frees, orders, reply, meets, nextOf}
@@ -62,6 +71,9 @@ senseOf-known OutOfRange = isKnown-at 4
 senseOf-known BadField = isKnown-at 5
 senseOf-known RemovalPrevented = isKnown-at 6
 senseOf-known IllegalMode = isKnown-at 7
+senseOf-known ListLength = isKnown-at 10
+senseOf-known ListField = isKnown-at 11
+senseOf-known NoSaving = isKnown-at 12
 
 attend-known : (b : Bool) (u : Unit) → isKnown (u .sense) ≡ true → isKnown (attend b u .sense) ≡ true
 unfolding attend if_then_else_
@@ -115,91 +127,119 @@ module _ {M : Type 0} where
   reply-keeps P (frees (goes next loading full limit start count)) u m a b = b
   reply-keeps P (orders r) u m a b = gate-keeps P (u .power) (u .change) (u .sense) m r a b
 
--- ---- the play record
+-- ---- the deck
 
--- the record of the deck is one
-abbrev Recorded : Deck → Type 0
-Recorded m = Known (m .play)
-
+-- the deck after a result is one that refusal 2 does not meet
 abbrev Comes : Deck → Result Deck → Type 0
-Comes m r = Recorded (nextOf m r)
+Comes m r = KnownDeck (nextOf m r)
 
-module _ (m : Deck) (s : Recorded m) where
-  stopped-recorded : Known (withStatus (m .play) none)
-  stopped-recorded = withStatus-known none isStatus-none s
+module _ (m : Deck) (s : KnownDeck m) where
+  -- another play record, or another page
+  played : {r : Play} → Known r → KnownDeck (withPlay m r)
+  played k = record { play = k; page = s .page }
 
-  answering-recorded : (bad : Bool) (next : Deck) (full : List ℕ) (limit : ℕ) → Recorded next → Comes m (answering bad next full limit)
+  paged : {g : Page} → isSetting (g .recovery) ≡ true → KnownDeck (withPage m g)
+  paged k = record { play = s .play; page = k }
+
+  -- another lock, or another disc: refusal 2 asks nothing of them
+  locked : (b : Bool) → KnownDeck (withLock m b)
+  locked b = record { play = s .play; page = s .page }
+
+  held : (b : Bool) → KnownDeck (withDisc m b)
+  held b = record { play = s .play; page = s .page }
+
+  stopped-known : KnownDeck (withPlay m (withStatus (m .play) none))
+  stopped-known = played (withStatus-known none isStatus-none (s .play))
+
+  answering-known : (bad : Bool) (next : Deck) (full : List ℕ) (limit : ℕ) → KnownDeck next → Comes m (answering bad next full limit)
   unfolding answering
-  answering-recorded bad next full limit n = either (Comes m) bad (λ h. s) (λ h. n)
+  answering-known bad next full limit n = either (Comes m) bad (λ h. s) (λ h. n)
 
-  ranged-recorded : (all : Bool) (a n l : ℕ) (r : Result Deck) → (inRange a n l ≡ true → Comes m r) → Comes m (ranged all a n l r)
+  ranged-known : (all : Bool) (a n l : ℕ) (r : Result Deck) → (inRange a n l ≡ true → Comes m r) → Comes m (ranged all a n l r)
   unfolding ranged
-  ranged-recorded all a n l r f = either (Comes m) (inRange a n l) (λ h. either (Comes m) all (λ k. f h) (λ k. s)) (λ h. s)
+  ranged-known all a n l r f = either (Comes m) (inRange a n l) (λ h. either (Comes m) all (λ k. f h) (λ k. s)) (λ h. s)
 
-  seek-recorded : (a l : ℕ) → Comes m (seek a l m)
+  seek-known : (a l : ℕ) → Comes m (seek a l m)
   unfolding seek
-  seek-recorded a l = either (Comes m) _ (λ h. s) (λ h. stopped-recorded)
+  seek-known a l = either (Comes m) _ (λ h. s) (λ h. stopped-known)
 
-  closing-recorded : Known (closedPlay m)
-  closing-recorded = either Known (m .«disc_in») (λ h. noPlay-known) (λ h. s)
+  closing-known : KnownDeck (closing m .deck)
+  closing-known = record { play = either Known (m .«disc_in») (λ h. noPlay-known) (λ h. s .play); page = s .page }
 
-  load-recorded : Comes m (load m)
+  opening-known : KnownDeck (opening m .deck)
+  opening-known = record { play = noPlay-known; page = s .page }
+
+  load-known : Comes m (load m)
   unfolding load
-  load-recorded = either (Comes m) _ (λ h. closing-recorded) (λ h. s)
+  load-known = either (Comes m) _ (λ h. closing-known) (λ h. s)
 
-  eject-recorded : Comes m (eject m)
+  eject-known : Comes m (eject m)
   unfolding eject
-  eject-recorded = either (Comes m) _ (λ h. s) (λ h. either (Comes m) _ (λ k. s) (λ k. noPlay-known))
+  eject-known = either (Comes m) _ (λ h. s) (λ h. either (Comes m) _ (λ k. s) (λ k. opening-known))
 
-  startStop-recorded : (b : ℕ) → Comes m (startStop b m)
+  startStop-known : (b : ℕ) → Comes m (startStop b m)
   unfolding startStop
-  startStop-recorded b = either (Comes m) _ (λ h. either (Comes m) _ (λ k. load-recorded) (λ k. eject-recorded)) (λ h. s)
+  startStop-known b = either (Comes m) _ (λ h. either (Comes m) _ (λ k. load-known) (λ k. eject-known)) (λ h. s)
 
   -- what is played lies below L, which is a block's address
-  started-recorded : (a n l : ℕ) → l ≤ last → inRange a n l ≡ true → Recorded (started a n m)
+  started-known : (a n l : ℕ) → l ≤ last → inRange a n l ≡ true → KnownDeck (started a n m)
   unfolding started
-  started-recorded a n l h k =
+  started-known a n l h k =
       let e = inRange-end a n l k in
-      either Recorded (eqb n 0) (λ z. s) (λ z. record { status = isStatus-playing; within = omega arith; most = omega arith })
+      either KnownDeck (eqb n 0) (λ z. s) (λ z. played (record { status = isStatus-playing; within = omega arith; most = omega arith }))
 
-  resumed-recorded : (resume : Bool) → Known (withStatus (m .play) (resumed resume))
-  resumed-recorded resume =
-      withStatus-known (resumed resume) (either (λ x. isStatus x ≡ true) resume (λ h. isStatus-playing) (λ h. isStatus-paused)) s
+  resumed-known : (resume : Bool) → KnownDeck (withPlay m (withStatus (m .play) (resumed resume)))
+  resumed-known resume =
+      played (withStatus-known (resumed resume) (either (λ x. isStatus x ≡ true) resume (λ h. isStatus-playing) (λ h. isStatus-paused)) (s .play))
 
-  pauseResume-recorded : (resume : Bool) → Comes m (pauseResume resume m)
+  pauseResume-known : (resume : Bool) → Comes m (pauseResume resume m)
   unfolding pauseResume
-  pauseResume-recorded resume = either (Comes m) _ (λ h. s) (λ h. resumed-recorded resume)
+  pauseResume-known resume = either (Comes m) _ (λ h. s) (λ h. resumed-known resume)
 
-  reported-recorded : Known (reported (m .play))
+  reported-known : KnownDeck (withPlay m (reported (m .play)))
   unfolding reported
-  reported-recorded = either Known _ (λ h. stopped-recorded) (λ h. s)
+  reported-known = played (either Known _ (λ h. withStatus-known none isStatus-none (s .play)) (λ h. s .play))
+
+  gives-known : (g : Shown) (limit : ℕ) → Comes m (gives g limit m)
+  gives-known (Fails f) limit = s
+  gives-known (Values g) limit = answering-known false m _ limit s
+
+  -- a page that is set has one of the twenty
+  modeSelect-known : (n : ℕ) (l : List ℕ) → Comes m (modeSelect n l m)
+  unfolding modeSelect selected isPage
+  modeSelect-known n l =
+      either (Comes m) _
+      (λ h. either (Comes m) _ (λ k. s) (λ k. either (Comes m) _ (λ i. paged (and-tail _ _ (and-tail _ _ i))) (λ i. s)))
+      (λ h. s)
 
   -- each command that has what it needs
-  work-recorded : (c : Command) (p t : List ℕ) → (needsDisc c p ≡ true → L t ≤ last) → Comes m (work c p m t)
-  work-recorded TestUnitReady p t f = s
-  work-recorded RequestSense p t f = s
-  work-recorded Inquiry p t f = answering-recorded _ m _ _ s
-  work-recorded StartStop p t f = startStop-recorded (byte p 4)
-  work-recorded Prevent p t f = s
-  work-recorded ReadCapacity p t f = answering-recorded _ m _ _ s
-  work-recorded Read10 p t f = ranged-recorded _ _ _ _ _ (λ h. stopped-recorded)
-  work-recorded Seek p t f = seek-recorded _ _
-  work-recorded ReadToc p t f = answering-recorded _ m _ _ s
-  work-recorded Read12 p t f = ranged-recorded _ _ _ _ _ (λ h. stopped-recorded)
-  work-recorded PlayAudio p t f = ranged-recorded _ _ _ _ _ (started-recorded (addressIn p) (count10 p) (L t) (f refl))
-  work-recorded PauseResume p t f = pauseResume-recorded (bit0 (byte p 8))
-  work-recorded ReadSubChannel p t f = answering-recorded _ _ _ _ reported-recorded
-  work-recorded Unknown p t f = s
+  work-known : (c : Command) (p t l : List ℕ) → (needsDisc c p ≡ true → L t ≤ last) → Comes m (work c p m t l)
+  work-known TestUnitReady p t l f = s
+  work-known RequestSense p t l f = s
+  work-known Inquiry p t l f = answering-known _ m _ _ s
+  work-known StartStop p t l f = startStop-known (byte p 4)
+  work-known Prevent p t l f = locked (bit0 (byte p 4))
+  work-known ReadCapacity p t l f = answering-known _ m _ _ s
+  work-known Read10 p t l f = ranged-known _ _ _ _ _ (λ h. stopped-known)
+  work-known Seek p t l f = seek-known _ _
+  work-known ReadToc p t l f = answering-known _ m _ _ s
+  work-known Read12 p t l f = ranged-known _ _ _ _ _ (λ h. stopped-known)
+  work-known PlayAudio p t l f = ranged-known _ _ _ _ _ (started-known (addressIn p) (count10 p) (L t) (f refl))
+  work-known PauseResume p t l f = pauseResume-known (bit0 (byte p 8))
+  work-known ReadSubChannel p t l f = answering-known _ _ _ _ reported-known
+  work-known ModeSense p t l f = gives-known (pageShown (byte p 2) (m .page)) (lengthIn p)
+  work-known ModeSelect p t l f = modeSelect-known (lengthIn p) l
+  work-known Unknown p t l f = s
 
-  perform-recorded : (c : Command) (p t : List ℕ) → (isLoaded m ≡ true → L t ≤ last) → Comes m (perform c p m t)
+  perform-known : (c : Command) (p t l : List ℕ) → (isLoaded m ≡ true → L t ≤ last) → Comes m (perform c p m t l)
   unfolding perform
-  perform-recorded c p t f =
-      either (Comes m) (needsDisc c p and not (isLoaded m)) (λ h. s) (λ h. work-recorded c p t (λ n. f (second-holds _ _ h n)))
+  perform-known c p t l f =
+      either (Comes m) (needsDisc c p and not (isLoaded m)) (λ h. s) (λ h. work-known c p t l (λ n. f (second-holds _ _ h n)))
 
-  kind-recorded : {c : Command} (z : Seen c) (p t : List ℕ) → (isLoaded m ≡ true → L t ≤ last) → Recorded (comesTo m (kindOf z p (perform c p m t)))
-  kind-recorded asking p t f = s
-  kind-recorded freeing p t f = perform-recorded Inquiry p t f
-  kind-recorded (ordering {c} n g) p t f = perform-recorded c p t f
+  kind-known : {c : Command} (z : Seen c) (p t l : List ℕ) → (isLoaded m ≡ true → L t ≤ last) → KnownDeck (comesTo m (kindOf z p (perform c p m t l)))
+  kind-known asking p t l f = s
+  kind-known freeing p t l f = perform-known Inquiry p t l f
+  kind-known (ordering {c} n g) p t l f = perform-known c p t l f
 
 -- ---- each call
 
@@ -208,24 +248,28 @@ fit-last : (t : List ℕ) → isFit t ≡ true → L t ≤ last
 fit-last t h = fit-lead-out (isFit-true h) .1
 
 -- a packet's answer
-module _ (d : Drive) (s : isKnownState d ≡ true) (p t : List ℕ) (n : ℕ) where
+module _ (d : Drive) (s : isKnownState d ≡ true) (p t l : List ℕ) (n : ℕ) where
   -- the deck, refused or not
-  meets-recorded : (j : ℕ) → eqb j 0 ≡ eqb (length p) 12 and isKnownState d and not (ltb n bound) and not (isLoaded (d .deck) and not (isFit t))
-      → Recorded (meets j (ruleOf d p t n) (kind p (d .deck) t) (d .unit) (d .deck) .deck)
-  meets-recorded zero e =
+  meets-deck : (j : ℕ) → eqb j 0 ≡ eqb (length p) 12 and isKnownState d and not (ltb n bound) and not (isLoaded (d .deck) and not (isFit t))
+      → KnownDeck (meets j (ruleOf d p t n) (kind p (d .deck) t l) (d .unit) (d .deck) .deck)
+  meets-deck zero e =
       let h = and-tail _ _ (and-tail _ _ (and-tail _ _ (sym e))) in
-      let k = kind-recorded (d .deck) (isKnownState-play d s) (seen (decode (codeOf p))) p t (λ l. fit-last t (second-holds _ _ (not-true _ h) l)) in
-      reply-keeps Recorded (kind p (d .deck) t) (d .unit) (d .deck) (isKnownState-play d s) k
-  meets-recorded (suc j) e = isKnownState-play d s
+      let k = kind-known (d .deck) (isKnownState-deck d s) (seen (decode (codeOf p))) p t l (λ i. fit-last t (second-holds _ _ (not-true _ h) i)) in
+      reply-keeps KnownDeck (kind p (d .deck) t l) (d .unit) (d .deck) (isKnownState-deck d s) k
+  meets-deck (suc j) e = isKnownState-deck d s
 
-  reply-state : isKnownState (record { unit = replyTo d p t n .unit; deck = replyTo d p t n .deck }) ≡ true
+  reply-state : isKnownState (record { unit = replyTo d p t l n .unit; deck = replyTo d p t l n .deck }) ≡ true
   reply-state =
-      rw (reply-kind d p t n) (known-isKnownState _ (meets-known (refusalOf d p t n) _ (kind p (d .deck) t) (d .unit) (d .deck) (isKnownState-sense d s))
-      (meets-recorded (refusalOf d p t n) (refusal-ordered d p t n .zero)))
+      rw (reply-kind d p t l n) (known-isKnownState _ (meets-known (refusalOf d p t n) _ (kind p (d .deck) t l) (d .unit) (d .deck) (isKnownState-sense d s))
+      (meets-deck (refusalOf d p t n) (refusal-ordered d p t n .zero)))
+
+-- what power-on leaves
+pub restarted-known : (m : Deck) → KnownDeck (restarted m)
+restarted-known m = record { play = noPlay-known; page = isSetting-default }
 
 pub power-state : (f : Form) (d : Drive) → isKnownState (next (powering f) d) ≡ true
-power-state byDefault d = rw (powerOn-with d) (known-isKnownState _ known-none noPlay-known)
-power-state withoutChange d = rw (powerOnWithoutChange-with d) (known-isKnownState _ known-none noPlay-known)
+power-state byDefault d = rw (powerOn-with d) (known-isKnownState _ known-none (restarted-known (d .deck)))
+power-state withoutChange d = rw (powerOnWithoutChange-with d) (known-isKnownState _ known-none (restarted-known (d .deck)))
 
 -- the calls that are no packets
 module _ (d : Drive) (s : isKnownState d ≡ true) where
@@ -235,25 +279,29 @@ module _ (d : Drive) (s : isKnownState d ≡ true) where
   sense : isKnown (d .unit .sense) ≡ true
   sense = isKnownState-sense d s
 
+  deck : KnownDeck (d .deck)
+  deck = isKnownState-deck d s
+
   button-state : Stays (button d)
   unfolding button
   button-state = either Stays _
       (λ k. either Stays _
-      (λ t. known-isKnownState _ (attend-known (d .deck .«disc_in») (d .unit) sense) (closing-recorded (d .deck) (isKnownState-play d s)))
-      (λ t. either Stays _ (λ l. s) (λ l. known-isKnownState _ (attend-known false (d .unit) sense) noPlay-known)))
+      (λ t. known-isKnownState _ (attend-known (d .deck .«disc_in») (d .unit) sense) (closing-known (d .deck) deck))
+      (λ t. either Stays _ (λ l. s) (λ l. known-isKnownState _ (attend-known false (d .unit) sense) (opening-known (d .deck) deck))))
       (λ k. s)
 
   lay-state : Stays (lay d)
   unfolding lay
-  lay-state = either Stays _ (λ k. either Stays _ (λ t. known-isKnownState _ sense (isKnownState-play d s)) (λ t. s)) (λ k. s)
+  lay-state = either Stays _ (λ k. either Stays _ (λ t. known-isKnownState _ sense (held (d .deck) deck true)) (λ t. s)) (λ k. s)
 
   lift-state : Stays (lift d)
   unfolding lift
-  lift-state = either Stays _ (λ k. either Stays _ (λ t. known-isKnownState _ sense (isKnownState-play d s)) (λ t. s)) (λ k. s)
+  lift-state = either Stays _ (λ k. either Stays _ (λ t. known-isKnownState _ sense (held (d .deck) deck false)) (λ t. s)) (λ k. s)
 
   moveOn-state : (k : ℕ) → Stays (moveOn k d)
   unfolding moveOn
-  moveOn-state k = either Stays _ (λ h. known-isKnownState _ sense (movedOn-known k (d .deck .play) (isKnownState-play d s))) (λ h. s)
+  moveOn-state k =
+      either Stays _ (λ h. known-isKnownState _ sense (played (d .deck) deck (movedOn-known k (d .deck .play) (deck .play)))) (λ h. s)
 
 pub call-state : (c : Call) (d : Drive) → isKnownState d ≡ true → isKnownState (next c d) ≡ true
 call-state (powering f) d s = power-state f d
@@ -261,7 +309,7 @@ call-state pressing d s = button-state d s
 call-state laying d s = lay-state d s
 call-state lifting d s = lift-state d s
 call-state (movingOn k) d s = moveOn-state d s k
-call-state (packet p t m) d s = reply-state d s p t (length m)
+call-state (packet p t l m) d s = reply-state d s p t l (length m)
 
 pub known-final : (calls : List Call) (d : Drive) → isKnownState d ≡ true → isKnownState (final d calls) ≡ true
 known-final [] d s = s
@@ -276,7 +324,7 @@ known-never-2 pressing d s = press-tested d .two ∙ ap not s
 known-never-2 laying d s = lay-tested d .two ∙ ap not s
 known-never-2 lifting d s = lift-tested d .two ∙ ap not s
 known-never-2 (movingOn k) d s = move-tested d k .two ∙ ap not s
-known-never-2 (packet p t m) d s = reply-ordered d p t (length m) .two ∙ never (eqb (length p) 12) (ap not s)
+known-never-2 (packet p t l m) d s = reply-ordered d p t (length m) l .two ∙ never (eqb (length p) 12) (ap not s)
   where
     never : (a : Bool) {b : Bool} → b ≡ false → a and b ≡ false
     never true h = h

@@ -7,6 +7,7 @@ pub mod Whole
 pub mod Known
 pub mod Marked
 pub mod Played
+pub mod Paged
 pub mod Addresses
 pub mod Block
 pub mod Unique
@@ -15,6 +16,7 @@ pub mod Served
 pub mod Call
 pub mod Telling
 pub mod History
+pub mod Stepped
 -- their proofs: over any device, over any deck, for the drive
 pub mod Runs
 pub mod Device

@@ -11,6 +11,7 @@ use Rattle.drive.specs.declared.state.Deck.{Deck}
 use Rattle.drive.specs.declared.state.Drive.{Drive}
 use Rattle.drive.specs.Sense.{triple, senseAt, sameSense, among, isKnown}
 use Rattle.play.specs.Play.{noPlay, isStatus, isPlay}
+use Rattle.page.specs.Page.{defaults, among as amongBytes, isSetting}
 use Rattle.drive.specs.Unit.{attend}
 use Rattle.drive.specs.State.{isKnownState}
 use Rattle.table.specs.Layout.{bound, isTrack, isExtra}
@@ -44,10 +45,10 @@ tableE =
 abbrev pub loadedE : Drive
 loadedE = record {
   unit = record { power = false; change = false; sense = triple 0x00 0x00 0x00 };
-  deck = record { «tray_open» = false; «disc_in» = true; lock = false; play = noPlay };
+  deck = record { «tray_open» = false; «disc_in» = true; lock = false; play = noPlay; page = defaults };
 }
 
--- a packet to the loaded drive with Table E and 6,538 bytes of response memory; the address of M:S:F; the M:S:F of an address
+-- a packet to the loaded drive with Table E, no parameter list and 6,538 bytes of response memory; the address of M:S:F; the M:S:F of an address
 pub data Question : Type 0 where
   packet : (bytes : List ℕ) → Question
   addressFor : (m s f : ℕ) → Question
@@ -94,7 +95,7 @@ shownBy a = record {
 
 -- what the definitions give
 unfoldable pub asked : Question → Outcome
-asked (packet p) = shownBy (answer loadedE p tableE bound)
+asked (packet p) = shownBy (answer loadedE p tableE [] bound)
 asked (addressFor m s f) =
     let a = toBlock m s f in
     record { number = a .number; rule = 0; status = 0x00; sense = triple 0x00 0x00 0x00; shown = a .address ∷ []; start = 0; count = 0 }
@@ -176,5 +177,5 @@ marks =
     ∷ []
 
 pub marked : allMarked marks ≡ true
-unfolding allMarked sameOutcome sameBytes asked _and_ _or_ if_then_else_ every isMsf toMsf toBlock senseAt sameSense among isKnown isStatus isPlay isKnownState attend isTrack isExtra startOf names simple free plain headA0 headA1 headed addressed rowTest one size listed numbered isSession starts before follows inPlace inOrder rule1 rule2 eachRow rises outBefore beginsAfter rising rule7 firstBroken lateRules rowRules fault isFit nextOut outAt covers wanted nextFound found trackOf isMode inMode allIn pendingOf gate decode shownAddress isShown shownTrack shownTracks tocHeaded format0 tocBytes tocBad answering over inRange ranged perform refusalOf answer
+unfolding allMarked sameOutcome sameBytes asked _and_ _or_ if_then_else_ every isMsf toMsf toBlock senseAt sameSense among isKnown isStatus isPlay amongBytes isSetting isKnownState attend isTrack isExtra startOf names simple free plain headA0 headA1 headed addressed rowTest one size listed numbered isSession starts before follows inPlace inOrder rule1 rule2 eachRow rises outBefore beginsAfter rising rule7 firstBroken lateRules rowRules fault isFit nextOut outAt covers wanted nextFound found trackOf isMode inMode allIn pendingOf gate decode shownAddress isShown shownTrack shownTracks tocHeaded format0 tocBytes tocBad answering over inRange ranged perform refusalOf answer
 marked = refl

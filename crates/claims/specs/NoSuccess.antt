@@ -14,8 +14,8 @@ use Rattle.claims.specs.PacketLaws.{packet-needs}
 use Rattle.claims.specs.Device.{blocked}
 use Rattle.claims.specs.DriveDevice.{drive, packet-blocked, greeting-causes}
 
--- in any state, with any table and memory: a packet that needs a disc is not answered GOOD while an attention is pending
-pub no-success : (k : Attention) (d : Drive) (p t m : List ℕ) → isPending k d ≡ true → isNeeding p ≡ true → isGood (answer (packet p t m) d) ≡ false
+-- in any state, with any table, list and memory: a packet that needs a disc is not answered GOOD while an attention is pending
+pub no-success : (k : Attention) (d : Drive) (p t l m : List ℕ) → isPending k d ≡ true → isNeeding p ≡ true → isGood (answer (packet p t l m) d) ≡ false
 no-success = packet-blocked
 
 -- from power-on, in either form, over any calls: no call is such a success while one stands in the history

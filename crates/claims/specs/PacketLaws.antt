@@ -13,13 +13,17 @@ use Rattle.disc.specs.Rules.{isFit}
 use Rattle.disc.specs.Part.{unfit, ruleWith}
 use Rattle.gate.specs.Gate.{Result, refuse, gate}
 use Rattle.command.specs.declared.decode.Command.{Command}
-use Rattle.command.specs.declared.decode.Command.the-variants.{TestUnitReady, RequestSense, Inquiry, StartStop, Prevent, ReadCapacity, Read10, Seek, ReadToc, Read12, PlayAudio, PauseResume, ReadSubChannel, Unknown}
+use Rattle.command.specs.declared.decode.Command.the-variants.{TestUnitReady, RequestSense, Inquiry, StartStop, Prevent, ReadCapacity, Read10, Seek, ReadToc, Read12, PlayAudio, PauseResume, ReadSubChannel, ModeSense, ModeSelect, Unknown}
 use Rattle.command.specs.Command.{decode, byte, codeOf, needsDisc, loEj, start}
 use Rattle.command.specs.Tray.{eject, load, startStop}
 use Rattle.command.specs.Done.{answering}
 use Rattle.blocks.specs.Range.{ranged}
 use Rattle.blocks.specs.Blocks.{seek}
 use Rattle.audio.specs.Audio.{started, pauseResume}
+use Rattle.mode.specs.declared.mode_sense.Shown.{Shown}
+use Rattle.mode.specs.declared.mode_sense.Shown.the-variants.{Fails, Values}
+use Rattle.mode.specs.ModeSense.{pageShown, gives, modeSense}
+use Rattle.mode.specs.ModeSelect.{selected, modeSelect}
 use Rattle.target.specs.Perform.{work, perform}
 use Rattle.target.specs.Packet.{steps, refusalOf, answer as replyTo}
 use Rattle.target.specs.PacketLaws.{stepsOf}
@@ -41,29 +45,33 @@ isRequest Read12 = false
 isRequest PlayAudio = false
 isRequest PauseResume = false
 isRequest ReadSubChannel = false
+isRequest ModeSense = false
+isRequest ModeSelect = false
 isRequest Unknown = false
 
 -- REQUEST SENSE, INQUIRY, or a command that meets the gate
 pub data Seen : Command → Type 0 where
   asking : Seen RequestSense
   freeing : Seen Inquiry
-  ordering : {c : Command} → isRequest c ≡ false → ((u : Unit) (m : Deck) (p t : List ℕ) → steps c u m p t ≡ gate u m (perform c p m t)) → Seen c
+  ordering : {c : Command} → isRequest c ≡ false → ((u : Unit) (m : Deck) (p t l : List ℕ) → steps c u m p t l ≡ gate u m (perform c p m t l)) → Seen c
 
 pub seen : (c : Command) → Seen c
-seen TestUnitReady = ordering refl (λ u m p t. refl)
+seen TestUnitReady = ordering refl (λ u m p t l. refl)
 seen RequestSense = asking
 seen Inquiry = freeing
-seen StartStop = ordering refl (λ u m p t. refl)
-seen Prevent = ordering refl (λ u m p t. refl)
-seen ReadCapacity = ordering refl (λ u m p t. refl)
-seen Read10 = ordering refl (λ u m p t. refl)
-seen Seek = ordering refl (λ u m p t. refl)
-seen ReadToc = ordering refl (λ u m p t. refl)
-seen Read12 = ordering refl (λ u m p t. refl)
-seen PlayAudio = ordering refl (λ u m p t. refl)
-seen PauseResume = ordering refl (λ u m p t. refl)
-seen ReadSubChannel = ordering refl (λ u m p t. refl)
-seen Unknown = ordering refl (λ u m p t. refl)
+seen StartStop = ordering refl (λ u m p t l. refl)
+seen Prevent = ordering refl (λ u m p t l. refl)
+seen ReadCapacity = ordering refl (λ u m p t l. refl)
+seen Read10 = ordering refl (λ u m p t l. refl)
+seen Seek = ordering refl (λ u m p t l. refl)
+seen ReadToc = ordering refl (λ u m p t l. refl)
+seen Read12 = ordering refl (λ u m p t l. refl)
+seen PlayAudio = ordering refl (λ u m p t l. refl)
+seen PauseResume = ordering refl (λ u m p t l. refl)
+seen ReadSubChannel = ordering refl (λ u m p t l. refl)
+seen ModeSense = ordering refl (λ u m p t l. refl)
+seen ModeSelect = ordering refl (λ u m p t l. refl)
+seen Unknown = ordering refl (λ u m p t l. refl)
 
 abbrev pub kindOf : {c : Command} → Seen c → List ℕ → Result Deck → Kind Deck
 kindOf asking p r = asks (byte p 4)
@@ -71,13 +79,13 @@ kindOf freeing p r = frees r
 kindOf (ordering n g) p r = orders r
 
 -- what the packet comes to
-abbrev pub kind : List ℕ → Deck → List ℕ → Kind Deck
-kind p m t = kindOf (seen (decode (codeOf p))) p (perform (decode (codeOf p)) p m t)
+abbrev pub kind : List ℕ → Deck → List ℕ → List ℕ → Kind Deck
+kind p m t l = kindOf (seen (decode (codeOf p))) p (perform (decode (codeOf p)) p m t l)
 
-kind-steps : {c : Command} (s : Seen c) (u : Unit) (m : Deck) (p t : List ℕ) → steps c u m p t ≡ reply (kindOf s p (perform c p m t)) u m
-kind-steps asking u m p t = refl
-kind-steps freeing u m p t = refl
-kind-steps (ordering n g) u m p t = g u m p t
+kind-steps : {c : Command} (s : Seen c) (u : Unit) (m : Deck) (p t l : List ℕ) → steps c u m p t l ≡ reply (kindOf s p (perform c p m t l)) u m
+kind-steps asking u m p t l = refl
+kind-steps freeing u m p t l = refl
+kind-steps (ordering n g) u m p t l = g u m p t l
 
 kind-request : {c : Command} (s : Seen c) (p : List ℕ) (r : Result Deck) → isAsking (kindOf s p r) ≡ isRequest c
 kind-request asking p r = refl
@@ -89,37 +97,37 @@ kind-needs asking p r h = absurd (false≢true h)
 kind-needs freeing p r h = absurd (false≢true h)
 kind-needs (ordering n g) p r h = refl
 
--- while an attention is pending the lent table is not looked at
-kind-blind : {c : Command} (s : Seen c) (u : Unit) (m : Deck) (p t t′ : List ℕ) → anyPending u ≡ true
-    → reply (kindOf s p (perform c p m t)) u m ≡ reply (kindOf s p (perform c p m t′)) u m
+-- while an attention is pending neither the lent table nor the parameter list is looked at
+kind-blind : {c : Command} (s : Seen c) (u : Unit) (m : Deck) (p t t′ l l′ : List ℕ) → anyPending u ≡ true
+    → reply (kindOf s p (perform c p m t l)) u m ≡ reply (kindOf s p (perform c p m t′ l′)) u m
 unfolding perform _and_ if_then_else_
-kind-blind asking u m p t t′ l = refl
-kind-blind freeing u m p t t′ l = refl
-kind-blind (ordering n g) u m p t t′ l = gate-blind u m _ _ l
+kind-blind asking u m p t t′ l l′ a = refl
+kind-blind freeing u m p t t′ l l′ a = refl
+kind-blind (ordering n g) u m p t t′ l l′ a = gate-blind u m _ _ a
 
-pub steps-blind : (c : Command) (u : Unit) (m : Deck) (p t t′ : List ℕ) → anyPending u ≡ true → steps c u m p t ≡ steps c u m p t′
-steps-blind c u m p t t′ l =
-    kind-steps (seen c) u m p t ∙ kind-blind (seen c) u m p t t′ l ∙ sym (kind-steps (seen c) u m p t′)
+pub steps-blind : (c : Command) (u : Unit) (m : Deck) (p t t′ l l′ : List ℕ) → anyPending u ≡ true → steps c u m p t l ≡ steps c u m p t′ l′
+steps-blind c u m p t t′ l l′ a =
+    kind-steps (seen c) u m p t l ∙ kind-blind (seen c) u m p t t′ l l′ a ∙ sym (kind-steps (seen c) u m p t′ l′)
 
 -- ---- refused or not
 
-pub stepsOf-kind : (d : Drive) (p t : List ℕ) → stepsOf d p t ≡ reply (kind p (d .deck) t) (d .unit) (d .deck)
-stepsOf-kind d p t = kind-steps (seen (decode (codeOf p))) (d .unit) (d .deck) p t
+pub stepsOf-kind : (d : Drive) (p t l : List ℕ) → stepsOf d p t l ≡ reply (kind p (d .deck) t l) (d .unit) (d .deck)
+stepsOf-kind d p t l = kind-steps (seen (decode (codeOf p))) (d .unit) (d .deck) p t l
 
 -- the rule beside a packet's number
 abbrev pub ruleOf : Drive → List ℕ → List ℕ → ℕ → ℕ
 ruleOf d p t n = ruleWith (refusalOf d p t n) t
 
 -- the answer is that of the packet's kind, or the refusal
-pub reply-kind : (d : Drive) (p t : List ℕ) (n : ℕ)
-    → replyTo d p t n ≡ meets (refusalOf d p t n) (ruleOf d p t n) (kind p (d .deck) t) (d .unit) (d .deck)
+pub reply-kind : (d : Drive) (p t l : List ℕ) (n : ℕ)
+    → replyTo d p t l n ≡ meets (refusalOf d p t n) (ruleOf d p t n) (kind p (d .deck) t l) (d .unit) (d .deck)
 unfolding replyTo
-reply-kind d p t n = by-number (refusalOf d p t n)
+reply-kind d p t l n = by-number (refusalOf d p t n)
   where
     by-number : (j : ℕ)
-        → (if eqb j 0 then stepsOf d p t else refuse j (ruleWith j t) (d .unit) (d .deck))
-        ≡ meets j (ruleWith j t) (kind p (d .deck) t) (d .unit) (d .deck)
-    by-number zero = when _ _ _ refl ∙ stepsOf-kind d p t
+        → (if eqb j 0 then stepsOf d p t l else refuse j (ruleWith j t) (d .unit) (d .deck))
+        ≡ meets j (ruleWith j t) (kind p (d .deck) t l) (d .unit) (d .deck)
+    by-number zero = when _ _ _ refl ∙ stepsOf-kind d p t l
     by-number (suc j) = unless _ _ _ (eqb·suc-zero j)
 
 -- ---- no command but a closing is a loading
@@ -168,33 +176,49 @@ pauseResume-fair : (resume : Bool) (m : Deck) → Fair m (pauseResume resume m)
 unfolding pauseResume
 pauseResume-fair resume m = either (Fair m) _ (λ h. closed-still m) (λ h. closed-still m)
 
-work-fair : (c : Command) (p : List ℕ) (m : Deck) (t : List ℕ) → Fair m (work c p m t)
-work-fair TestUnitReady p m t = closed-still m
-work-fair RequestSense p m t = closed-still m
-work-fair Inquiry p m t = answering-fair _ m m _ _ (closed-still m)
-work-fair StartStop p m t = startStop-fair (byte p 4) m
-work-fair Prevent p m t = closed-still m
-work-fair ReadCapacity p m t = answering-fair _ m m _ _ (closed-still m)
-work-fair Read10 p m t = ranged-fair _ _ _ _ m _ (closed-still m)
-work-fair Seek p m t = seek-fair _ _ m
-work-fair ReadToc p m t = answering-fair _ m m _ _ (closed-still m)
-work-fair Read12 p m t = ranged-fair _ _ _ _ m _ (closed-still m)
-work-fair PlayAudio p m t = ranged-fair _ _ _ _ m _ (started-fair _ _ m)
-work-fair PauseResume p m t = pauseResume-fair _ m
-work-fair ReadSubChannel p m t = answering-fair _ m _ _ _ (closed-still m)
-work-fair Unknown p m t = closed-still m
+gives-fair : (s : Shown) (limit : ℕ) (m : Deck) → Fair m (gives s limit m)
+gives-fair (Fails f) limit m = closed-still m
+gives-fair (Values g) limit m = answering-fair false m m _ limit (closed-still m)
 
-perform-fair : (c : Command) (p : List ℕ) (m : Deck) (t : List ℕ) → Fair m (perform c p m t)
+modeSense-fair : (b limit : ℕ) (m : Deck) → Fair m (modeSense b limit m)
+modeSense-fair b limit m = gives-fair (pageShown b (m .page)) limit m
+
+modeSelect-fair : (n : ℕ) (l : List ℕ) (m : Deck) → Fair m (modeSelect n l m)
+unfolding modeSelect selected
+modeSelect-fair n l m =
+    either (Fair m) _
+    (λ h. either (Fair m) _ (λ k. closed-still m) (λ k. either (Fair m) _ (λ s. closed-still m) (λ s. closed-still m)))
+    (λ h. closed-still m)
+
+work-fair : (c : Command) (p : List ℕ) (m : Deck) (t l : List ℕ) → Fair m (work c p m t l)
+work-fair TestUnitReady p m t l = closed-still m
+work-fair RequestSense p m t l = closed-still m
+work-fair Inquiry p m t l = answering-fair _ m m _ _ (closed-still m)
+work-fair StartStop p m t l = startStop-fair (byte p 4) m
+work-fair Prevent p m t l = closed-still m
+work-fair ReadCapacity p m t l = answering-fair _ m m _ _ (closed-still m)
+work-fair Read10 p m t l = ranged-fair _ _ _ _ m _ (closed-still m)
+work-fair Seek p m t l = seek-fair _ _ m
+work-fair ReadToc p m t l = answering-fair _ m m _ _ (closed-still m)
+work-fair Read12 p m t l = ranged-fair _ _ _ _ m _ (closed-still m)
+work-fair PlayAudio p m t l = ranged-fair _ _ _ _ m _ (started-fair _ _ m)
+work-fair PauseResume p m t l = pauseResume-fair _ m
+work-fair ReadSubChannel p m t l = answering-fair _ m _ _ _ (closed-still m)
+work-fair ModeSense p m t l = modeSense-fair _ _ m
+work-fair ModeSelect p m t l = modeSelect-fair _ l m
+work-fair Unknown p m t l = closed-still m
+
+perform-fair : (c : Command) (p : List ℕ) (m : Deck) (t l : List ℕ) → Fair m (perform c p m t l)
 unfolding perform
-perform-fair c p m t = either (Fair m) _ (λ h. closed-still m) (λ h. work-fair c p m t)
+perform-fair c p m t l = either (Fair m) _ (λ h. closed-still m) (λ h. work-fair c p m t l)
 
-kind-fair : {c : Command} (s : Seen c) (p : List ℕ) (m : Deck) (t : List ℕ) → Honest closed m (kindOf s p (perform c p m t))
-kind-fair asking p m t = closed-still m
-kind-fair freeing p m t = (perform-fair Inquiry p m t, closed-still m)
-kind-fair (ordering {c} n g) p m t = (perform-fair c p m t, closed-still m)
+kind-fair : {c : Command} (s : Seen c) (p : List ℕ) (m : Deck) (t l : List ℕ) → Honest closed m (kindOf s p (perform c p m t l))
+kind-fair asking p m t l = closed-still m
+kind-fair freeing p m t l = (perform-fair Inquiry p m t l, closed-still m)
+kind-fair (ordering {c} n g) p m t l = (perform-fair c p m t l, closed-still m)
 
-pub packet-fair : (p : List ℕ) (m : Deck) (t : List ℕ) → Honest closed m (kind p m t)
-packet-fair p m t = kind-fair (seen (decode (codeOf p))) p m t
+pub packet-fair : (p : List ℕ) (m : Deck) (t l : List ℕ) → Honest closed m (kind p m t l)
+packet-fair p m t l = kind-fair (seen (decode (codeOf p))) p m t l
 
 -- ---- the packet's code
 
@@ -205,7 +229,7 @@ decode-request n =
     either P _ (λ h. at 0x00 h) (λ h. either P _ (λ h. h) (λ h₃. either P _ (λ h. h₃) (λ h.
     either P _ (λ h. h₃) (λ h. either P _ (λ h. h₃) (λ h. either P _ (λ h. h₃) (λ h. either P _ (λ h. h₃) (λ h.
     either P _ (λ h. h₃) (λ h. either P _ (λ h. h₃) (λ h. either P _ (λ h. h₃) (λ h. either P _ (λ h. h₃) (λ h.
-    either P _ (λ h. h₃) (λ h. either P _ (λ h. h₃) (λ h. h₃)))))))))))))
+    either P _ (λ h. h₃) (λ h. either P _ (λ h. h₃) (λ h. either P _ (λ h. h₃) (λ h. either P _ (λ h. h₃) (λ h. h₃)))))))))))))))
   where
     P : Command → Type 0
     P c = eqb n 0x03 ≡ isRequest c
@@ -213,8 +237,8 @@ decode-request n =
     at : (k : ℕ) → eqb n k ≡ true → eqb n 0x03 ≡ eqb k 0x03
     at k h = rw (eqb-true n k h)
 
-pub packet-request : (p : List ℕ) (m : Deck) (t : List ℕ) → isAsking (kind p m t) ≡ isRequestSense p
-packet-request p m t = kind-request (seen (decode (codeOf p))) p _ ∙ sym (decode-request (codeOf p))
+pub packet-request : (p : List ℕ) (m : Deck) (t l : List ℕ) → isAsking (kind p m t l) ≡ isRequestSense p
+packet-request p m t l = kind-request (seen (decode (codeOf p))) p _ ∙ sym (decode-request (codeOf p))
 
 decode-needs : (n : ℕ) (b : Bool) (p : List ℕ) → b ≡ not (loEj p) and start p
     → eqb n 0x00 or eqb n 0x25 or eqb n 0x28 or eqb n 0x2B or eqb n 0x43 or eqb n 0xA8 or eqb n 0x45 or eqb n 0x4B or eqb n 0x42 or eqb n 0x1B and b ≡ needsDisc (decode n) p
@@ -224,7 +248,8 @@ decode-needs n b p e =
     either P _ (λ h. rw (eqb-true n _ h) e) (λ h1B. either P _ (λ h. rw (eqb-true n _ h)) (λ h1E. either P _ (λ h. rw (eqb-true n _ h)) (λ h25.
     either P _ (λ h. rw (eqb-true n _ h)) (λ h28. either P _ (λ h. rw (eqb-true n _ h)) (λ h2B. either P _ (λ h. rw (eqb-true n _ h)) (λ h43.
     either P _ (λ h. rw (eqb-true n _ h)) (λ hA8. either P _ (λ h. rw (eqb-true n _ h)) (λ h45. either P _ (λ h. rw (eqb-true n _ h)) (λ h4B.
-    either P _ (λ h. rw (eqb-true n _ h)) (λ h42. rw (h0, h1B, h25, h28, h2B, h43, hA8, h45, h4B, h42))))))))))))))
+    either P _ (λ h. rw (eqb-true n _ h)) (λ h42. either P _ (λ h. rw (eqb-true n _ h)) (λ h5A. either P _ (λ h. rw (eqb-true n _ h)) (λ h55.
+    rw (h0, h1B, h25, h28, h2B, h43, hA8, h45, h4B, h42))))))))))))))))
   where
     P : Command → Type 0
     P c = eqb n 0x00 or eqb n 0x25 or eqb n 0x28 or eqb n 0x2B or eqb n 0x43 or eqb n 0xA8 or eqb n 0x45 or eqb n 0x4B or eqb n 0x42 or eqb n 0x1B and b ≡ needsDisc c p
@@ -233,8 +258,8 @@ pub packet-needs : (p : List ℕ) → isNeeding p ≡ needsDisc (decode (codeOf 
 unfolding isNeeding
 packet-needs p = decode-needs (codeOf p) _ p refl
 
-pub packet-orders : (p : List ℕ) (m : Deck) (t : List ℕ) → isNeeding p ≡ true → (r : Result Deck) × (kind p m t ≡ orders r)
-packet-orders p m t h = (_, kind-needs (seen (decode (codeOf p))) p _ (sym (packet-needs p) ∙ h))
+pub packet-orders : (p : List ℕ) (m : Deck) (t l : List ℕ) → isNeeding p ≡ true → (r : Result Deck) × (kind p m t l ≡ orders r)
+packet-orders p m t l h = (_, kind-needs (seen (decode (codeOf p))) p _ (sym (packet-needs p) ∙ h))
 
 -- ---- the lent table
 
@@ -243,8 +268,14 @@ ruleWith-fit : (n : ℕ) (t : List ℕ) → isFit t ≡ true → ruleWith n t �
 unfolding ruleWith isFit
 ruleWith-fit n t f = either (λ x. x ≡ 0) (eqb n unfit) (λ h. eqb-true _ _ f) (λ h. refl)
 
--- while an attention is pending two fit tables give one answer
-pub packet-blind : (d : Drive) (p t t′ : List ℕ) (n : ℕ) → isFit t ≡ true → isFit t′ ≡ true → anyPending (d .unit) ≡ true → replyTo d p t n ≡ replyTo d p t′ n
+-- while an attention is pending two fit tables give one answer, with any two lists
+pub packet-blind : (d : Drive) (p t t′ l l′ : List ℕ) (n : ℕ) → isFit t ≡ true → isFit t′ ≡ true → anyPending (d .unit) ≡ true
+    → replyTo d p t l n ≡ replyTo d p t′ l′ n
 unfolding replyTo refusalOf
-packet-blind d p t t′ n f g l =
-    rw (ruleWith-fit _ t f, ruleWith-fit _ t′ g, f, g, steps-blind (decode (codeOf p)) (d .unit) (d .deck) p t t′ l)
+packet-blind d p t t′ l l′ n f g a =
+    rw (ruleWith-fit _ t f, ruleWith-fit _ t′ g, f, g, steps-blind (decode (codeOf p)) (d .unit) (d .deck) p t t′ l l′ a)
+
+-- and so do two lists with one table, fit or not
+pub packet-unlisted : (d : Drive) (p t l l′ : List ℕ) (n : ℕ) → anyPending (d .unit) ≡ true → replyTo d p t l n ≡ replyTo d p t l′ n
+unfolding replyTo
+packet-unlisted d p t l l′ n a = rw (steps-blind (decode (codeOf p)) (d .unit) (d .deck) p t t l l′ a)

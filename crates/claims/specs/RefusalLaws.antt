@@ -82,9 +82,9 @@ call-unchanged pressing d n = (button-refused d n, refl)
 call-unchanged laying d n = (lay-refused d n, refl)
 call-unchanged lifting d n = (lift-refused d n, refl)
 call-unchanged (movingOn k) d n = (moveOn-refused d k n, refl)
-call-unchanged (packet p t m) d n =
-    let e = meets-unchanged (refusalOf d p t (length m)) (ruleOf d p t (length m)) (kind p (d .deck) t) d m in
-    let u : Unchanged d m (replyTo d p t (length m)) = rw (reply-kind d p t (length m)) e in
+call-unchanged (packet p t l m) d n =
+    let e = meets-unchanged (refusalOf d p t (length m)) (ruleOf d p t (length m)) (kind p (d .deck) t l) d m in
+    let u : Unchanged d m (replyTo d p t l (length m)) = rw (reply-kind d p t l (length m)) e in
     u n
 
 -- a refused call is no cause and tells nothing
@@ -100,7 +100,7 @@ refused-unloaded pressing d h = rw h (closed-still (d .deck))
 refused-unloaded laying d h = refl
 refused-unloaded lifting d h = refl
 refused-unloaded (movingOn k) d h = refl
-refused-unloaded (packet p t m) d h = ap (λ (e : Drive). closed (d .deck) (e .deck)) h ∙ closed-still (d .deck)
+refused-unloaded (packet p t l m) d h = ap (λ (e : Drive). closed (d .deck) (e .deck)) h ∙ closed-still (d .deck)
 
 refused-on : (c : Call) (d : Drive) → (answer c d .number ≡ 0 → ⊥) → isPowering c ≡ false
 refused-on (powering f) d n = absurd (n refl)
@@ -108,7 +108,7 @@ refused-on pressing d n = refl
 refused-on laying d n = refl
 refused-on lifting d n = refl
 refused-on (movingOn k) d n = refl
-refused-on (packet p t m) d n = refl
+refused-on (packet p t l m) d n = refl
 
 refused-causes : (k : Attention) (c : Call) (d : Drive) → (answer c d .number ≡ 0 → ⊥) → causes k (event c d) ≡ false
 refused-causes k c d n = causes-only k c d (refused-on c d n) ∙ only-none k _ (refused-unloaded c d (call-unchanged c d n .0))
@@ -119,8 +119,8 @@ refused-tells k pressing d n = refl
 refused-tells k laying d n = refl
 refused-tells k lifting d n = refl
 refused-tells k (movingOn j) d n = refl
-refused-tells k (packet p t m) d n =
-    refused-untold k (isRequestSense p) (d .unit) (next (packet p t m) d .unit) (answer (packet p t m) d) (ne-eqb (answer (packet p t m) d .number) 0 n)
+refused-tells k (packet p t l m) d n =
+    refused-untold k (isRequestSense p) (d .unit) (next (packet p t l m) d .unit) (answer (packet p t l m) d) (ne-eqb (answer (packet p t l m) d .number) 0 n)
 
 pub refused-silent : (k : Attention) (c : Call) (d : Drive) → (answer c d .number ≡ 0 → ⊥) → (causes k (event c d) ≡ false) × (tells k (event c d) ≡ false)
 refused-silent k c d n = (refused-causes k c d n, refused-tells k c d n)
@@ -186,13 +186,6 @@ module _ (d : Drive) (p t : List ℕ) (n : ℕ) where
       by-tests true true false true = record { zero = refl; one = refl; two = refl; three = refl; four = refl; most = omega arith }
       by-tests true true false false = record { zero = refl; one = refl; two = refl; three = refl; four = refl; most = omega arith }
 
-  -- the answer's number is that of the refusal, and the rule that beside it
-  reply-refusal : Numbered (refusalOf d p t n) (ruleOf d p t n) (replyTo d p t n)
-  reply-refusal = rw (reply-kind d p t n) (meets-numbered (refusalOf d p t n) t (kind p (d .deck) t) (d .unit) (d .deck))
-
-  pub reply-ordered : Ordered (eqb (length p) 12) (isKnownState d) (ltb n bound) (isLoaded (d .deck) and not (isFit t)) (replyTo d p t n .number)
-  reply-ordered = rw (reply-refusal .0) refusal-ordered
-
   -- the packet's table is looked at
   abbrev looked : Bool
   looked = eqb (length p) 12 and isKnownState d and not (ltb n bound) and isLoaded (d .deck)
@@ -200,12 +193,20 @@ module _ (d : Drive) (p t : List ℕ) (n : ℕ) where
   refusal-unfit : eqb (refusalOf d p t n) 4 ≡ looked and not (isFit t)
   refusal-unfit = refusal-ordered .four ∙ sym (simp and-assoc)
 
-  pub reply-beside : Beside (eqb (replyTo d p t n .number) 4) (replyTo d p t n .rule)
-  reply-beside = rw (reply-refusal .0, reply-refusal .1) (ruleWith-beside (refusalOf d p t n) t looked refusal-unfit)
+  module _ (l : List ℕ) where
+    -- the answer's number is that of the refusal, and the rule that beside it, with any list
+    reply-refusal : Numbered (refusalOf d p t n) (ruleOf d p t n) (replyTo d p t l n)
+    reply-refusal = rw (reply-kind d p t l n) (meets-numbered (refusalOf d p t n) t (kind p (d .deck) t l) (d .unit) (d .deck))
 
-  pub reply-broken : (i : ℕ) {b : Bool} → eqb 0 i ≡ false → eqb (fault t) i ≡ b
-      → eqb (replyTo d p t n .number) 4 and eqb (replyTo d p t n .rule) i ≡ looked and b
-  reply-broken i z e = rw (reply-refusal .0, reply-refusal .1) (ruleWith-broken (refusalOf d p t n) t looked refusal-unfit i z e)
+    pub reply-ordered : Ordered (eqb (length p) 12) (isKnownState d) (ltb n bound) (isLoaded (d .deck) and not (isFit t)) (replyTo d p t l n .number)
+    reply-ordered = rw (reply-refusal .0) refusal-ordered
+
+    pub reply-beside : Beside (eqb (replyTo d p t l n .number) 4) (replyTo d p t l n .rule)
+    reply-beside = rw (reply-refusal .0, reply-refusal .1) (ruleWith-beside (refusalOf d p t n) t looked refusal-unfit)
+
+    pub reply-broken : (i : ℕ) {b : Bool} → eqb 0 i ≡ false → eqb (fault t) i ≡ b
+        → eqb (replyTo d p t l n .number) 4 and eqb (replyTo d p t l n .rule) i ≡ looked and b
+    reply-broken i z e = rw (reply-refusal .0, reply-refusal .1) (ruleWith-broken (refusalOf d p t n) t looked refusal-unfit i z e)
 
 -- ---- the other calls
 
@@ -302,7 +303,7 @@ call-beside pressing d = beside-none _ (press-tested d .four)
 call-beside laying d = beside-none _ (lay-tested d .four)
 call-beside lifting d = beside-none _ (lift-tested d .four)
 call-beside (movingOn k) d = beside-none _ (move-tested d k .four)
-call-beside (packet p t m) d = reply-beside d p t (length m)
+call-beside (packet p t l m) d = reply-beside d p t (length m) l
 
 -- ---- the session part and the addresses
 

@@ -12,6 +12,7 @@ use Rattle.address.specs.Address.{toMsf, toBlock, isMsf}
 use Rattle.drive.specs.declared.state.Drive.{Drive}
 use Rattle.drive.specs.Sense.{triple, senseAt, isKnown}
 use Rattle.play.specs.Play.{isStatus, isPlay}
+use Rattle.page.specs.Page.{settings, among, isSetting}
 use Rattle.drive.specs.State.{isKnownState, isLoaded}
 use Rattle.drive.specs.StateLaws.{powerOn-with, powerOnWithoutChange-with}
 use Rattle.table.specs.Layout.{bound, lastSession, descriptors}
@@ -81,15 +82,16 @@ module _ (d : Drive) where
       → (leb 1 (answer c d .rule) and leb (answer c d .rule) 7 ≡ gives c 4) × (eqb (answer c d .rule) 0 ≡ not (gives c 4))
   refused-rule c = let b = call-beside c d in (b .one, b .none)
 
-  -- ---- 2: "held sense is none of the ten below"; K2: "2 also covers another status, a position past its end, or an end over 449,849"
+  -- ---- 2: "held sense is none of the ten below"; K2: "2 also covers another status, a position past its end, or an end over 449,849"; K4:
+  -- "refusal 2 admits these triples, and covers a recovery byte outside the twenty"
 
   -- none of that holds of the state
   abbrev isState : Bool
   isState = isKnownState d
 
-  -- the held sense is one of the ten
-  abbrev isOfTen : Bool
-  isOfTen = isKnown (d .unit .sense)
+  -- the held sense is one of the thirteen
+  abbrev isOfThirteen : Bool
+  isOfThirteen = isKnown (d .unit .sense)
 
   -- the status is one of the four
   abbrev isOfFour : Bool
@@ -99,13 +101,21 @@ module _ (d : Drive) where
       or eqb (d .deck .play .status) 0x13
       or eqb (d .deck .play .status) 0x15
 
-  pub refused-2-state : isState ≡ isOfTen and isOfFour and leb (d .deck .play .position) (d .deck .play .end) and leb (d .deck .play .end) 449849
-  unfolding isKnownState isPlay isStatus
+  -- the position is not past its end, and the end is a block's address
+  abbrev isWithin : Bool
+  isWithin = leb (d .deck .play .position) (d .deck .play .end) and leb (d .deck .play .end) 449849
+
+  -- the recovery byte is one of the twenty
+  abbrev isOfTwenty : Bool
+  isOfTwenty = among settings (d .deck .page .recovery)
+
+  pub refused-2-state : isState ≡ isOfThirteen and (isOfFour and isWithin) and isOfTwenty
+  unfolding isKnownState isPlay isStatus isSetting
   refused-2-state = refl
 
   -- ---- "Packets test 1, 2, 3, 4, then the steps below"; K9: and nothing more
 
-  module _ (p t m : List ℕ) where
+  module _ (p t l m : List ℕ) where
     -- the packet is 12 bytes
     abbrev isTwelve : Bool
     isTwelve = eqb (length p) 12
@@ -118,54 +128,54 @@ module _ (d : Drive) where
     abbrev isUnfit : Bool
     isUnfit = isLoaded (d .deck) and not (isFit t)
 
-    pub refused-1 : gives (packet p t m) 1 ≡ not isTwelve
-    refused-1 = reply-ordered d p t (length m) .one
+    pub refused-1 : gives (packet p t l m) 1 ≡ not isTwelve
+    refused-1 = reply-ordered d p t (length m) l .one
 
-    pub refused-2 : gives (packet p t m) 2 ≡ isTwelve and not isState
-    refused-2 = reply-ordered d p t (length m) .two
+    pub refused-2 : gives (packet p t l m) 2 ≡ isTwelve and not isState
+    refused-2 = reply-ordered d p t (length m) l .two
 
-    pub refused-3 : gives (packet p t m) 3 ≡ isTwelve and isState and isUnder
-    refused-3 = reply-ordered d p t (length m) .three
+    pub refused-3 : gives (packet p t l m) 3 ≡ isTwelve and isState and isUnder
+    refused-3 = reply-ordered d p t (length m) l .three
 
-    pub refused-4 : gives (packet p t m) 4 ≡ isTwelve and isState and not isUnder and isUnfit
-    refused-4 = reply-ordered d p t (length m) .four
+    pub refused-4 : gives (packet p t l m) 4 ≡ isTwelve and isState and not isUnder and isUnfit
+    refused-4 = reply-ordered d p t (length m) l .four
 
     -- K6: with the broken rule beside it, where the table is looked at
     abbrev isLooked : Bool
     isLooked = isTwelve and isState and not isUnder and isLoaded (d .deck)
 
-    pub refused-4-rule1 : breaks (packet p t m) 1 ≡ isLooked and isFirst1 t
-    refused-4-rule1 = reply-broken d p t (length m) 1 refl (fault-first t .one)
+    pub refused-4-rule1 : breaks (packet p t l m) 1 ≡ isLooked and isFirst1 t
+    refused-4-rule1 = reply-broken d p t (length m) l 1 refl (fault-first t .one)
 
-    pub refused-4-rule2 : breaks (packet p t m) 2 ≡ isLooked and isFirst2 t
-    refused-4-rule2 = reply-broken d p t (length m) 2 refl (fault-first t .two)
+    pub refused-4-rule2 : breaks (packet p t l m) 2 ≡ isLooked and isFirst2 t
+    refused-4-rule2 = reply-broken d p t (length m) l 2 refl (fault-first t .two)
 
-    pub refused-4-rule3 : breaks (packet p t m) 3 ≡ isLooked and isFirst3 t
-    refused-4-rule3 = reply-broken d p t (length m) 3 refl (fault-first t .three)
+    pub refused-4-rule3 : breaks (packet p t l m) 3 ≡ isLooked and isFirst3 t
+    refused-4-rule3 = reply-broken d p t (length m) l 3 refl (fault-first t .three)
 
-    pub refused-4-rule4 : breaks (packet p t m) 4 ≡ isLooked and isFirst4 t
-    refused-4-rule4 = reply-broken d p t (length m) 4 refl (fault-first t .four)
+    pub refused-4-rule4 : breaks (packet p t l m) 4 ≡ isLooked and isFirst4 t
+    refused-4-rule4 = reply-broken d p t (length m) l 4 refl (fault-first t .four)
 
-    pub refused-4-rule5 : breaks (packet p t m) 5 ≡ isLooked and isFirst5 t
-    refused-4-rule5 = reply-broken d p t (length m) 5 refl (fault-first t .five)
+    pub refused-4-rule5 : breaks (packet p t l m) 5 ≡ isLooked and isFirst5 t
+    refused-4-rule5 = reply-broken d p t (length m) l 5 refl (fault-first t .five)
 
-    pub refused-4-rule6 : breaks (packet p t m) 6 ≡ isLooked and isFirst6 t
-    refused-4-rule6 = reply-broken d p t (length m) 6 refl (fault-first t .six)
+    pub refused-4-rule6 : breaks (packet p t l m) 6 ≡ isLooked and isFirst6 t
+    refused-4-rule6 = reply-broken d p t (length m) l 6 refl (fault-first t .six)
 
-    pub refused-4-rule7 : breaks (packet p t m) 7 ≡ isLooked and isFirst7 t
-    refused-4-rule7 = reply-broken d p t (length m) 7 refl (fault-first t .seven)
+    pub refused-4-rule7 : breaks (packet p t l m) 7 ≡ isLooked and isFirst7 t
+    refused-4-rule7 = reply-broken d p t (length m) l 7 refl (fault-first t .seven)
 
-    pub refused-not : gives (packet p t m) 0 ≡ isTwelve and isState and not isUnder and not isUnfit
-    refused-not = reply-ordered d p t (length m) .zero
+    pub refused-not : gives (packet p t l m) 0 ≡ isTwelve and isState and not isUnder and not isUnfit
+    refused-not = reply-ordered d p t (length m) l .zero
 
     -- K9: and no other number
-    pub refused-most : answer (packet p t m) d .number ≤ 4
-    refused-most = let o = reply-ordered d p t (length m) .most in omega arith
+    pub refused-most : answer (packet p t l m) d .number ≤ 4
+    refused-most = let o = reply-ordered d p t (length m) l .most in omega arith
 
   -- ---- power-on
 
   -- "Power-on .. keeps the handed state's tray and disc and is never refused: lock off, sense 00/00/00, power attention pending"; K2:
-  -- "Power-on .. set 15h, position 0 and end 0": of every state, also one that refusal 2 meets. It hands back the state alone, and no number.
+  -- "Power-on .. set 15h, position 0 and end 0"; K4: "Power-on restores defaults", 0 and 0: of every state, also one that refusal 2 meets. It hands back the state alone, and no number.
   abbrev restarted : Bool → Drive
   restarted change = record {
     unit = record { power = true; change = change; sense = triple 0x00 0x00 0x00 };
@@ -174,6 +184,7 @@ module _ (d : Drive) where
       «disc_in» = d .deck .«disc_in»;
       lock = false;
       play = record { status = 0x15; position = 0; end = 0 };
+      page = record { recovery = 0x00; retry = 0x00 };
     };
   }
 

@@ -12,6 +12,11 @@ pub data Pairwise {C : Type 0} (Alike : C → C → Type 0) : List C → List C 
   nil : Pairwise Alike [] []
   cons : {c d : C} {cs ds : List C} → Alike c d → Pairwise Alike cs ds → Pairwise Alike (c ∷ cs) (d ∷ ds)
 
+-- calls that are like one another in one way, and so in another
+pub pairwise-map : {C : Type 0} {A B : C → C → Type 0} {cs ds : List C} → ((c d : C) → A c d → B c d) → Pairwise A cs ds → Pairwise B cs ds
+pairwise-map f nil = nil
+pairwise-map f (cons {c} {d} a p) = cons (f c d a) (pairwise-map f p)
+
 -- so they are as many
 pairwise-length : {C : Type 0} {Alike : C → C → Type 0} {cs ds : List C} → Pairwise Alike cs ds → length cs ≡ length ds
 pairwise-length nil = refl

@@ -11,10 +11,11 @@ use Rattle.target.specs.Packet.{answer}
 use Rattle.claims.specs.Call.{Call, packet, final}
 use Rattle.claims.specs.Unique.{unique-packet}
 
--- what a packet call is handed beside the state: its bytes, the lent table and the response memory
+-- what a packet call is handed beside the state: its bytes, the lent table, the parameter list and the response memory
 pub record Asked : Type 0 where
   pub bytes : List ℕ
   pub table : List ℕ
+  pub list : List ℕ
   pub memory : List ℕ
 
 -- what came back: the outcome, and what the memory holds then
@@ -28,7 +29,7 @@ pub data Served : Drive → List Asked → List Got → Type 0 where
   none : (d : Drive) → Served d [] []
   more :
       {d : Drive} {a : Asked} {qs : List Asked} {g : Got} {gs : List Got}
-      → Answered (answer d (a .bytes) (a .table) (length (a .memory))) (a .memory) (g .outcome) (g .memory)
+      → Answered (answer d (a .bytes) (a .table) (a .list) (length (a .memory))) (a .memory) (g .outcome) (g .memory)
       → Served (g .outcome .state) qs gs
       → Served d (a ∷ qs) (g ∷ gs)
 
@@ -40,7 +41,7 @@ left d (g ∷ gs) = left (g .outcome .state) gs
 -- the packets as calls on the drive
 abbrev pub calls : List Asked → List Call
 calls [] = []
-calls (a ∷ qs) = packet (a .bytes) (a .table) (a .memory) ∷ calls qs
+calls (a ∷ qs) = packet (a .bytes) (a .table) (a .list) (a .memory) ∷ calls qs
 
 -- what came back is its outcome and its memory, and nothing else
 same-got : (g h : Got) → g .outcome ≡ h .outcome → g .memory ≡ h .memory → g ≡ h
@@ -50,7 +51,7 @@ same-got g h p q = ap₂ (λ (o : Outcome) (m : List ℕ). record { outcome = o;
 pub served-once : (d : Drive) (qs : List Asked) (gs hs : List Got) → Served d qs gs → Served d qs hs → gs ≡ hs
 served-once d [] [] [] r s = refl
 served-once d (a ∷ qs) (g ∷ gs) (h ∷ hs) (more p r) (more q s) =
-    let u = unique-packet d (a .bytes) (a .table) (a .memory) (g .memory) (h .memory) (g .outcome) (h .outcome) p q in
+    let u = unique-packet d (a .bytes) (a .table) (a .list) (a .memory) (g .memory) (h .memory) (g .outcome) (h .outcome) p q in
     let t : Served (g .outcome .state) qs hs = subst (λ (o : Outcome). Served (o .state) qs hs) (sym (u .0)) s in
     ap₂ (λ (x : Got) (xs : List Got). x ∷ xs) (same-got g h (u .0) (u .1)) (served-once (g .outcome .state) qs gs hs r t)
 
@@ -58,5 +59,5 @@ served-once d (a ∷ qs) (g ∷ gs) (h ∷ hs) (more p r) (more q s) =
 pub served-history : (d : Drive) (qs : List Asked) (gs : List Got) → Served d qs gs → left d gs ≡ final d (calls qs)
 served-history d [] [] r = refl
 served-history d (a ∷ qs) (g ∷ gs) (more p r) =
-    let e : g .outcome .state ≡ stateOf (answer d (a .bytes) (a .table) (length (a .memory))) = ap (λ (o : Outcome). o .state) (p .outcome) in
+    let e : g .outcome .state ≡ stateOf (answer d (a .bytes) (a .table) (a .list) (length (a .memory))) = ap (λ (o : Outcome). o .state) (p .outcome) in
     served-history (g .outcome .state) qs gs r ∙ ap (λ (x : Drive). final x (calls qs)) e

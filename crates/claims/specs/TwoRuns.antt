@@ -10,20 +10,41 @@ use Rattle.claims.specs.Telling.{Answer}
 use Rattle.claims.specs.History.{Event, At}
 use Rattle.claims.specs.Runs.{Pairwise, runs-long}
 use Rattle.claims.specs.Carried.{Board, runs-carried}
-use Rattle.claims.specs.Call.{Call, Happening, answer, next, event, history, final, isAttending, isCause, Alike, lend, left, historyOn, finalOn}
+use Rattle.claims.specs.Call.{Call, Happening, answer, next, event, history, final, isAttending, isCause, Alike, Sharing, shared, lend, left, historyOn, finalOn}
 use Rattle.claims.specs.Device.{runs}
 use Rattle.claims.specs.DriveDevice.{drive, cause-attends, lend-alike, left-alike}
+
+-- ---- the stronger statement: up to that answer the runs agree even where the lists differ, and where they differ with one table, fit or not
+
+pub two-runs-lists : (handed : Drive) (common : List Call) (c : Call) → isCause (event c (final handed common)) ≡ true
+    → {cs ds : List Call} → Pairwise Alike cs ds
+    → (i : ℕ) {e f : Happening} → At (history handed (common ++ c ∷ cs)) i e → At (history handed (common ++ c ∷ ds)) i f
+    → ((j : ℕ) (g : Happening) → length common < j → j < i → At (history handed (common ++ c ∷ cs)) j g → isAttending (g .new) ≡ true)
+    → (e .answer ≡ f .answer) × (e .new ≡ f .new)
+two-runs-lists handed common c h = runs drive handed common c (cause-attends c (final handed common) h)
+
+pub two-runs-lists-carried : (handed : Board Drive) (common : List Call) (c : Call)
+    → isCause (event (lend (finalOn handed common .memory) c) (finalOn handed common .state)) ≡ true
+    → {cs ds : List Call} → Pairwise Alike cs ds
+    → (i : ℕ) {e f : Event Call (Board Drive) Answer} → At (historyOn handed (common ++ c ∷ cs)) i e → At (historyOn handed (common ++ c ∷ ds)) i f
+    → ((j : ℕ) (g : Event Call (Board Drive) Answer) → length common < j → j < i → At (historyOn handed (common ++ c ∷ cs)) j g → isAttending (g .new .state) ≡ true)
+    → (e .answer ≡ f .answer) × (e .new ≡ f .new)
+two-runs-lists-carried handed common c h =
+    runs-carried drive lend left lend-alike left-alike handed common c
+    (cause-attends (lend (finalOn handed common .memory) c) (finalOn handed common .state) h)
+
+-- ---- two runs that share the lent parameter lists (K4)
 
 -- calls in common, then c, a power-on in either form or a loading, then calls that are alike, one by one, but for the fit tables lent:
 -- the events at place i have the same answer, with the memory that it leaves, and the same state after it (K2: "demand 3's state includes
 -- the record"),
 -- where each answer after c and before that place leaves an attention pending
 pub two-runs : (handed : Drive) (common : List Call) (c : Call) → isCause (event c (final handed common)) ≡ true
-    → {cs ds : List Call} → Pairwise Alike cs ds
+    → {cs ds : List Call} → Pairwise Sharing cs ds
     → (i : ℕ) {e f : Happening} → At (history handed (common ++ c ∷ cs)) i e → At (history handed (common ++ c ∷ ds)) i f
     → ((j : ℕ) (g : Happening) → length common < j → j < i → At (history handed (common ++ c ∷ cs)) j g → isAttending (g .new) ≡ true)
     → (e .answer ≡ f .answer) × (e .new ≡ f .new)
-two-runs handed common c h = runs drive handed common c (cause-attends c (final handed common) h)
+two-runs handed common c h p = two-runs-lists handed common c h (shared p)
 
 -- and the second run has an event at each place where the first has one
 pub two-runs-long : (handed : Drive) (common : List Call) (c : Call) {cs ds : List Call} → Pairwise Alike cs ds
@@ -33,10 +54,8 @@ two-runs-long handed common c p = runs-long answer next handed common c p
 -- the same with one response memory carried from call to call: each call is lent what the one before left
 pub two-runs-carried : (handed : Board Drive) (common : List Call) (c : Call)
     → isCause (event (lend (finalOn handed common .memory) c) (finalOn handed common .state)) ≡ true
-    → {cs ds : List Call} → Pairwise Alike cs ds
+    → {cs ds : List Call} → Pairwise Sharing cs ds
     → (i : ℕ) {e f : Event Call (Board Drive) Answer} → At (historyOn handed (common ++ c ∷ cs)) i e → At (historyOn handed (common ++ c ∷ ds)) i f
     → ((j : ℕ) (g : Event Call (Board Drive) Answer) → length common < j → j < i → At (historyOn handed (common ++ c ∷ cs)) j g → isAttending (g .new .state) ≡ true)
     → (e .answer ≡ f .answer) × (e .new ≡ f .new)
-two-runs-carried handed common c h =
-    runs-carried drive lend left lend-alike left-alike handed common c
-    (cause-attends (lend (finalOn handed common .memory) c) (finalOn handed common .state) h)
+two-runs-carried handed common c h p = two-runs-lists-carried handed common c h (shared p)

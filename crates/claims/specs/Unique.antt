@@ -24,8 +24,10 @@ use Rattle.drive.specs.declared.state.Moved.{Moved}
 use Rattle.drive.specs.Sense.{senseAt, sameSense, isKnown}
 use Rattle.play.specs.declared.Play.{Play}
 use Rattle.play.specs.Play.{noPlay, withStatus, isPlay, movedOn}
+use Rattle.page.specs.declared.Page.{Page}
+use Rattle.page.specs.Page.{defaults, isSetting}
 use Rattle.drive.specs.Unit.{poweredOn, attend}
-use Rattle.drive.specs.State.{isKnownState, isLoaded, opening, closing, withDisc, withLock, withPlay, shift, powerOn, powerOnWithoutChange, button, lay, lift, moveOn}
+use Rattle.drive.specs.State.{isKnownState, isLoaded, opening, closing, withDisc, withLock, withPlay, withPage, shift, powerOn, powerOnWithoutChange, button, lay, lift, moveOn}
 use Rattle.gate.specs.declared.fault.Fault.{Fault}
 use Rattle.gate.specs.declared.unit.Pending.{Pending}
 use Rattle.gate.specs.declared.unit.Giving.{Giving}
@@ -59,6 +61,9 @@ use Rattle.blocks.specs.Blocks.{capacity, seek, read}
 use Rattle.audio.specs.declared.sub_channel.SubAsk.{SubAsk}
 use Rattle.audio.specs.Audio.{play, pauseResume}
 use Rattle.audio.specs.SubChannel.{subAsk, subBad, positionBytes, statusBytes, reported}
+use Rattle.mode.specs.declared.mode_sense.Shown.{Shown}
+use Rattle.mode.specs.ModeSense.{pageShown, modeBytes}
+use Rattle.mode.specs.ModeSelect.{modeSelect}
 use Rattle.toc.specs.Answer.{tocBytes, tocBad}
 use Rattle.outcome.specs.declared.Outcome.{Outcome}
 use Rattle.outcome.specs.Outcome.{Answered, refused, checked, granted, finished}
@@ -157,6 +162,14 @@ unique-with-status a n r s = value-once
 pub unique-moved-on : (a : Play) (k : ℕ) (r s : Play) → r ≡ movedOn k a → s ≡ movedOn k a → r ≡ s
 unique-moved-on a k r s = value-once
 
+-- ---- page
+
+pub unique-defaults : (r s : Page) → r ≡ defaults → s ≡ defaults → r ≡ s
+unique-defaults r s = value-once
+
+pub unique-is-setting : (b : ℕ) (r s : Bool) → r ≡ isSetting b → s ≡ isSetting b → r ≡ s
+unique-is-setting b r s = value-once
+
 -- ---- drive
 
 pub unique-sense-at : (i : ℕ) (r s : Sense) → r ≡ senseAt i → s ≡ senseAt i → r ≡ s
@@ -191,6 +204,9 @@ unique-with-lock m b r s = value-once
 
 pub unique-with-play : (m : Deck) (a : Play) (r s : Deck) → r ≡ withPlay m a → s ≡ withPlay m a → r ≡ s
 unique-with-play m a r s = value-once
+
+pub unique-with-page : (m : Deck) (a : Page) (r s : Deck) → r ≡ withPage m a → s ≡ withPage m a → r ≡ s
+unique-with-page m a r s = value-once
 
 pub unique-is-known-state : (d : Drive) (r s : Bool) → r ≡ isKnownState d → s ≡ isKnownState d → r ≡ s
 unique-is-known-state d r s = value-once
@@ -428,8 +444,20 @@ unique-status-bytes a r s = value-once
 pub unique-reported : (a r s : Play) → r ≡ reported a → s ≡ reported a → r ≡ s
 unique-reported a r s = value-once
 
+-- ---- mode
+
+pub unique-page-shown : (b : ℕ) (a : Page) (r s : Shown) → r ≡ pageShown b a → s ≡ pageShown b a → r ≡ s
+unique-page-shown b a r s = value-once
+
+pub unique-mode-bytes : (a : Page) (r s : List ℕ) → r ≡ modeBytes a → s ≡ modeBytes a → r ≡ s
+unique-mode-bytes a r s = value-once
+
+pub unique-mode-select : (n : ℕ) (l : List ℕ) (m : Deck) (r s : Done)
+    → r ≡ doneOf (modeSelect n l m) → s ≡ doneOf (modeSelect n l m) → r ≡ s
+unique-mode-select n l m r s = value-once
+
 -- ---- target
 
-pub unique-packet : (d : Drive) (p t m m₁ m₂ : List ℕ) (r s : Outcome)
-    → Answered (answer d p t (length m)) m r m₁ → Answered (answer d p t (length m)) m s m₂ → (r ≡ s) × (m₁ ≡ m₂)
-unique-packet d p t m m₁ m₂ r s = answer-once
+pub unique-packet : (d : Drive) (p t l m m₁ m₂ : List ℕ) (r s : Outcome)
+    → Answered (answer d p t l (length m)) m r m₁ → Answered (answer d p t l (length m)) m s m₂ → (r ≡ s) × (m₁ ≡ m₂)
+unique-packet d p t l m m₁ m₂ r s = answer-once

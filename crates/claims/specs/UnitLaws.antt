@@ -3,14 +3,14 @@ use mathlib.Core.Path.{_≡_, refl}
 use mathlib.Core.Bool.{Bool, true, false, not, false≢true}
 use mathlib.Core.List.{List}
 use Prim.Native.Nat.{ℕ, zero, suc}
-use lib.Dec.{eqb·suc-zero}
+use lib.Dec.{eqb, eqb·suc-zero}
 use Rattle.ground.specs.Tests.{_and_, _or_, if_then_else_}
 use Rattle.drive.specs.declared.sense.Sense.{Sense}
 use Rattle.drive.specs.declared.state.Unit.{Unit}
 use Rattle.drive.specs.Sense.{senseAt, noSense, changed, powered, sameSense}
 use Rattle.drive.specs.Unit.{attend}
 use Rattle.gate.specs.declared.fault.Fault.{Fault}
-use Rattle.gate.specs.declared.fault.Fault.the-variants.{NoMediumClosed, NoMediumOpen, UnknownCode, OutOfRange, BadField, RemovalPrevented, IllegalMode}
+use Rattle.gate.specs.declared.fault.Fault.the-variants.{NoMediumClosed, NoMediumOpen, UnknownCode, OutOfRange, BadField, RemovalPrevented, IllegalMode, ListLength, ListField, NoSaving}
 use Rattle.gate.specs.Fault.{senseOf}
 use Rattle.gate.specs.Unit.{hold, pendingOf, attentionSense, told, give}
 use Rattle.gate.specs.Gate.{Result, fails, goes, Reply, refuse, good, gate, pass, requestSense}
@@ -69,23 +69,25 @@ pub only-none : (k : Attention) (b : Bool) → b ≡ false → only k b ≡ fals
 only-none power b h = refl
 only-none change b h = h
 
--- a fault's triple is no attention's
+-- a fault's key is not the attentions'
+fault-key : (f : Fault) → eqb (senseOf f .key) 0x06 ≡ false
+unfolding senseAt
+fault-key NoMediumClosed = refl
+fault-key NoMediumOpen = refl
+fault-key UnknownCode = refl
+fault-key OutOfRange = refl
+fault-key BadField = refl
+fault-key RemovalPrevented = refl
+fault-key IllegalMode = refl
+fault-key ListLength = refl
+fault-key ListField = refl
+fault-key NoSaving = refl
+
+-- so its triple is no attention's
 fault-untold : (a : Attention) (f : Fault) → sameSense (senseOf f) (tripleOf a) ≡ false
-unfolding sameSense senseAt _and_
-fault-untold power NoMediumClosed = refl
-fault-untold power NoMediumOpen = refl
-fault-untold power UnknownCode = refl
-fault-untold power OutOfRange = refl
-fault-untold power BadField = refl
-fault-untold power RemovalPrevented = refl
-fault-untold power IllegalMode = refl
-fault-untold change NoMediumClosed = refl
-fault-untold change NoMediumOpen = refl
-fault-untold change UnknownCode = refl
-fault-untold change OutOfRange = refl
-fault-untold change BadField = refl
-fault-untold change RemovalPrevented = refl
-fault-untold change IllegalMode = refl
+unfolding sameSense _and_
+fault-untold power f = rw (fault-key f)
+fault-untold change f = rw (fault-key f)
 
 -- what an answer does to the attention, where it told it or not and was a loading or not:
 -- pending after is caused by the loading, or was pending and is not told; only what is pending is told; what tells is no loading

@@ -12,7 +12,6 @@ use Rattle.drive.specs.declared.state.Deck.{Deck}
 use Rattle.drive.specs.declared.state.Drive.{Drive}
 use Rattle.drive.specs.Sense.{senseAt}
 use Rattle.drive.specs.SenseLaws.{isKnown-at}
-use Rattle.play.specs.PlayLaws.{noPlay-known}
 use Rattle.drive.specs.State.{isKnownState, isLoaded}
 use Rattle.drive.specs.StateLaws.{known-isKnownState}
 use Rattle.table.specs.Layout.{bound, lastSession, descriptors}
@@ -30,35 +29,36 @@ use Rattle.target.specs.Packet.{steps}
 use Rattle.target.specs.PacketLaws.{stepsOf, answer-steps}
 use Rattle.claims.specs.Call.{Call, powering, pressing, laying, lifting, movingOn, packet, answer}
 use Rattle.claims.specs.Marked.{loadedE}
+use Rattle.claims.specs.KnownLaws.{restarted-known}
 use Rattle.claims.specs.WholeLaws.{fit-where-loaded, stepsOf-bounded, reply-held, format2-length}
 
 -- of a fit table, or of a drive that is not loaded: no full answer, before cutting, passes the bound, whatever the packet and the state
-pub full-answers-bounded : (d : Drive) (p t : List ℕ) → isFit t or not (isLoaded (d .deck)) ≡ true
-    → length (steps (decode (codeOf p)) (d .unit) (d .deck) p t .full) ≤ bound
-full-answers-bounded d p t h = let b = stepsOf-bounded d p t (fit-where-loaded _ _ h) in omega arith
+pub full-answers-bounded : (d : Drive) (p t l : List ℕ) → isFit t or not (isLoaded (d .deck)) ≡ true
+    → length (steps (decode (codeOf p)) (d .unit) (d .deck) p t l .full) ≤ bound
+full-answers-bounded d p t l h = let b = stepsOf-bounded d p t l (fit-where-loaded _ _ h) in omega arith
 
--- and so no call's does, of any table and memory: what is refused has no bytes
+-- and so no call's does, of any table, list and memory: what is refused has no bytes
 pub answers-bounded : (c : Call) (d : Drive) → length (answer c d .full) ≤ bound
 answers-bounded (powering f) d = omega arith
 answers-bounded pressing d = omega arith
 answers-bounded laying d = omega arith
 answers-bounded lifting d = omega arith
 answers-bounded (movingOn k) d = omega arith
-answers-bounded (packet p t m) d = reply-held d p t (length m) .0
+answers-bounded (packet p t l m) d = reply-held d p t l (length m) .0
 
 -- a memory that passes refusal 3 holds every answer whole: none is longer than the memory that was lent, and a refused one is empty
-pub memory-holds-answers : (d : Drive) (p t m : List ℕ) → length (answer (packet p t m) d .full) ≤ length m
-memory-holds-answers d p t m = let b = reply-held d p t (length m) .1 in omega arith
+pub memory-holds-answers : (d : Drive) (p t l m : List ℕ) → length (answer (packet p t l m) d .full) ≤ length m
+memory-holds-answers d p t l m = let b = reply-held d p t l (length m) .1 in omega arith
 
 -- so the allocation length alone cuts it: those bytes stand in front, and the rest of the memory is as it was
-pub answers-whole : (d : Drive) (p t m : List ℕ) →
-    let a = answer (packet p t m) d in
+pub answers-whole : (d : Drive) (p t l m : List ℕ) →
+    let a = answer (packet p t l m) d in
     a .memory ≡ take (a .limit) (a .full) ++ drop (min (a .limit) (length (a .full))) m
-answers-whole d p t m =
-    let a = answer (packet p t m) d in
-    let l = length-take (a .limit) (a .full) in
-    let h = reply-held d p t (length m) .1 in
-    fill-fits m (take (a .limit) (a .full)) (omega arith) ∙ ap (λ (n : ℕ). take (a .limit) (a .full) ++ drop n m) l
+answers-whole d p t l m =
+    let a = answer (packet p t l m) d in
+    let e = length-take (a .limit) (a .full) in
+    let h = reply-held d p t l (length m) .1 in
+    fill-fits m (take (a .limit) (a .full)) (omega arith) ∙ ap (λ (n : ℕ). take (a .limit) (a .full) ++ drop n m) e
 
 -- ---- the bound is reached
 
@@ -67,19 +67,19 @@ abbrev pub wholeToc : List ℕ
 wholeToc = 0x43 ∷ 0x00 ∷ 0x02 ∷ 0x00 ∷ 0x00 ∷ 0x00 ∷ 0x01 ∷ 0x19 ∷ 0x8A ∷ 0x00 ∷ 0x00 ∷ 0x00 ∷ []
 
 -- of a drive "Loaded, nothing pending" the steps answer it whole
-stepsOf-whole : (t : List ℕ) → isFit t ≡ true → stepsOf loadedE wholeToc t .full ≡ format2 (discOf t) 1 (descriptors t)
+stepsOf-whole : (t l : List ℕ) → isFit t ≡ true → stepsOf loadedE wholeToc t l .full ≡ format2 (discOf t) 1 (descriptors t)
 unfolding decode if_then_else_ gate pendingOf perform answering tocBad tocBytes _and_
-stepsOf-whole t f = rw (le-ltb (lastSession t) 1 (fit-numbered (isFit-true f) .low))
+stepsOf-whole t l f = rw (le-ltb (lastSession t) 1 (fit-numbered (isFit-true f) .low))
 
 loadedE-known : isKnownState loadedE ≡ true
 unfolding senseAt
-loadedE-known = known-isKnownState loadedE (isKnown-at 0) noPlay-known
+loadedE-known = known-isKnownState loadedE (isKnown-at 0) (restarted-known (loadedE .deck))
 
 -- and so does the drive, into a memory that passes refusal 3: of any fit table the answer is as long as the table
-pub format2-as-long : (t m : List ℕ) → isFit t ≡ true → bound ≤ length m → length (answer (packet wholeToc t m) loadedE .full) ≡ length t
-format2-as-long t m f h =
-    ap (λ (r : Reply Deck). length (r .full)) (answer-steps loadedE wholeToc t (length m) refl loadedE-known h (λ l. f)) ∙ ap length (stepsOf-whole t f) ∙ format2-length t f
+pub format2-as-long : (t l m : List ℕ) → isFit t ≡ true → bound ≤ length m → length (answer (packet wholeToc t l m) loadedE .full) ≡ length t
+format2-as-long t l m f h =
+    ap (λ (r : Reply Deck). length (r .full)) (answer-steps loadedE wholeToc t l (length m) refl loadedE-known h (λ i. f)) ∙ ap length (stepsOf-whole t l f) ∙ format2-length t f
 
 -- 99 sessions of one track with a B0h and a C0h each are 594 descriptors, and fit: their answer has 6,538 bytes
-pub bound-reached : (m : List ℕ) → bound ≤ length m → length (answer (packet wholeToc longest m) loadedE .full) ≡ bound
-bound-reached m h = format2-as-long longest m longest-fit h ∙ longest-length
+pub bound-reached : (l m : List ℕ) → bound ≤ length m → length (answer (packet wholeToc longest l m) loadedE .full) ≡ bound
+bound-reached l m h = format2-as-long longest l m longest-fit h ∙ longest-length

@@ -23,19 +23,22 @@ use Rattle.gate.specs.declared.unit.Pending.the-variants.{Power, Change, Nothin
 use Rattle.gate.specs.Unit.{pendingOf}
 use Rattle.gate.specs.Gate.{Result, fails, goes, Reply, settle, pass, meet, gate}
 use Rattle.command.specs.declared.decode.Command.{Command}
-use Rattle.command.specs.declared.decode.Command.the-variants.{TestUnitReady, RequestSense, Inquiry, StartStop, Prevent, ReadCapacity, Read10, Seek, ReadToc, Read12, PlayAudio, PauseResume, ReadSubChannel, Unknown}
+use Rattle.command.specs.declared.decode.Command.the-variants.{TestUnitReady, RequestSense, Inquiry, StartStop, Prevent, ReadCapacity, Read10, Seek, ReadToc, Read12, PlayAudio, PauseResume, ReadSubChannel, ModeSense, ModeSelect, Unknown}
 use Rattle.command.specs.declared.decode.Kind.{Kind}
 use Rattle.command.specs.declared.decode.Kind.the-variants.{Asks, Passes, Gates}
-use Rattle.command.specs.Command.{byte, bit0, needsDisc, addressIn, codeOf, decode, kindOf}
+use Rattle.command.specs.Command.{byte, bit0, needsDisc, addressIn, lengthIn, codeOf, decode, kindOf}
 use Rattle.toc.specs.Answer.{whole, format2}
 use Rattle.toc.specs.AnswerLaws.{headOf, headed-one, whole-fit, tocBytes-within}
 use Rattle.command.specs.Done.{answering}
 use Rattle.tracks.specs.Track.{trackOf}
 use Rattle.audio.specs.SubChannel.{subAskIn}
 use Rattle.audio.specs.SubChannelLaws.{subBytes-length}
+use Rattle.mode.specs.declared.mode_sense.Shown.{Shown}
+use Rattle.mode.specs.declared.mode_sense.Shown.the-variants.{Fails, Values}
+use Rattle.mode.specs.ModeSense.{pageShown, gives}
 use Rattle.target.specs.ReadToc.{formatIn, msfIn, numberIn}
 use Rattle.target.specs.Perform.{L, work, perform}
-use Rattle.target.specs.PerformLaws.{fullOf, startStop-quiet, seek-quiet, ranged-quiet, pauseResume-quiet}
+use Rattle.target.specs.PerformLaws.{fullOf, startStop-quiet, seek-quiet, ranged-quiet, pauseResume-quiet, modeSelect-quiet}
 use Rattle.target.specs.Packet.{stepsBy, refusalOf, answer as replyTo}
 use Rattle.target.specs.PacketLaws.{stepsOf}
 use Rattle.claims.specs.UnitLaws.{meets}
@@ -71,30 +74,36 @@ answering-bounded : (bad : Bool) (next : Deck) (full : List ℕ) (limit : ℕ) �
 unfolding answering
 answering-bounded bad next full limit h = either Bounded bad (λ b. omega arith) (λ b. h)
 
--- of a command that has what it needs
-work-bounded : (c : Command) (p : List ℕ) (m : Deck) (t : List ℕ) → (needsDisc c p ≡ true → Short t) → Bounded (work c p m t)
-work-bounded TestUnitReady p m t s = omega arith
-work-bounded RequestSense p m t s = omega arith
-work-bounded Inquiry p m t s = answering-bounded _ m _ _ (omega arith)
-work-bounded StartStop p m t s = rw (startStop-quiet (byte p 4) m) (omega arith)
-work-bounded Prevent p m t s = omega arith
-work-bounded ReadCapacity p m t s = answering-bounded _ m _ _ (omega arith)
-work-bounded Read10 p m t s = rw (ranged-quiet _ _ _ _ _ refl) (omega arith)
-work-bounded Seek p m t s = rw (seek-quiet (addressIn p) (L t) m) (omega arith)
-work-bounded ReadToc p m t s =
-    answering-bounded _ m _ _ (tocBytes-within (discOf t) (formatIn p) (msfIn p) (numberIn p) (descriptors t) (s refl))
-work-bounded Read12 p m t s = rw (ranged-quiet _ _ _ _ _ refl) (omega arith)
-work-bounded PlayAudio p m t s = rw (ranged-quiet _ _ _ _ _ refl) (omega arith)
-work-bounded PauseResume p m t s = rw (pauseResume-quiet (bit0 (byte p 8)) m) (omega arith)
-work-bounded ReadSubChannel p m t s =
-    let l = subBytes-length (subAskIn p) (trackOf (descriptors t) (m .play .position)) (m .play) in
-    answering-bounded _ _ _ _ (omega arith)
-work-bounded Unknown p m t s = omega arith
+gives-bounded : (g : Shown) (limit : ℕ) (m : Deck) → Bounded (gives g limit m)
+gives-bounded (Fails f) limit m = omega arith
+gives-bounded (Values g) limit m = answering-bounded false m _ limit (omega arith)
 
-perform-bounded : (c : Command) (p : List ℕ) (m : Deck) (t : List ℕ) → (isLoaded m ≡ true → Short t) → Bounded (perform c p m t)
+-- of a command that has what it needs
+work-bounded : (c : Command) (p : List ℕ) (m : Deck) (t l : List ℕ) → (needsDisc c p ≡ true → Short t) → Bounded (work c p m t l)
+work-bounded TestUnitReady p m t l s = omega arith
+work-bounded RequestSense p m t l s = omega arith
+work-bounded Inquiry p m t l s = answering-bounded _ m _ _ (omega arith)
+work-bounded StartStop p m t l s = rw (startStop-quiet (byte p 4) m) (omega arith)
+work-bounded Prevent p m t l s = omega arith
+work-bounded ReadCapacity p m t l s = answering-bounded _ m _ _ (omega arith)
+work-bounded Read10 p m t l s = rw (ranged-quiet _ _ _ _ _ refl) (omega arith)
+work-bounded Seek p m t l s = rw (seek-quiet (addressIn p) (L t) m) (omega arith)
+work-bounded ReadToc p m t l s =
+    answering-bounded _ m _ _ (tocBytes-within (discOf t) (formatIn p) (msfIn p) (numberIn p) (descriptors t) (s refl))
+work-bounded Read12 p m t l s = rw (ranged-quiet _ _ _ _ _ refl) (omega arith)
+work-bounded PlayAudio p m t l s = rw (ranged-quiet _ _ _ _ _ refl) (omega arith)
+work-bounded PauseResume p m t l s = rw (pauseResume-quiet (bit0 (byte p 8)) m) (omega arith)
+work-bounded ReadSubChannel p m t l s =
+    let e = subBytes-length (subAskIn p) (trackOf (descriptors t) (m .play .position)) (m .play) in
+    answering-bounded _ _ _ _ (omega arith)
+work-bounded ModeSense p m t l s = gives-bounded (pageShown (byte p 2) (m .page)) _ m
+work-bounded ModeSelect p m t l s = rw (modeSelect-quiet (lengthIn p) l m) (omega arith)
+work-bounded Unknown p m t l s = omega arith
+
+perform-bounded : (c : Command) (p : List ℕ) (m : Deck) (t l : List ℕ) → (isLoaded m ≡ true → Short t) → Bounded (perform c p m t l)
 unfolding perform
-perform-bounded c p m t s =
-    either Bounded (needsDisc c p and not (isLoaded m)) (λ h. omega arith) (λ h. work-bounded c p m t (λ n. s (second-holds _ _ h n)))
+perform-bounded c p m t l s =
+    either Bounded (needsDisc c p and not (isLoaded m)) (λ h. omega arith) (λ h. work-bounded c p m t l (λ n. s (second-holds _ _ h n)))
 
 -- ---- and what the steps make of it
 
@@ -111,20 +120,21 @@ meet-bounded Power u m r h = omega arith
 meet-bounded Change u m r h = omega arith
 meet-bounded Nothing u m r h = settle-bounded u m r h
 
-stepsBy-bounded : (k : Kind) (c : Command) (u : Unit) (m : Deck) (p t : List ℕ) → Bounded (perform c p m t) → length (stepsBy k c u m p t .full) ≤ bound
+stepsBy-bounded : (k : Kind) (c : Command) (u : Unit) (m : Deck) (p t l : List ℕ) → Bounded (perform c p m t l)
+    → length (stepsBy k c u m p t l .full) ≤ bound
 unfolding gate
-stepsBy-bounded Asks c u m p t h = omega arith
-stepsBy-bounded Passes c u m p t h = pass-bounded u m (perform c p m t) h
-stepsBy-bounded Gates c u m p t h = meet-bounded (pendingOf u) u m (perform c p m t) h
+stepsBy-bounded Asks c u m p t l h = omega arith
+stepsBy-bounded Passes c u m p t l h = pass-bounded u m (perform c p m t l) h
+stepsBy-bounded Gates c u m p t l h = meet-bounded (pendingOf u) u m (perform c p m t l) h
 
 -- a fit table is no longer than the bound
 fit-short : (t : List ℕ) → isFit t ≡ true → Short t
 fit-short t h = let s = fit-sized (isFit-true h) in let a = s .least in let b = s .most in let l = length-drop header t in omega arith
 
-pub stepsOf-bounded : (d : Drive) (p t : List ℕ) → (isLoaded (d .deck) ≡ true → isFit t ≡ true) → length (stepsOf d p t .full) ≤ bound
-stepsOf-bounded d p t f =
+pub stepsOf-bounded : (d : Drive) (p t l : List ℕ) → (isLoaded (d .deck) ≡ true → isFit t ≡ true) → length (stepsOf d p t l .full) ≤ bound
+stepsOf-bounded d p t l f =
     let c = decode (codeOf p) in
-    stepsBy-bounded (kindOf c) c (d .unit) (d .deck) p t (perform-bounded c p (d .deck) t (λ l. fit-short t (f l)))
+    stepsBy-bounded (kindOf c) c (d .unit) (d .deck) p t l (perform-bounded c p (d .deck) t l (λ i. fit-short t (f i)))
 
 -- ---- an answer is no longer than the memory that was lent
 
@@ -133,16 +143,16 @@ abbrev pub Held : ℕ → Reply Deck → Type 0
 Held n r = (length (r .full) ≤ bound) × (length (r .full) ≤ n)
 
 -- one that is refused has no bytes, and any other has passed refusal 3
-pub reply-held : (d : Drive) (p t : List ℕ) (n : ℕ) → Held n (replyTo d p t n)
-reply-held d p t n = rw (reply-kind d p t n) (by-number (refusalOf d p t n) (refusal-ordered d p t n .zero))
+pub reply-held : (d : Drive) (p t l : List ℕ) (n : ℕ) → Held n (replyTo d p t l n)
+reply-held d p t l n = rw (reply-kind d p t l n) (by-number (refusalOf d p t n) (refusal-ordered d p t n .zero))
   where
     by-number : (j : ℕ) → eqb j 0 ≡ eqb (length p) 12 and isKnownState d and not (ltb n bound) and not (isLoaded (d .deck) and not (isFit t))
-        → Held n (meets j (ruleOf d p t n) (kind p (d .deck) t) (d .unit) (d .deck))
+        → Held n (meets j (ruleOf d p t n) (kind p (d .deck) t l) (d .unit) (d .deck))
     by-number zero e =
         let h = and-tail _ _ (and-tail _ _ (sym e)) in
         let m = ltb-false n bound (not-true _ (and-head _ _ h)) in
-        let b = stepsOf-bounded d p t (second-holds _ _ (not-true _ (and-tail _ _ h))) in
-        let s = rw (stepsOf-kind d p t) at b in
+        let b = stepsOf-bounded d p t l (second-holds _ _ (not-true _ (and-tail _ _ h))) in
+        let s = rw (stepsOf-kind d p t l) at b in
         (s, omega arith)
     by-number (suc j) e = (omega arith, omega arith)
 
