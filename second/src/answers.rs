@@ -1,7 +1,7 @@
 //! What each command of "Steps for a packet" answers, before any cutting.
 
 use crate::drive::State;
-use crate::mode::PageRequest;
+use crate::mode_page::PageRequest;
 use crate::play::Play;
 use crate::sense::{self, Sense};
 use crate::sub_channel::{self, SubRequest};

@@ -1,7 +1,7 @@
 //! "Drive state and what moves it": power-on in its two forms (K3), button,
 //! laying and lifting, and the outside call that moves a play on (K2).
 
-use crate::mode::ModePage;
+use crate::mode_page::ModePage;
 use crate::play::Play;
 use crate::refusal::Refusal;
 use crate::sense::{self, Sense};

@@ -13,7 +13,7 @@ pub mod examples;
 pub mod files;
 pub mod limits;
 pub mod listing;
-pub mod mode;
+pub mod mode_page;
 pub mod packet;
 pub mod play;
 pub mod refusal;

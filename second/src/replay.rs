@@ -7,7 +7,7 @@ use crate::address::{self, Msf};
 use crate::adler::adler32;
 use crate::drive::State;
 use crate::limits::REPLAY_BODY;
-use crate::mode::ModePage;
+use crate::mode_page::ModePage;
 use crate::packet;
 use crate::play::Play;
 use crate::refusal::Refusal;

@@ -5,7 +5,7 @@
 
 use std::fmt::Write;
 
-use crate::mode::{PAGE, SETTINGS};
+use crate::mode_page::{PAGE, SETTINGS};
 use crate::play::STATUSES;
 use crate::replay::{self, take_record};
 

@@ -15,7 +15,7 @@ use second::cases::sheet::{any_fit, disc_e};
 use second::cases::stream::Stream;
 use second::drive::State;
 use second::limits::BOUND;
-use second::mode::{ModePage, SETTINGS};
+use second::mode_page::{ModePage, SETTINGS};
 use second::packet::{perform, Reply};
 use second::play::Play;
 use second::replay::{self, take_record};
@@ -132,9 +132,10 @@ fn told_all(mut state: State) -> State {
     }
 }
 
-/// "The recovery byte is one of 000's twenty settings": 02's list is 000's T102.
-/// There TB, RC, PER, DTE and DCR are bits 5, 4, 2, 1 and 0, the other bits are
-/// reserved; DTE needs PER, and RC forbids DTE.
+/// "The recovery byte is one of 000's twenty settings": 02's list is 000's Table
+/// 102. There bits 7, 6 and 3 are reserved, and of the low three bits 0, 1, 4 and
+/// 5 come with any of the others, 6 and 7 without bit 4 alone. Bits 2, 1 and 4 are
+/// 004's PER, DTE and RC: so DTE comes with PER, and never with RC.
 #[test]
 fn the_twenty_of_000() {
     let by_bits = |byte: u8| {

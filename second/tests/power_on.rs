@@ -10,7 +10,7 @@ use second::cases::picked_state::all_flags;
 use second::cases::sheet::disc_e;
 use second::cases::stream::Stream;
 use second::drive::State;
-use second::mode::ModePage;
+use second::mode_page::ModePage;
 use second::play::Play;
 use second::replay::{self, take_record};
 use second::sense::{self, Sense, NONE};

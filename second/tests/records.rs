@@ -7,7 +7,7 @@ use second::cases::several::alone;
 use second::cases::sheet::disc_e;
 use second::cases::stream::Stream;
 use second::drive::State;
-use second::mode::ModePage;
+use second::mode_page::ModePage;
 use second::play::Play;
 use second::replay::run;
 

@@ -5,7 +5,7 @@ use second::cases::picked_state::all_flags;
 use second::cases::sheet::any_fit;
 use second::drive::State;
 use second::limits::{BOUND, TOP_ADDRESS};
-use second::mode::{ModePage, SETTINGS};
+use second::mode_page::{ModePage, SETTINGS};
 use second::packet::{perform, Reply};
 use second::play::{Play, STATUSES};
 use second::refusal::Refusal;

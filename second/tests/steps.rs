@@ -7,7 +7,7 @@ use second::cases::packets::*;
 use second::cases::picked_state::all_flags;
 use second::cases::sheet::{any_fit, disc_e, three_sessions, two_sessions};
 use second::drive::State;
-use second::mode::ModePage;
+use second::mode_page::ModePage;
 use second::play::Play;
 use second::refusal::Refusal;
 use second::rng::Rng;

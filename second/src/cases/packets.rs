@@ -1,6 +1,6 @@
 //! Packets by name, the bits that rules name, and packets drawn at random.
 
-use crate::mode::SETTINGS;
+use crate::mode_page::SETTINGS;
 use crate::rng::Rng;
 use crate::table::{Disc, Mode};
 

@@ -11,7 +11,7 @@ use crate::cases::picked_state::{all_flags, MEMORY};
 use crate::cases::sheet::disc_e;
 use crate::cases::stream::Stream;
 use crate::drive::State;
-use crate::mode::{ModePage, SETTINGS};
+use crate::mode_page::{ModePage, SETTINGS};
 use crate::play::{Play, STATUSES};
 use crate::sense::{self, TRIPLES};
 

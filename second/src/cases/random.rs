@@ -12,7 +12,7 @@ use crate::cases::spoil::{any_broken, spoil};
 use crate::cases::stream::Stream;
 use crate::drive::State;
 use crate::limits::TOP_ADDRESS;
-use crate::mode::{ModePage, SETTINGS};
+use crate::mode_page::{ModePage, SETTINGS};
 use crate::play::{Play, STATUSES};
 use crate::rng::Rng;
 use crate::sense::{self, Sense, TRIPLES};
