@@ -41,6 +41,9 @@ fn two_unknown_sense() {
     let table = disc_e().bytes();
     // Some by hand: what `strangers` leaves out hangs on the triples as they are kept.
     let near = [(0, 0, 1), (2, 0x3A, 0), (5, 0x53, 0), (6, 0x29, 1)];
+    // Next to K4's three too.
+    let next = [(5, 0x1B, 0), (5, 0x26, 1), (6, 0x26, 0), (5, 0x38, 0)];
+    let near = near.into_iter().chain(next);
     let near = near.map(|(key, asc, ascq)| Sense::new(key, asc, ascq));
     for held in strangers().into_iter().chain(near) {
         let state = State {

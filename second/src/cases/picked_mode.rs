@@ -381,7 +381,8 @@ pub fn page_kept(stream: &mut Stream) {
     bench(stream, State::READY);
     select(stream, &page_list(0x34, 0xFE));
     packets(stream, &one_of_each());
-    packets(stream, &[start_stop(LOAD), test_ready(), test_ready()]);
+    // What these leave is undone: an open tray, the lock.
+    packets(stream, &[start_stop(LOAD), test_ready(), prevent(0)]);
     for list in [
         &page_list(0x02, 1)[..],
         &list_with(9, 0x05),
