@@ -518,7 +518,6 @@ fn recovery_in_its_place() {
 /// "refusal 2 admits these triples": thirteen, and no further one.
 #[test]
 fn thirteen_triples() {
-    let e = disc_e().bytes();
     let ten = [
         [0x00, 0x00, 0x00],
         [0x02, 0x3A, 0x01],
@@ -551,7 +550,6 @@ fn thirteen_triples() {
             }
         }
     }
-    assert_eq!(told(READY, &e, &test_ready()), (0, 0));
 }
 
 /// "Power-on restores defaults", both forms; nothing else does, and nothing but a
