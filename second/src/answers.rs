@@ -1,6 +1,7 @@
 //! What each command of "Steps for a packet" answers, before any cutting.
 
 use crate::drive::State;
+use crate::mode_page::PageRequest;
 use crate::play::Play;
 use crate::sense::{self, Sense};
 use crate::sub_channel::{self, SubRequest};
@@ -33,6 +34,8 @@ pub enum Command {
     Play { address: u32, count: u32 },
     PauseResume { resume: bool },
     SubChannel(SubRequest, usize),
+    ModeSense(PageRequest, usize),
+    ModeSelect { length: usize },
 }
 
 fn long(bytes: &[u8]) -> u32 {
@@ -95,12 +98,26 @@ impl Command {
                 },
                 long(&p[7..9]) as usize,
             ),
+            // K4: byte 2 bits 7 to 6 page control and bits 5 to 0 page, length in 7
+            // to 8.
+            0x5A => Command::ModeSense(
+                PageRequest {
+                    control: p[2] >> 6,
+                    page: p[2] & 0x3F,
+                },
+                long(&p[7..9]) as usize,
+            ),
+            // The list's length in 7 to 8; PF and SP are no rule's.
+            0x55 => Command::ModeSelect {
+                length: long(&p[7..9]) as usize,
+            },
             _ => return None,
         })
     }
 
     /// "Needing one: 00h, 25h, 28h, 2Bh, 43h, A8h, and 1Bh with LoEj 0 and
-    /// Start 1." K2's 42h, 45h and 4Bh too: "These commands need a disc."
+    /// Start 1." K2's 42h, 45h and 4Bh too: "These commands need a disc." K4's
+    /// 55h and 5Ah do not.
     pub fn needs_disc(self) -> bool {
         match self {
             Command::StartStop {
@@ -108,14 +125,23 @@ impl Command {
                 start,
             } => !eject_or_load && start,
             Command::Lock(_) => false,
+            Command::ModeSense(..) | Command::ModeSelect { .. } => false,
             _ => true,
         }
     }
 
     /// A command that needs no disc; the state is moved where it says so.
-    pub fn without_disc(self, state: &mut State) -> Outcome {
+    pub fn without_disc(self, state: &mut State, list: &[u8]) -> Outcome {
         match self {
             Command::Lock(on) => state.lock = on,
+            Command::ModeSense(request, allocation) => {
+                return Ok(Good {
+                    answer: state.mode.sensed(request)?,
+                    allocation: Some(allocation),
+                    ..Good::default()
+                })
+            }
+            Command::ModeSelect { length } => state.mode = state.mode.selected(length, list)?,
             Command::StartStop {
                 eject_or_load: true,
                 start,

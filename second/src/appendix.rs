@@ -1,6 +1,7 @@
 //! K5: "Appendix A has a row for each operation code." The page's 256 lines by
 //! this program's own reading, and a page held to them. Names and classes are
-//! those of 01's list and K2's; the last two columns are what the drive does.
+//! those of 01's list, K2's and K4's; the last two columns are what the drive
+//! does.
 
 use std::fs;
 use std::path::Path;
@@ -15,8 +16,8 @@ use crate::sense::{self, Sense};
 /// Where the page stands.
 pub const PAGE: &str = "docs/APPENDIX-A.md";
 
-/// 01's "Packets", in the list's order, then K2's three in 02's.
-pub const PACKETS: [(u8, &str); 13] = [
+/// 01's "Packets", in the list's order, then K2's three and K4's two in 02's.
+pub const PACKETS: [(u8, &str); 15] = [
     (0x00, "TEST UNIT READY"),
     (0x03, "REQUEST SENSE"),
     (0x12, "INQUIRY"),
@@ -30,6 +31,8 @@ pub const PACKETS: [(u8, &str); 13] = [
     (0x45, "PLAY AUDIO(10)"),
     (0x4B, "PAUSE/RESUME"),
     (0x42, "READ SUB-CHANNEL"),
+    (0x5A, "MODE SENSE(10)"),
+    (0x55, "MODE SELECT(10)"),
 ];
 
 /// "the command's class or "unknown"": the command's number in the list,
@@ -49,10 +52,10 @@ pub fn name(code: u8) -> &'static str {
     }
 }
 
-/// What the drive answers and the bytes that it gives, Table E lent.
+/// What the drive answers and the bytes that it gives, Table E and no list lent.
 fn answer(state: State, packet: &Packet) -> (Reply, Vec<u8>) {
     let mut memory = vec![0; BOUND];
-    let reply = packet::perform(state, &disc_e().bytes(), packet, &mut memory);
+    let reply = packet::perform(state, &disc_e().bytes(), &[], packet, &mut memory);
     memory.truncate(reply.length);
     (reply, memory)
 }

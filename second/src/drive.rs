@@ -1,6 +1,7 @@
 //! "Drive state and what moves it": power-on in its two forms (K3), button,
 //! laying and lifting, and the outside call that moves a play on (K2).
 
+use crate::mode_page::ModePage;
 use crate::play::Play;
 use crate::refusal::Refusal;
 use crate::sense::{self, Sense};
@@ -14,6 +15,7 @@ pub struct State {
     pub change: bool,
     pub sense: Sense,
     pub play: Play,
+    pub mode: ModePage,
 }
 
 impl State {
@@ -26,6 +28,7 @@ impl State {
         change: false,
         sense: sense::NONE,
         play: Play::NONE,
+        mode: ModePage::DEFAULT,
     };
 
     /// Tray closed, disc in, nothing pending.
@@ -51,8 +54,8 @@ impl State {
 
     /// K3: "A second form .. keeps 01's behaviour", that is "keeps the handed
     /// state's tray and disc and is never refused: lock off, sense 00/00/00,
-    /// power attention pending, change attention not." K2's record is reset in
-    /// both forms.
+    /// power attention pending, change attention not." K2's record is reset and
+    /// K4's page restored in both forms.
     pub fn power_on_without_change(self) -> State {
         State {
             tray_open: self.tray_open,
@@ -131,9 +134,10 @@ impl State {
         }
     }
 
-    /// Refusal 2 is of the held sense and, with K2, of the play record.
+    /// Refusal 2 is of the held sense, with K2 of the play record, and with K4 of
+    /// the recovery byte.
     pub fn is_sound(self) -> bool {
-        self.sense.is_known() && self.play.is_sound()
+        self.sense.is_known() && self.play.is_sound() && self.mode.is_sound()
     }
 
     /// "Button, laying and lifting test 2 before 5 to 7."

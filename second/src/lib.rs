@@ -1,7 +1,7 @@
 //! An independent second program for the packet target of the build
-//! definition (called "01" in the comments; K1, K2, K3, K5, K6 and K9 are the
-//! change requests built on it). It shares no code with the target: the two meet
-//! through files only.
+//! definition (called "01" in the comments; K1 to K6 and K9 are the change requests
+//! built on it). It shares no code with the target: the two meet through files
+//! only.
 
 pub mod address;
 pub mod adler;
@@ -13,6 +13,7 @@ pub mod examples;
 pub mod files;
 pub mod limits;
 pub mod listing;
+pub mod mode_page;
 pub mod packet;
 pub mod play;
 pub mod refusal;

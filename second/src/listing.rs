@@ -17,10 +17,12 @@ pub fn print(table_file: &[u8], packet_file: &[u8]) -> String {
     let mut memory = vec![0u8; BOUND];
     // "powers on loaded"; K3: "A second form, which the listing program calls"
     let mut state = State::READY.power_on_without_change();
+    // K4's parameter list: none is lent.
+    let list = [];
     let mut out = "n st key asc ascq len data start count\n".to_string();
     // "a short last packet is handed on as it is"
     for (packet, n) in packet_file.chunks(PACKET).zip(1..) {
-        let reply = packet::perform(state, table, packet, &mut memory);
+        let reply = packet::perform(state, table, &list, packet, &mut memory);
         state = reply.next;
         match reply.refusal {
             // K6: "the listing program prints it after the 4"

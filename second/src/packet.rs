@@ -22,7 +22,9 @@ pub struct Reply {
     pub next: State,
 }
 
-pub fn perform(state: State, table: &[u8], packet: &[u8], memory: &mut [u8]) -> Reply {
+/// Lent are the disc table, the parameter list (K4), which 55h alone looks at,
+/// and the response memory.
+pub fn perform(state: State, table: &[u8], list: &[u8], packet: &[u8], memory: &mut [u8]) -> Reply {
     // "status 0, 0 bytes, start 0, count 0", and "Every refusal leaves state
     // and memory unchanged."
     let still = Reply {
@@ -43,7 +45,7 @@ pub fn perform(state: State, table: &[u8], packet: &[u8], memory: &mut [u8]) -> 
         }
     };
     let mut next = state;
-    match steps(&mut next, disc.as_ref(), &bytes) {
+    match steps(&mut next, disc.as_ref(), list, &bytes) {
         // "CHECK CONDITION is status 02h, no bytes, memory unchanged, the
         // triple held as sense"
         Err(told) => {
@@ -101,7 +103,7 @@ fn tests(
 }
 
 /// "Steps for a packet", 1 to 5. A disc is at hand exactly when loaded.
-fn steps(state: &mut State, disc: Option<&Disc>, p: &[u8; PACKET]) -> Outcome {
+fn steps(state: &mut State, disc: Option<&Disc>, list: &[u8], p: &[u8; PACKET]) -> Outcome {
     // 1. "INQUIRY and REQUEST SENSE are performed even with an attention
     // pending."
     match p[0] {
@@ -122,7 +124,7 @@ fn steps(state: &mut State, disc: Option<&Disc>, p: &[u8; PACKET]) -> Outcome {
     // 3. "Unknown code: 05/20/00."
     let command = Command::from_packet(p).ok_or(sense::UNKNOWN_CODE)?;
     if !command.needs_disc() {
-        return command.without_disc(state);
+        return command.without_disc(state, list);
     }
     // 4. "02/3A/02 with the tray open, 02/3A/01 closed."
     match disc {

@@ -5,7 +5,8 @@ pub enum Refusal {
     /// "packet is not 12 bytes"
     PacketLength,
     /// "held sense is none of the ten below"; K2: "2 also covers another status,
-    /// a position past its end, or an end over 449,849"
+    /// a position past its end, or an end over 449,849"; K4: it "admits these
+    /// triples, and covers a recovery byte outside the twenty"
     UnsoundState,
     /// "response memory is under 6,538 bytes" (K1's bound)
     SmallMemory,

@@ -7,6 +7,7 @@ use crate::address::{self, Msf};
 use crate::adler::adler32;
 use crate::drive::State;
 use crate::limits::REPLAY_BODY;
+use crate::mode_page::ModePage;
 use crate::packet;
 use crate::play::Play;
 use crate::refusal::Refusal;
@@ -26,24 +27,34 @@ pub const TO_ADDRESS: u8 = 9;
 pub const PART: u8 = 10;
 pub const POWER_ON_WITHOUT_CHANGE: u8 = 11;
 pub const MOVE_ON: u8 = 12;
+pub const LIST: u8 = 13;
 
-/// Bytes of kind 0's body: five flags, the sense, K2's play record.
-pub const STATE_BYTES: usize = 17;
+/// Whether a record of this kind is a call, and so has a line of its own: the
+/// others set what the calls behind them meet.
+pub fn is_call(kind: u8) -> bool {
+    ![STATE, TABLE, MEMORY, LIST].contains(&kind)
+}
+
+/// Bytes of kind 0's body: five flags, the sense, K2's play record, K4's page.
+pub const STATE_BYTES: usize = 19;
 
 /// "At the start every byte is 0": so the play status is 00h, and refusal 2
 /// covers it.
 const START: State = State {
     play: Play::new(0, 0, 0),
+    mode: ModePage::new(0, 0),
     ..State::EMPTY
 };
 
 /// Anything that ends the run with the line `bad record`.
 pub struct BadRecord;
 
-/// "At the start: state all zero, no table, no memory."
+/// "At the start: state all zero, no table, no memory." K4's parameter list is
+/// "empty at the start".
 struct Bench {
     state: State,
     table: Vec<u8>,
+    list: Vec<u8>,
     memory: Vec<u8>,
     lines: String,
 }
@@ -53,6 +64,7 @@ pub fn run(input: &[u8]) -> String {
     let mut bench = Bench {
         state: START,
         table: Vec::new(),
+        list: Vec::new(),
         memory: Vec::new(),
         lines: String::new(),
     };
@@ -101,10 +113,11 @@ fn number(refusal: Option<Refusal>) -> String {
 }
 
 /// Kind 0's body: "tray, disc, lock, power, change as 0 or 1, key, ASC, ASCQ",
-/// then K2's "play status (1 byte), position (4), end (4)".
+/// then K2's "play status (1 byte), position (4), end (4)", then K4's "recovery
+/// byte, retry count". The last three parts may be anything.
 fn state_of(body: &[u8; STATE_BYTES]) -> Result<State, BadRecord> {
     let &[tray, disc, lock, power, change, key, asc, ascq, status, ref numbers @ ..] = body;
-    let [a, b, c, d, e, f, g, h] = *numbers;
+    let [a, b, c, d, e, f, g, h, recovery, retries] = *numbers;
     Ok(State {
         tray_open: flag(tray)?,
         disc_in: flag(disc)?,
@@ -117,10 +130,12 @@ fn state_of(body: &[u8; STATE_BYTES]) -> Result<State, BadRecord> {
             position: u32::from_be_bytes([a, b, c, d]),
             end: u32::from_be_bytes([e, f, g, h]),
         },
+        mode: ModePage::new(recovery, retries),
     })
 }
 
-/// Five digits, three hex bytes and the play record: `01010 06 29 00 15 0 0`.
+/// Five digits, three hex bytes, the play record and the page's two bytes:
+/// `01010 06 29 00 15 0 0 00 00`.
 pub fn state_text(state: State) -> String {
     let digits = [
         state.tray_open,
@@ -131,7 +146,8 @@ pub fn state_text(state: State) -> String {
     ]
     .map(|on| if on { '1' } else { '0' });
     let digits: String = digits.iter().collect();
-    format!("{digits} {} {}", state.sense.text(), state.play.text())
+    let (sense, play, mode) = (state.sense.text(), state.play.text(), state.mode.text());
+    format!("{digits} {sense} {play} {mode}")
 }
 
 /// Capital hex, two digits a byte, "-" where no bytes.
@@ -153,6 +169,8 @@ impl Bench {
                 self.state = state_of(body.try_into().map_err(|_| BadRecord)?)?;
             }
             (TABLE, table) => self.table = table.to_vec(),
+            // K4: "kind 13, the parameter list lent from now on; prints nothing"
+            (LIST, list) => self.list = list.to_vec(),
             (MEMORY, &[high, low, fill]) => {
                 let length = usize::from(u16::from_be_bytes([high, low]));
                 if length > REPLAY_BODY {
@@ -215,7 +233,8 @@ impl Bench {
     }
 
     fn packet(&mut self, packet: &[u8]) {
-        let reply = packet::perform(self.state, &self.table, packet, &mut self.memory);
+        let (table, list) = (&self.table, &self.list);
+        let reply = packet::perform(self.state, table, list, packet, &mut self.memory);
         self.state = reply.next;
         self.line(format!(
             "p {} {:02X} {} {} {} {} {} {:08X}",

@@ -1,4 +1,4 @@
-//! "The ten sense triples (key/ASC/ASCQ)".
+//! "The ten sense triples (key/ASC/ASCQ)", and K4's three: thirteen are admitted.
 
 #[derive(Clone, Copy, Debug, PartialEq, Eq)]
 pub struct Sense {
@@ -12,9 +12,9 @@ impl Sense {
         Sense { key, asc, ascq }
     }
 
-    /// Refusal 2 asks whether the held sense is one of the ten.
+    /// Refusal 2 asks whether the held sense is one of the thirteen.
     pub fn is_known(self) -> bool {
-        TEN.contains(&self)
+        TRIPLES.contains(&self)
     }
 
     /// Three hex bytes, as both printed forms want them.
@@ -34,7 +34,13 @@ pub const WRONG_MODE: Sense = Sense::new(0x05, 0x64, 0x00);
 pub const CHANGED: Sense = Sense::new(0x06, 0x28, 0x00);
 pub const POWERED_ON: Sense = Sense::new(0x06, 0x29, 0x00);
 
-pub const TEN: [Sense; 10] = [
+/// K4: a list length, a field of the list, saved values.
+pub const LIST_LENGTH: Sense = Sense::new(0x05, 0x1A, 0x00);
+pub const LIST_FIELD: Sense = Sense::new(0x05, 0x26, 0x00);
+pub const NOT_SAVED: Sense = Sense::new(0x05, 0x39, 0x00);
+
+/// 01's ten in its order, then K4's: "refusal 2 admits these triples".
+pub const TRIPLES: [Sense; 13] = [
     NONE,
     NO_MEDIUM,
     TRAY_OPEN,
@@ -45,4 +51,7 @@ pub const TEN: [Sense; 10] = [
     WRONG_MODE,
     CHANGED,
     POWERED_ON,
+    LIST_LENGTH,
+    LIST_FIELD,
+    NOT_SAVED,
 ];

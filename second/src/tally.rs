@@ -1,9 +1,11 @@
 //! How many broken tables a stream meets, by the rule that refusal 4 carries
-//! (K6), how many power-ons it has, by form and by what they meet (K3), and how
-//! many plays, 42h and outside calls, by status (K2).
+//! (K6), how many power-ons it has, by form and by what they meet (K3), how many
+//! plays, 42h and outside calls, by status (K2), and how many 5Ah, by page
+//! control, and 55h, by outcome (K4).
 
 use std::fmt::Write;
 
+use crate::mode_page::{PAGE, SETTINGS};
 use crate::play::STATUSES;
 use crate::replay::{self, take_record};
 
@@ -23,7 +25,7 @@ pub fn of(stream: &[u8]) -> [Met; 7] {
     let (mut rest, mut fresh) = (stream, true);
     while let Ok((kind, _, after)) = take_record(rest) {
         rest = after;
-        if kind < replay::POWER_ON {
+        if !replay::is_call(kind) {
             // A table counts once, however many calls it refuses.
             fresh |= kind == replay::TABLE;
             continue;
@@ -106,7 +108,7 @@ pub fn audio(stream: &[u8]) -> Audio {
     let (mut rest, mut audio) = (stream, Audio::default());
     while let Ok((kind, body, after)) = take_record(rest) {
         rest = after;
-        if kind < replay::POWER_ON {
+        if !replay::is_call(kind) {
             continue;
         }
         let Some(line) = lines.next().filter(|&line| line != "bad record") else {
@@ -126,8 +128,8 @@ pub fn audio(stream: &[u8]) -> Audio {
                 audio.pauses += usize::from(good);
                 audio.refused_pauses += usize::from(!good);
             }
-            (replay::PACKET, Some(0x42)) if words[1..3] == ["0", "00"] && words[13].len() > 3 => {
-                count(&mut audio, &words[13][2..4], |status| &mut status.told);
+            (replay::PACKET, Some(0x42)) if words[1..3] == ["0", "00"] && words[15].len() > 3 => {
+                count(&mut audio, &words[15][2..4], |status| &mut status.told);
             }
             _ => {}
         }
@@ -143,8 +145,76 @@ fn count(audio: &mut Audio, digits: &str, which: fn(&mut Status) -> &mut usize) 
     }
 }
 
+/// What a stream has of K4.
+#[derive(Clone, Copy, Debug, Default, PartialEq, Eq)]
+pub struct Modes {
+    /// GOOD 5Ah for current, changeable and default values.
+    pub sensed: [usize; 3],
+    /// 5Ah for saved values of page 01h, and for another page.
+    pub saved: usize,
+    pub other_pages: usize,
+    /// GOOD 55h with a list of 16, and with none.
+    pub set: usize,
+    pub empty: usize,
+    /// 55h with a wrong list length, and with a wrong list.
+    pub lengths: usize,
+    pub lists: usize,
+    /// Both, told an attention or refused.
+    pub other: usize,
+    /// Calls that 2 refuses while the recovery byte is none of the twenty.
+    pub unsound: usize,
+}
+
+/// A packet's status, sense and body tell which of them it is.
+pub fn modes(stream: &[u8]) -> Modes {
+    let lines = replay::run(stream);
+    let mut lines = lines.lines();
+    let (mut rest, mut modes) = (stream, Modes::default());
+    while let Ok((kind, body, after)) = take_record(rest) {
+        rest = after;
+        if !replay::is_call(kind) {
+            continue;
+        }
+        let Some(line) = lines.next().filter(|&line| line != "bad record") else {
+            break;
+        };
+        let words: Vec<&str> = line.split(' ').collect();
+        modes.unsound += usize::from(words[1] == "2" && !has_a_setting(&words, kind));
+        if kind == replay::PACKET && body.len() == 12 && [0x5A, 0x55].contains(&body[0]) {
+            *modes.of(body, &words[1..3], &words[7..10].join("/")) += 1;
+        }
+    }
+    modes
+}
+
+/// Whether the recovery byte in a line is one of the twenty: it stands behind the
+/// play record, which has three words.
+fn has_a_setting(words: &[&str], kind: u8) -> bool {
+    let place = if kind == replay::PACKET { 13 } else { 9 };
+    let named = |setting: &u8| format!("{setting:02X}") == words[place];
+    SETTINGS.iter().any(named)
+}
+
+impl Modes {
+    /// The count that a 5Ah or 55h belongs to.
+    fn of(&mut self, body: &[u8], outcome: &[&str], sense: &str) -> &mut usize {
+        let (control, page) = (body[2] >> 6, body[2] & 0x3F);
+        let selects = body[0] == 0x55;
+        match (selects, outcome, sense) {
+            (false, ["0", "00"], _) => &mut self.sensed[usize::from(control)],
+            (false, ["0", "02"], "05/39/00") => &mut self.saved,
+            (false, ["0", "02"], "05/24/00") if page != PAGE => &mut self.other_pages,
+            (true, ["0", "00"], _) if body[7..9] == [0, 0] => &mut self.empty,
+            (true, ["0", "00"], _) => &mut self.set,
+            (true, ["0", "02"], "05/1A/00") => &mut self.lengths,
+            (true, ["0", "02"], "05/26/00") => &mut self.lists,
+            _ => &mut self.other,
+        }
+    }
+}
+
 /// A header and a line for each rule, then one and a line for each form, then
-/// K2's: plays and pauses, then a line for each status.
+/// K2's: plays and pauses, then a line for each status; then K4's two packets.
 pub fn print(stream: &[u8]) -> String {
     let mut out = "rule tables packets parts\n".to_string();
     for (met, rule) in of(stream).iter().zip(1..) {
@@ -167,6 +237,7 @@ pub fn print(stream: &[u8]) -> String {
         out.push_str(&line);
     }
     print_audio(&mut out, &audio(stream));
+    print_modes(&mut out, &modes(stream));
     out
 }
 
@@ -187,4 +258,26 @@ fn print_audio(out: &mut String, audio: &Audio) {
         let line = format!("{status:02X}h {} {}\n", met.told, met.left);
         out.push_str(&line);
     }
+}
+
+fn print_modes(out: &mut String, modes: &Modes) {
+    let Modes {
+        sensed: [current, changeable, default],
+        saved,
+        other_pages,
+        set,
+        empty,
+        lengths,
+        lists,
+        other,
+        unsound,
+    } = modes;
+    out.push_str("5Ah current changeable default saved other-page\n");
+    let line = format!("5Ah {current} {changeable} {default} {saved} {other_pages}\n");
+    out.push_str(&line);
+    out.push_str("55h set empty wrong-length wrong-list\n");
+    let line = format!("55h {set} {empty} {lengths} {lists}\n");
+    out.push_str(&line);
+    out.push_str("mode other unsound\n");
+    out.push_str(&format!("mode {other} {unsound}\n"));
 }

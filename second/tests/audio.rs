@@ -548,7 +548,7 @@ fn the_end_completes() {
 #[test]
 fn moves_in_any_state() {
     for flags in all_flags() {
-        for held in sense::TEN {
+        for held in sense::TRIPLES {
             let state = |play| State {
                 sense: held,
                 play,
@@ -744,7 +744,7 @@ fn two_in_its_place() {
         for size in [BOUND - 1, BOUND] {
             for (length, due) in [(11, 1), (12, 2), (13, 1)] {
                 let mut memory = vec![7; size];
-                let reply = perform(bad, table, &[0; 13][..length], &mut memory);
+                let reply = perform(bad, table, &[], &[0; 13][..length], &mut memory);
                 assert_eq!(reply.refusal.map_or(0, |one| one.number()), due);
                 assert_eq!((reply.next, memory), (bad, vec![7; size]));
             }
@@ -882,5 +882,5 @@ fn tally_counts_audio() {
     };
     assert_eq!(tally::audio(&stream.bytes), due);
     let tail = "audio 1 2 3 1 1\nstatus told left\n11h 1 1\n12h 1 0\n13h 1 1\n15h 1 0\n";
-    assert!(tally::print(&stream.bytes).ends_with(tail));
+    assert!(tally::print(&stream.bytes).contains(tail));
 }

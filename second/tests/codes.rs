@@ -14,8 +14,8 @@ use second::sense::{self, Sense, NONE};
 use second::stored::stored_stream;
 
 /// A code for each class, "unknown" first; no command has 01h.
-fn one_of_each_class() -> [u8; 14] {
-    let mut list = [0x01; 14];
+fn one_of_each_class() -> [u8; 16] {
+    let mut list = [0x01; 16];
     for (code, _) in PACKETS {
         list[class(code)] = code;
     }
@@ -59,7 +59,7 @@ fn printed(records: &[(u8, Vec<u8>)], code: u8, answered_as: u8) -> Vec<String> 
     lines.lines().map(cut).collect()
 }
 
-/// 256 x 13 wrong tables, each with one wrong row: each prints another line.
+/// 256 x 15 wrong tables, each with one wrong row: each prints another line.
 #[test]
 fn each_wrong_row_is_noticed() {
     let records = records(every_row);
@@ -76,7 +76,7 @@ fn each_wrong_row_is_noticed() {
             }
         }
     }
-    assert_eq!(tables, 256 * 13);
+    assert_eq!(tables, 256 * 15);
 }
 
 /// The same under attentions: there the rows of INQUIRY and REQUEST SENSE show,
@@ -110,17 +110,18 @@ fn every_row_is_stored() {
     }
 }
 
-/// "giving the command's class or "unknown"": 01's ten codes and K2's three have
-/// a command, and exactly the others are 05/20/00, loaded, closed and empty, and
-/// open.
+/// "giving the command's class or "unknown"": 01's ten codes, K2's three and K4's
+/// two have a command, and exactly the others are 05/20/00, loaded, closed and
+/// empty, and open.
 #[test]
-fn thirteen_codes_and_no_others() {
+fn fifteen_codes_and_no_others() {
     assert_eq!(PACKETS.map(|(code, _)| code), CODES);
     assert_eq!(
         PACKETS.map(|(code, _)| class(code)),
-        [1, 2, 3, 4, 5, 6, 7, 8, 9, 10, 11, 12, 13]
+        [1, 2, 3, 4, 5, 6, 7, 8, 9, 10, 11, 12, 13, 14, 15]
     );
     assert_eq!([0x45, 0x4B, 0x42].map(class), [11, 12, 13]);
+    assert_eq!([0x5A, 0x55].map(class), [14, 15]);
     for state in [State::READY, State::EMPTY, State::READY.opened()] {
         for code in 0..=255 {
             let (reply, _) = on_e(state, &plain(code));

@@ -12,7 +12,7 @@ use second::drive::State;
 use second::sense::Sense;
 use second::{examples, files, stored};
 
-const KNOWN: [&str; 13] = [
+const KNOWN: [&str; 15] = [
     "| 00h | TEST UNIT READY | 1 | yes | told first |",
     "| 03h | REQUEST SENSE | 2 | no | performed; gives it where no sense is held |",
     "| 12h | INQUIRY | 3 | no | performed |",
@@ -26,6 +26,8 @@ const KNOWN: [&str; 13] = [
     "| 45h | PLAY AUDIO(10) | 11 | yes | told first |",
     "| 4Bh | PAUSE/RESUME | 12 | yes | told first |",
     "| 42h | READ SUB-CHANNEL | 13 | yes | told first |",
+    "| 5Ah | MODE SENSE(10) | 14 | no | told first |",
+    "| 55h | MODE SELECT(10) | 15 | no | told first |",
 ];
 
 /// A page that has these lines between others.
@@ -37,7 +39,7 @@ fn page(lines: &[String]) -> String {
     )
 }
 
-/// The thirteen codes, and all the others, in order.
+/// The fifteen codes, and all the others, in order.
 #[test]
 fn page_has_a_line_for_each_code() {
     let lines = lines();
@@ -49,12 +51,12 @@ fn page_has_a_line_for_each_code() {
         assert_eq!(line, known.map_or(unknown.as_str(), |one| *one));
     }
     let known = lines.iter().filter(|line| !line.contains("unknown"));
-    assert_eq!(known.count(), 13);
+    assert_eq!(known.count(), 15);
 }
 
 /// "Needing one: 00h, 25h, 28h, 2Bh, 43h, A8h, and 1Bh with LoEj 0 and Start
-/// 1." K2: "These commands need a disc." The column says what an open drive does
-/// too.
+/// 1." K2: "These commands need a disc." K4's two do not. The column says what an
+/// open drive does too.
 #[test]
 fn needs_a_disc_is_step_4() {
     for code in 0..=255 {

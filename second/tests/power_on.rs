@@ -10,6 +10,7 @@ use second::cases::picked_state::all_flags;
 use second::cases::sheet::disc_e;
 use second::cases::stream::Stream;
 use second::drive::State;
+use second::mode_page::ModePage;
 use second::play::Play;
 use second::replay::{self, take_record};
 use second::sense::{self, Sense, NONE};
@@ -26,10 +27,15 @@ type Form = fn(State) -> State;
 const DEFAULT: Form = State::power_on;
 const SECOND: Form = State::power_on_without_change;
 
-/// Held before a power-on: some of the ten, and two that are none of them.
+/// Held before a power-on: some of the thirteen, and two that are none of them.
 fn held() -> [Sense; 5] {
     let [near, far] = [(6, 0x29, 1), (0xFF, 0xFF, 0xFF)].map(|(a, b, c)| Sense::new(a, b, c));
     [NONE, sense::PREVENTED, CHANGED, near, far]
+}
+
+/// What a power-on restores (K4): pages that 2 takes, and some that it covers.
+fn mode_pages() -> [ModePage; 4] {
+    [(0, 0), (0x35, 0xFF), (0x02, 0), (0xFF, 0x01)].map(|(a, b)| ModePage::new(a, b))
 }
 
 /// What a power-on resets (K2): sound records, and unsound ones, which it does
@@ -52,9 +58,11 @@ fn all_states() -> impl Iterator<Item = State> {
         .into_iter()
         .flat_map(|sense| all_flags().map(move |flags| (sense, flags)))
         .zip(records().into_iter().cycle())
-        .map(|((sense, flags), play)| State {
+        .zip(mode_pages().into_iter().cycle())
+        .map(|(((sense, flags), play), mode)| State {
             sense,
             play,
+            mode,
             ..flags
         })
 }
@@ -80,6 +88,7 @@ fn greeted(state: State, change: bool) -> State {
         change,
         sense: Sense::new(0, 0, 0),
         play: Play::NONE,
+        mode: ModePage::DEFAULT,
     }
 }
 
@@ -227,11 +236,13 @@ fn last_power_on_decides() {
 #[test]
 fn nothing_is_looked_at() {
     for stranger in [[0, 0, 0], [1, 2, 3]] {
-        // A play record of zeros is none that a call but power-on takes.
-        let state = [[0, 1, 1, 0, 0].as_slice(), &stranger, &[0; 9]].concat();
+        // A play record of zeros is none that a call but power-on takes, and a
+        // recovery byte of FFh none either.
+        let rest = [0, 0, 0, 0, 0, 0, 0, 0, 0, 0xFF, 0xFF];
+        let state = [[0, 1, 1, 0, 0].as_slice(), &stranger, &rest].concat();
         for (kind, line) in [
-            (3, "o 0 01011 00 00 00 15 0 0\n"),
-            (11, "q 0 01010 00 00 00 15 0 0\n"),
+            (3, "o 0 01011 00 00 00 15 0 0 00 00\n"),
+            (11, "q 0 01010 00 00 00 15 0 0 00 00\n"),
         ] {
             let mut stream = Stream::new();
             stream.record(replay::STATE, &state);
@@ -290,8 +301,14 @@ fn state_in(line: &str) -> Option<Vec<u8>> {
         let number: u32 = word.parse().expect("a decimal");
         state.extend(number.to_be_bytes());
     }
+    for word in &words[from + 7..from + 9] {
+        state.push(u8::from_str_radix(word, 16).expect("a hex byte"));
+    }
     Some(state)
 }
+
+/// The kinds that set what the calls meet.
+const SET: [u8; 4] = [replay::STATE, replay::TABLE, replay::MEMORY, replay::LIST];
 
 /// The answers in these lines: a packet's words without the flags.
 fn answers(lines: &str) -> Vec<String> {
@@ -311,14 +328,14 @@ fn answers(lines: &str) -> Vec<String> {
 fn told_apart(stream: &[u8]) -> (usize, usize) {
     let lines = replay::run(stream);
     let mut lines = lines.lines();
-    // Kinds 0 to 2 as they stand.
-    let mut set = [vec![0; replay::STATE_BYTES], vec![], vec![0, 0, 0]];
+    // Kinds 0 to 2 and 13 as they stand.
+    let mut set = [vec![0; replay::STATE_BYTES], vec![], vec![0, 0, 0], vec![]];
     let (mut loaded, mut apart) = (0, 0);
     let mut rest = stream;
     while let Ok((kind, body, after)) = take_record(rest) {
         rest = after;
-        if kind < replay::POWER_ON {
-            set[usize::from(kind)] = body.to_vec();
+        if let Some(place) = SET.iter().position(|&one| one == kind) {
+            set[place] = body.to_vec();
             continue;
         }
         if kind == replay::POWER_ON_WITHOUT_CHANGE && set[0][..2] == [0, 1] {
@@ -339,9 +356,9 @@ fn told_apart(stream: &[u8]) -> (usize, usize) {
 
 /// A stream of its own: what is set, a power-on by this kind, and the records up
 /// to the next state or power-on.
-fn behind(set: &[Vec<u8>; 3], form: u8, mut rest: &[u8]) -> Vec<u8> {
+fn behind(set: &[Vec<u8>; 4], form: u8, mut rest: &[u8]) -> Vec<u8> {
     let mut stream = Stream::new();
-    for (kind, body) in (0..).zip(set) {
+    for (kind, body) in SET.into_iter().zip(set) {
         stream.record(kind, body);
     }
     stream.record(form, &[]);

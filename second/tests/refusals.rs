@@ -19,7 +19,7 @@ use second::drive::State;
 use second::packet::perform;
 use second::refusal::Refusal;
 use second::rng::Rng;
-use second::sense::{self, Sense, TEN};
+use second::sense::{self, Sense, TRIPLES};
 use second::table::{broken_rule, read, session_part};
 use second::toc::{full_answer, TocRequest};
 use second::{replay, stored};
@@ -39,8 +39,11 @@ fn one_wrong_length() {
 #[test]
 fn two_unknown_sense() {
     let table = disc_e().bytes();
-    // Some by hand: what `strangers` leaves out hangs on the ten as they are kept.
+    // Some by hand: what `strangers` leaves out hangs on the triples as they are kept.
     let near = [(0, 0, 1), (2, 0x3A, 0), (5, 0x53, 0), (6, 0x29, 1)];
+    // Next to K4's three too.
+    let next = [(5, 0x1B, 0), (5, 0x26, 1), (6, 0x26, 0), (5, 0x38, 0)];
+    let near = near.into_iter().chain(next);
     let near = near.map(|(key, asc, ascq)| Sense::new(key, asc, ascq));
     for held in strangers().into_iter().chain(near) {
         let state = State {
@@ -58,7 +61,7 @@ fn two_unknown_sense() {
             assert_eq!(open.power_on_without_change().sense, sense::NONE);
         }
     }
-    for held in TEN {
+    for held in TRIPLES {
         let state = State {
             sense: held,
             ..READY
@@ -80,7 +83,7 @@ fn three_small_memory() {
             (8_191, 0),
         ] {
             let mut memory = vec![7; length];
-            let reply = perform(READY, &table, &packet, &mut memory);
+            let reply = perform(READY, &table, &[], &packet, &mut memory);
             assert_eq!(reply.refusal.map_or(0, Refusal::number), due);
         }
     }
@@ -129,7 +132,7 @@ fn only_four_carries_a_rule() {
         assert_eq!(told(READY, &table, &packet), (4, rule));
         assert_eq!(told(READY, &table, &packet[..11]), (1, 0));
         assert_eq!(told(stranger, &table, &packet), (2, 0));
-        let short = perform(READY, &table, &packet, &mut [0; 6_537]);
+        let short = perform(READY, &table, &[], &packet, &mut [0; 6_537]);
         assert_eq!(both(short.refusal), (3, 0));
         assert_eq!(told(State::EMPTY, &table, &packet), (0, 0));
     }
@@ -167,7 +170,7 @@ fn one_to_four_in_order() {
             ..READY
         };
         let packet = vec![0; if n & 1 != 0 { 13 } else { 12 }];
-        let reply = perform(state, table, &packet, &mut memory);
+        let reply = perform(state, table, &[], &packet, &mut memory);
         let due = (0..4)
             .find(|bit| n & 1 << bit != 0)
             .map_or(0, |bit| bit + 1);
@@ -281,7 +284,7 @@ fn no_answer_passes_the_bound() {
     let mut memory = vec![0; 8_191];
     for (state, table) in picked.chain(drawn).chain(unloaded) {
         for (packet, most) in &packets {
-            let reply = perform(state, &table, packet, &mut memory);
+            let reply = perform(state, &table, &[], packet, &mut memory);
             assert_eq!(reply.refusal, None);
             assert!(reply.length <= *most, "{packet:02X?}");
         }
@@ -323,7 +326,7 @@ fn memory_holds_every_answer() {
                 for size in [6_538, 6_539, 8_191, 70_000] {
                     let mut memory = vec![0xEE; size];
                     let packet = toc(true, format, number, length);
-                    let reply = perform(READY, &table, &packet, &mut memory);
+                    let reply = perform(READY, &table, &[], &packet, &mut memory);
                     assert_eq!((reply.refusal, reply.length), (None, due.len()));
                     let mut whole = due.to_vec();
                     whole.resize(size, 0xEE);

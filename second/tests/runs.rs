@@ -1,10 +1,11 @@
 //! Whole runs of calls: what a run may depend on, and what not.
 
-use second::cases::packets::{any_packet, one_of_each, request_sense, Marks, Packet};
+use second::cases::packets::{any_list, any_packet, one_of_each, request_sense, Marks, Packet};
 use second::cases::picked_state::all_flags;
 use second::cases::sheet::any_fit;
 use second::drive::State;
 use second::limits::{BOUND, TOP_ADDRESS};
+use second::mode_page::{ModePage, SETTINGS};
 use second::packet::{perform, Reply};
 use second::play::{Play, STATUSES};
 use second::refusal::Refusal;
@@ -20,7 +21,8 @@ enum Call {
     Lay,
     Lift,
     MoveOn(u32),
-    Packet(Packet),
+    /// With K4's parameter list, if one of 16 bytes is lent.
+    Packet(Packet, Option<[u8; 16]>),
 }
 
 /// What a call gives back: a packet's reply, or a tray call's result.
@@ -48,8 +50,9 @@ impl Bench {
 
     fn call(&mut self, call: Call) -> Given {
         let moved = match call {
-            Call::Packet(packet) => {
-                let reply = perform(self.state, &self.table, &packet, &mut self.memory);
+            Call::Packet(packet, list) => {
+                let list = list.as_ref().map_or(&[][..], |list| list);
+                let reply = perform(self.state, &self.table, list, &packet, &mut self.memory);
                 self.state = reply.next;
                 return Given::Reply(reply);
             }
@@ -72,9 +75,15 @@ fn any_call(rng: &mut Rng, marks: &Marks) -> Call {
         1 => Call::Button,
         2 => Call::Lay,
         3 => Call::Lift,
-        4..=7 => Call::Packet(rng.pick(&one_of_each())),
-        _ => Call::Packet(any_packet(rng, marks)),
+        4..=7 => Call::Packet(rng.pick(&one_of_each()), lent(rng)),
+        _ => Call::Packet(any_packet(rng, marks), lent(rng)),
     }
+}
+
+/// A list of 16 bytes or none, as often.
+fn lent(rng: &mut Rng) -> Option<[u8; 16]> {
+    let list = any_list(rng).try_into().ok();
+    list.filter(|_| rng.one_in(2))
 }
 
 /// Either form of K3.
@@ -92,15 +101,17 @@ fn any_bench(rng: &mut Rng) -> (Bench, Marks) {
         position: rng.below(end + 1) as u32,
         end: end as u32,
     };
+    let mode = ModePage::new(rng.pick(&SETTINGS), rng.byte());
     let state = State {
         play,
+        mode,
         ..rng.pick(&flags)
     };
     (Bench::new(state, table), marks)
 }
 
 /// From a power-on of either form two runs of the same calls, with different fit
-/// tables, give the same answers, states and memory, up to and with the answer
+/// tables and, at each call, the same parameter list (K4), give the same answers, states and memory, up to and with the answer
 /// that leaves nothing pending.
 #[test]
 fn two_runs_agree() {
@@ -133,7 +144,7 @@ fn same_input_same_outcome() {
         let (mut one, marks) = any_bench(&mut rng);
         for made in 0..20 {
             let call = match made {
-                0 => Call::Packet(request_sense(18)),
+                0 => Call::Packet(request_sense(18), None),
                 _ => any_call(&mut rng, &marks),
             };
             let mut again = Bench::new(one.state, one.table.clone());
@@ -185,7 +196,7 @@ fn pending_from_the_history() {
             match (call, given) {
                 (Call::PowerOn, _) => (power, change) = (true, before.disc_in && !before.tray_open),
                 (Call::PowerOnWithoutChange, _) => (power, change) = (true, false),
-                (Call::Packet(packet), Given::Reply(reply)) => {
+                (Call::Packet(packet, _), Given::Reply(reply)) => {
                     match told(&packet, before.sense, &reply, power, change) {
                         Some(0x29) => power = false,
                         Some(_) => change = false,

@@ -2,11 +2,12 @@
 
 mod common;
 
-use common::{check, good, on, on_e};
+use common::{check, good, on, on_e, on_with};
 use second::cases::packets::*;
 use second::cases::picked_state::all_flags;
 use second::cases::sheet::{any_fit, disc_e, three_sessions, two_sessions};
 use second::drive::State;
+use second::mode_page::ModePage;
 use second::play::Play;
 use second::refusal::Refusal;
 use second::rng::Rng;
@@ -159,6 +160,7 @@ fn button_and_power_on() {
                 change: false,
                 sense: Sense::new(0, 0, 0),
                 play: Play::NONE,
+                mode: ModePage::DEFAULT,
             };
             assert_eq!(on.power_on_without_change(), next);
             // K3: the default form differs in the change attention alone.
@@ -193,6 +195,8 @@ fn who_needs_a_disc() {
         .map(start_stop)
         .into_iter()
         .chain([0, 1].map(prevent))
+        // K4's two need none.
+        .chain([mode_sense(0, 1, 16), mode_sense(1, 1, 0), mode_select(0)])
     {
         for state in [READY, State::EMPTY, State::EMPTY.opened(), READY.opened()] {
             assert_eq!(on_e(state, &packet).0.status, 0);
@@ -205,7 +209,8 @@ fn who_needs_a_disc() {
     }
 }
 
-/// Each of the ten as bytes: how it comes about, and that it may be held.
+/// Each of 01's ten and K4's three as bytes: how it comes about, and that it may
+/// be held. No list is lent.
 #[test]
 fn each_triple() {
     let locked = State {
@@ -216,7 +221,7 @@ fn each_triple() {
         change: true,
         ..READY
     };
-    let ways: [(State, Packet, [u8; 3]); 10] = [
+    let ways: [(State, Packet, [u8; 3]); 12] = [
         (READY, test_ready(), [0x00, 0x00, 0x00]),
         (State::EMPTY, test_ready(), [0x02, 0x3A, 0x01]),
         (READY.opened(), test_ready(), [0x02, 0x3A, 0x02]),
@@ -227,6 +232,8 @@ fn each_triple() {
         (READY, read10(150, 1), [0x05, 0x64, 0x00]),
         (loading, test_ready(), [0x06, 0x28, 0x00]),
         (READY.power_on(), test_ready(), [0x06, 0x29, 0x00]),
+        (READY, mode_select(16), [0x05, 0x1A, 0x00]),
+        (READY, mode_sense(3, 1, 16), [0x05, 0x39, 0x00]),
     ];
     for (state, packet, [key, asc, ascq]) in ways {
         let held = Sense::new(key, asc, ascq);
@@ -240,6 +247,11 @@ fn each_triple() {
         assert_eq!(reply.refusal, None);
         assert_eq!([memory[2], memory[12], memory[13]], [key, asc, ascq]);
     }
+    let (reply, _) = on_with(READY, &disc_e().bytes(), &[0; 16], &mode_select(16));
+    assert_eq!(reply.next.sense, Sense::new(0x05, 0x26, 0x00));
+    let (reply, memory) = on_e(reply.next, &request_sense(18));
+    assert_eq!(reply.refusal, None);
+    assert_eq!([memory[2], memory[12], memory[13]], [0x05, 0x26, 0x00]);
 }
 
 #[test]

@@ -8,8 +8,8 @@ use crate::cases::pairs::{self, Pair};
 use crate::cases::sheet::{disc_e, two_sessions, Sheet};
 use crate::cases::stream::Stream;
 use crate::cases::{
-    mode_five, picked, picked_audio, picked_codes, picked_fields, picked_power, picked_state,
-    picked_tables, random, several,
+    mode_five, picked, picked_audio, picked_codes, picked_fields, picked_mode, picked_power,
+    picked_state, picked_tables, random, several,
 };
 use crate::examples;
 use crate::files::File;
@@ -50,7 +50,7 @@ macro_rules! named {
     };
 }
 
-const MAKERS: [(&str, Maker); 73] = [
+const MAKERS: [(&str, Maker); 92] = [
     named!(Start, picked_state::from_nothing),
     named!(Calls, picked_state::attentions),
     named!(Calls, picked_state::senses),
@@ -100,6 +100,24 @@ const MAKERS: [(&str, Maker); 73] = [
     named!(Calls, picked_audio::every_end),
     named!(Calls, picked_audio::record_in_order),
     named!(Calls, picked_audio::audio_bits),
+    named!(Calls, picked_mode::marked_mode),
+    named!(Calls, picked_mode::pages),
+    named!(Calls, picked_mode::page_lengths),
+    named!(Calls, picked_mode::settings_sensed),
+    named!(Calls, picked_mode::every_recovery),
+    named!(Calls, picked_mode::every_recovery_held),
+    named!(Calls, picked_mode::recovery_in_order),
+    named!(Calls, picked_mode::list_lengths),
+    named!(Calls, picked_mode::header_bits),
+    named!(Calls, picked_mode::page_bytes),
+    named!(Calls, picked_mode::mode_bits),
+    named!(Calls, picked_mode::mode_told_first),
+    named!(Calls, picked_mode::mode_unfit),
+    named!(Calls, picked_mode::mode_senses),
+    named!(Calls, picked_mode::page_kept),
+    named!(Calls, picked_mode::page_restored),
+    named!(Calls, picked_mode::list_unused),
+    named!(Calls, picked_mode::mode_while_playing),
     named!(random::fill, Calls(drawn)),
     named!(
         random::trace_scene,
@@ -112,6 +130,10 @@ const MAKERS: [(&str, Maker); 73] = [
     named!(
         random::audio_scene,
         Calls(|stream| scenes(stream, random::audio_scene))
+    ),
+    named!(
+        random::mode_scene,
+        Calls(|stream| scenes(stream, random::mode_scene))
     ),
     named!(
         random::broken_scene,

@@ -12,6 +12,7 @@ pub mod picked;
 pub mod picked_audio;
 pub mod picked_codes;
 pub mod picked_fields;
+pub mod picked_mode;
 pub mod picked_power;
 pub mod picked_state;
 pub mod picked_tables;

@@ -1,5 +1,6 @@
 //! Packets by name, the bits that rules name, and packets drawn at random.
 
+use crate::mode_page::SETTINGS;
 use crate::rng::Rng;
 use crate::table::{Disc, Mode};
 
@@ -103,9 +104,31 @@ pub fn position(msf: bool) -> Packet {
     sub_channel(msf, true, 1, 16)
 }
 
-/// The codes the board answers, K2's three last.
-pub const CODES: [u8; 13] = [
-    0x00, 0x03, 0x12, 0x1B, 0x1E, 0x25, 0x28, 0x2B, 0x43, 0xA8, 0x45, 0x4B, 0x42,
+/// MODE SENSE of this page control and page (K4).
+pub fn mode_sense(control: u8, page: u8, length: u16) -> Packet {
+    let mut p = plain(0x5A);
+    p[2] = control << 6 | page;
+    p[7..9].copy_from_slice(&length.to_be_bytes());
+    p
+}
+
+/// MODE SELECT of this list length (K4).
+pub fn mode_select(length: u16) -> Packet {
+    let mut p = plain(0x55);
+    p[7..9].copy_from_slice(&length.to_be_bytes());
+    p
+}
+
+/// A sound list of 16 bytes for `mode_select`, zeros where nothing is looked at.
+pub fn page_list(recovery: u8, retries: u8) -> [u8; 16] {
+    let mut list = [0; 16];
+    list[8..12].copy_from_slice(&[0x01, 0x06, recovery, retries]);
+    list
+}
+
+/// The codes the board answers, K2's three and K4's two last.
+pub const CODES: [u8; 15] = [
+    0x00, 0x03, 0x12, 0x1B, 0x1E, 0x25, 0x28, 0x2B, 0x43, 0xA8, 0x45, 0x4B, 0x42, 0x5A, 0x55,
 ];
 
 /// One packet for every command and branch, on any small disc.
@@ -136,6 +159,9 @@ pub fn one_of_each() -> Vec<Packet> {
         resume(),
         position(false),
         sub_channel(true, false, 0, 3),
+        mode_sense(0, 1, 16),
+        mode_select(0),
+        mode_select(16),
         plain(0x47),
     ]
 }
@@ -163,6 +189,11 @@ pub fn named_bits(code: u8) -> Packet {
             bits[7..9].fill(0xFF);
         }
         0x4B => bits[8] = 0x01,
+        0x55 => bits[7..9].fill(0xFF),
+        0x5A => {
+            bits[2] = 0xFF;
+            bits[7..9].fill(0xFF);
+        }
         0x43 => {
             bits[1] = 0x02;
             bits[2] = 0x0F;
@@ -314,6 +345,44 @@ pub fn any_audio(rng: &mut Rng, marks: &Marks) -> Packet {
     }
 }
 
+/// 5Ah or 55h (K4), most often of page 01h, and of a length that a list may have.
+pub fn any_mode(rng: &mut Rng) -> Packet {
+    match rng.below(9) {
+        0..=3 => {
+            let length = rng.pick(&LENGTHS);
+            mode_sense(rng.byte() % 4, 1, length)
+        }
+        4 => mode_sense(rng.byte() % 4, rng.byte() & 0x3F, 16),
+        5 | 6 => mode_select(16),
+        7 => mode_select(0),
+        _ => mode_select(rng.pick(&[1, 8, 12, 15, 17, 24, 256, 4_096, 65_535])),
+    }
+}
+
+/// A parameter list (K4): sound, empty, of another length, or wrong in a place.
+pub fn any_list(rng: &mut Rng) -> Vec<u8> {
+    let mut list = page_list(rng.pick(&SETTINGS), rng.byte()).to_vec();
+    if rng.one_in(2) {
+        // Nothing here is looked at.
+        for place in (0..8).chain(12..16) {
+            list[place] = rng.byte();
+        }
+    }
+    match rng.below(10) {
+        0 => list.clear(),
+        1 => {
+            let length = rng.pick(&[1, 7, 8, 9, 12, 15, 17, 24, 32, 272]);
+            list.resize(length, 0x01);
+        }
+        2 => list[8] = rng.pick(&[0x81, 0x00, 0x02, 0x41, 0x3F]),
+        3 => list[9] = rng.pick(&[0x0A, 0x05, 0x07, 0x00, 0x86]),
+        4 => list[10] = rng.byte(),
+        5 => list[10] ^= 1 << rng.below(8),
+        _ => {}
+    }
+    list
+}
+
 /// Any packet of 12 bytes, most often a known command near a boundary.
 pub fn any_packet(rng: &mut Rng, marks: &Marks) -> Packet {
     let length = rng.pick(&LENGTHS);
@@ -322,8 +391,9 @@ pub fn any_packet(rng: &mut Rng, marks: &Marks) -> Packet {
     } else {
         length.min(255) as u8
     };
-    let packet = match rng.below(124) {
+    let packet = match rng.below(134) {
         100..=123 => any_audio(rng, marks),
+        124..=133 => any_mode(rng),
         0..=5 => test_ready(),
         6..=13 => request_sense(short),
         14..=20 => {

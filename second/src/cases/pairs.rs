@@ -1,8 +1,9 @@
 //! Pairs of a table file and a packet file for the listing program.
 
 use crate::cases::packets::{
-    any_packet, inquiry, one_of_each, pause, play, position, prevent, request_sense, resume, seek,
-    start_stop, sub_channel, test_ready, toc, with_junk, Marks, Packet, EJECT, LOAD,
+    any_packet, inquiry, mode_select, mode_sense, one_of_each, pause, play, position, prevent,
+    request_sense, resume, seek, start_stop, sub_channel, test_ready, toc, with_junk, Marks,
+    Packet, EJECT, LOAD,
 };
 use crate::cases::several;
 use crate::cases::sheet::{any_fit, fullest, most_sessions, three_sittings};
@@ -163,6 +164,7 @@ pub fn stored_pair(seed: u64) -> Pair {
         packets.extend(packet);
     }
     packets.extend(audio().concat());
+    packets.extend(mode().concat());
     packets.extend(run_of_packets(&mut rng, &marks, 700));
     packets.extend([0x12, 0, 0, 0, 36]);
     Pair { table, packets }
@@ -197,6 +199,17 @@ fn audio() -> Vec<Packet> {
         resume(),
         position(false),
     ]
+}
+
+/// K4: the page by each page control, another page, and 55h, to which the listing
+/// lends no list: 0 alone is the length of that.
+fn mode() -> Vec<Packet> {
+    let mut list: Vec<Packet> = (0..4).map(|control| mode_sense(control, 1, 16)).collect();
+    list.extend([mode_sense(0, 1, 11), mode_sense(2, 1, 0)]);
+    list.extend([0x00, 0x02, 0x0E, 0x3F].map(|page| mode_sense(0, page, 255)));
+    list.extend([0, 16, 8, 0, 4_096].map(mode_select));
+    list.push(mode_sense(3, 0x2A, 255));
+    list
 }
 
 /// K6: for each rule from 1 on a table that breaks it alone, three packets that

@@ -2,7 +2,8 @@
 
 use crate::cases::stream::Stream;
 use crate::cases::{
-    picked_audio, picked_codes, picked_fields, picked_power, picked_state, picked_tables,
+    picked_audio, picked_codes, picked_fields, picked_mode, picked_power, picked_state,
+    picked_tables,
 };
 
 /// Every hand-picked case, from the very start of a run.
@@ -56,6 +57,24 @@ pub fn all(stream: &mut Stream) {
     picked_audio::every_end(stream);
     picked_audio::record_in_order(stream);
     picked_audio::audio_bits(stream);
+    picked_mode::marked_mode(stream);
+    picked_mode::pages(stream);
+    picked_mode::page_lengths(stream);
+    picked_mode::settings_sensed(stream);
+    picked_mode::every_recovery(stream);
+    picked_mode::every_recovery_held(stream);
+    picked_mode::recovery_in_order(stream);
+    picked_mode::list_lengths(stream);
+    picked_mode::header_bits(stream);
+    picked_mode::page_bytes(stream);
+    picked_mode::mode_bits(stream);
+    picked_mode::mode_told_first(stream);
+    picked_mode::mode_unfit(stream);
+    picked_mode::mode_senses(stream);
+    picked_mode::page_kept(stream);
+    picked_mode::page_restored(stream);
+    picked_mode::list_unused(stream);
+    picked_mode::mode_while_playing(stream);
 }
 
 /// Kinds 8 and 9 at all boundaries.

@@ -15,7 +15,8 @@ type Fields = [u8; 11];
 
 /// A block of the disc, which is data. READ(10) names 12 blocks and READ(12)
 /// 3,077, and PLAY may not; an eject, or the lock off; READ TOC by M:S:F, format
-/// 0, 12 bytes; a pause; 42h without SubQ; 18 of any other answer that is cut.
+/// 0, 12 bytes; a pause; 42h without SubQ; MODE SENSE of no page, MODE SELECT of a
+/// list that nobody lends; 18 of any other answer that is cut.
 const ON_THE_DISC: Fields = [
     0x02, 0x00, 0x00, 0x12, 0x34, 0x00, 0x00, 0x0C, 0x05, 0xA5, 0x5A,
 ];
@@ -27,7 +28,7 @@ const PAST_THE_END: Fields = [
     0x01, 0x02, 0x00, 0x01, 0x01, 0x01, 0x00, 0x28, 0x00, 0x5A, 0xA5,
 ];
 
-/// A load, or the lock on; READ TOC format 1.
+/// A load, or the lock on; READ TOC format 1; MODE SENSE of page 01h, 256 bytes.
 const LOADING: Fields = [
     0x00, 0x01, 0x00, 0x03, 0x00, 0x02, 0x01, 0x00, 0x03, 0xFF, 0xFF,
 ];

@@ -9,7 +9,7 @@ use crate::cases::sheet::{disc_e, fullest, two_sittings};
 use crate::cases::stream::Stream;
 use crate::drive::State;
 use crate::limits::BOUND;
-use crate::sense::{self, Sense, TEN};
+use crate::sense::{self, Sense, TRIPLES};
 
 pub const MEMORY: u16 = BOUND as u16;
 
@@ -25,10 +25,10 @@ pub fn all_flags() -> impl Iterator<Item = State> {
     })
 }
 
-/// Triples close to the ten, and far from them.
+/// Triples close to the thirteen, and far from them.
 pub fn strangers() -> Vec<Sense> {
     let mut list = Vec::new();
-    for known in TEN {
+    for known in TRIPLES {
         for (key, asc, ascq) in [(1, 0, 0), (0, 1, 0), (0, 0, 1), (0x80, 0, 0), (0, 0, 0x80)] {
             list.push(Sense::new(
                 known.key ^ key,
@@ -37,7 +37,7 @@ pub fn strangers() -> Vec<Sense> {
             ));
         }
     }
-    // One part from one of the ten, one from another.
+    // One part from one of them, one from another.
     for (key, asc, ascq) in [
         (2, 0x28, 0),
         (6, 0x3A, 1),
@@ -45,9 +45,9 @@ pub fn strangers() -> Vec<Sense> {
         (6, 0x20, 0),
         (5, 0x53, 0),
         (2, 0x3A, 0),
-        (5, 0x26, 0),
-        (5, 0x39, 0),
-        (5, 0x1A, 0),
+        (6, 0x26, 0),
+        (5, 0x3A, 0),
+        (2, 0x1A, 0),
         (0xFF, 0xFF, 0xFF),
     ] {
         list.push(Sense::new(key, asc, ascq));
@@ -138,9 +138,9 @@ pub fn attentions(stream: &mut Stream) {
     }
 }
 
-/// Each of the ten and many others, held.
+/// Each of the thirteen and many others, held.
 pub fn senses(stream: &mut Stream) {
-    for held in TEN {
+    for held in TRIPLES {
         let state = State {
             sense: held,
             ..State::READY

@@ -2,8 +2,9 @@
 
 use crate::address::to_msf;
 use crate::cases::packets::{
-    any_audio, any_packet, capacity, one_of_each, pause, play, position, read12, seek, start_stop,
-    test_ready, toc, with_junk, Marks, EJECT, LOAD,
+    any_audio, any_list, any_mode, any_packet, capacity, mode_select, mode_sense, one_of_each,
+    pause, play, position, read12, seek, start_stop, test_ready, toc, with_junk, Marks, EJECT,
+    LOAD,
 };
 use crate::cases::picked_state::{strangers, MEMORY};
 use crate::cases::sheet::{any_fit, fit, longest, small_fit, Sheet};
@@ -11,9 +12,10 @@ use crate::cases::spoil::{any_broken, spoil};
 use crate::cases::stream::Stream;
 use crate::drive::State;
 use crate::limits::TOP_ADDRESS;
+use crate::mode_page::{ModePage, SETTINGS};
 use crate::play::{Play, STATUSES};
 use crate::rng::Rng;
-use crate::sense::{self, Sense, TEN};
+use crate::sense::{self, Sense, TRIPLES};
 use crate::table::{self, Mode};
 
 /// Adds scenes until the stream has at least this many calls.
@@ -24,7 +26,7 @@ pub fn fill(stream: &mut Stream, rng: &mut Rng, calls: usize) {
 }
 
 fn scene(stream: &mut Stream, rng: &mut Rng) {
-    match rng.below(70) {
+    match rng.below(76) {
         0..=11 => disc_scene(stream, rng),
         12..=18 => trace_scene(stream, rng),
         19..=27 => spoilt_scene(stream, rng),
@@ -37,6 +39,7 @@ fn scene(stream: &mut Stream, rng: &mut Rng) {
         39 | 40 => chaos_scene(stream, rng),
         41..=46 => power_on_scene(stream, rng),
         47..=55 => audio_scene(stream, rng),
+        70..=75 => mode_scene(stream, rng),
         _ => broken_scene(stream, rng),
     }
 }
@@ -51,13 +54,13 @@ fn lend_memory(stream: &mut Stream, rng: &mut Rng) {
     stream.memory(length, fill);
 }
 
-/// The ten, and now and then a triple outside them.
+/// The thirteen, and now and then a triple outside them.
 fn any_sense(rng: &mut Rng) -> Sense {
     match rng.below(8) {
         0 => rng.pick(&strangers()),
         1 => Sense::new(rng.byte(), rng.byte(), rng.byte()),
         2 | 3 => sense::NONE,
-        _ => rng.pick(&TEN),
+        _ => rng.pick(&TRIPLES),
     }
 }
 
@@ -103,6 +106,23 @@ fn unsound_play(rng: &mut Rng, marks: &Marks) -> Play {
     }
 }
 
+/// The page (K4) with one of the twenty settings, the default one often.
+fn sound_page(rng: &mut Rng) -> ModePage {
+    if rng.one_in(3) {
+        return ModePage::DEFAULT;
+    }
+    ModePage::new(rng.pick(&SETTINGS), rng.byte())
+}
+
+/// The page with any recovery byte, or one next to a setting.
+fn any_page(rng: &mut Rng) -> ModePage {
+    let recovery = match rng.one_in(2) {
+        true => rng.pick(&SETTINGS) ^ 1 << rng.below(8),
+        false => rng.byte(),
+    };
+    ModePage::new(recovery, rng.byte())
+}
+
 fn any_state(rng: &mut Rng, marks: &Marks) -> State {
     State {
         tray_open: rng.one_in(2),
@@ -116,11 +136,16 @@ fn any_state(rng: &mut Rng, marks: &Marks) -> State {
         } else {
             sound_play(rng, marks)
         },
+        mode: if rng.one_in(12) {
+            any_page(rng)
+        } else {
+            sound_page(rng)
+        },
     }
 }
 
-/// Loaded, mostly with nothing pending, with a sense of the ten and a sound
-/// play record.
+/// Loaded, mostly with nothing pending, with a sense of the thirteen, a sound
+/// play record and a sound page.
 fn loaded_state(rng: &mut Rng, marks: &Marks) -> State {
     State {
         lock: rng.one_in(3),
@@ -129,9 +154,10 @@ fn loaded_state(rng: &mut Rng, marks: &Marks) -> State {
         sense: if rng.one_in(2) {
             sense::NONE
         } else {
-            rng.pick(&TEN)
+            rng.pick(&TRIPLES)
         },
         play: sound_play(rng, marks),
+        mode: sound_page(rng),
         ..State::READY
     }
 }
@@ -183,11 +209,13 @@ pub fn trace_scene(stream: &mut Stream, rng: &mut Rng) {
     stream.state(State {
         sense: sense::NONE,
         play: sound_play(rng, &marks),
+        mode: sound_page(rng),
         ..any_state(rng, &marks)
     });
     for _ in 0..rng.range(20, 80) {
-        match rng.below(22) {
+        match rng.below(23) {
             20 | 21 => stream.move_on(any_step(rng)),
+            22 => select(stream, rng),
             0 => any_power_on(stream, rng),
             1..=3 => stream.button(),
             4 => stream.lay(),
@@ -397,6 +425,59 @@ fn another_record(stream: &mut Stream, rng: &mut Rng, marks: &Marks) {
     });
 }
 
+/// The page set, asked for and refused (K4), the drive loaded or not, with other
+/// calls between that leave it and power-ons that restore it.
+pub fn mode_scene(stream: &mut Stream, rng: &mut Rng) {
+    let marks = lend(stream, &small_fit(rng));
+    stream.state(any_sound_state(rng, &marks));
+    for _ in 0..rng.range(10, 30) {
+        match rng.below(20) {
+            0..=6 => {
+                select(stream, rng);
+                stream.packet(&mode_sense(0, 1, 16));
+            }
+            7..=11 => stream.packet(&any_mode(rng)),
+            12 => stream.list(&any_list(rng)),
+            13 => another_page(stream, rng, &marks),
+            14 => tray_or_power(stream, rng),
+            15 => stream.button(),
+            16 => rng.pick(&[Stream::lay, Stream::lift])(stream),
+            17 => stream.move_on(any_step(rng)),
+            18 => stream.packet(&rng.pick(&one_of_each())),
+            _ => stream.packet(&any_packet(rng, &marks)),
+        }
+    }
+}
+
+/// Any state that 2 does not cover, seldom with something pending.
+fn any_sound_state(rng: &mut Rng, marks: &Marks) -> State {
+    State {
+        tray_open: rng.one_in(3),
+        disc_in: rng.below(3) > 0,
+        ..loaded_state(rng, marks)
+    }
+}
+
+/// A list, and 55h of its length or, now and then, of another.
+fn select(stream: &mut Stream, rng: &mut Rng) {
+    let list = any_list(rng);
+    let length = if rng.one_in(8) { 16 } else { list.len() };
+    stream.list(&list);
+    stream.packet(&mode_select(length as u16));
+}
+
+/// A page set outright; now and then one that 2 covers, until another is set.
+fn another_page(stream: &mut Stream, rng: &mut Rng, marks: &Marks) {
+    let state = any_sound_state(rng, marks);
+    if rng.one_in(3) {
+        let mode = any_page(rng);
+        stream.state(State { mode, ..state });
+        stream.packet(&any_mode(rng));
+        stream.button();
+    }
+    stream.state(state);
+}
+
 /// A small fit table with an audio track, but for a few.
 fn with_audio(rng: &mut Rng) -> Sheet {
     loop {
@@ -515,8 +596,9 @@ fn full_scene(stream: &mut Stream, rng: &mut Rng) {
 fn chaos_scene(stream: &mut Stream, rng: &mut Rng) {
     let mut marks = Marks::of(None);
     for _ in 0..rng.range(10, 40) {
-        match rng.below(17) {
+        match rng.below(18) {
             16 => stream.move_on(any_step(rng)),
+            17 => stream.list(&any_list(rng)),
             0 => marks = lend(stream, &any_fit(rng)),
             1 => {
                 let sheet = any_fit(rng);

@@ -19,9 +19,7 @@ impl Stream {
         self.bytes.push(kind);
         self.bytes.extend(length.to_be_bytes());
         self.bytes.extend(body);
-        if kind >= replay::POWER_ON {
-            self.calls += 1;
-        }
+        self.calls += usize::from(replay::is_call(kind));
     }
 
     pub fn state(&mut self, state: State) {
@@ -37,11 +35,18 @@ impl Stream {
             state.play.status,
         ];
         let numbers = [state.play.position, state.play.end].map(u32::to_be_bytes);
-        self.record(replay::STATE, &[&body, numbers.as_flattened()].concat());
+        let page = [state.mode.recovery, state.mode.retries];
+        let parts = [&body, numbers.as_flattened(), &page];
+        self.record(replay::STATE, &parts.concat());
     }
 
     pub fn table(&mut self, table: &[u8]) {
         self.record(replay::TABLE, table);
+    }
+
+    /// K4's parameter list, lent from now on.
+    pub fn list(&mut self, list: &[u8]) {
+        self.record(replay::LIST, list);
     }
 
     pub fn memory(&mut self, length: u16, fill: u8) {

@@ -14,8 +14,13 @@ pub fn on_e(state: State, packet: &[u8]) -> (Reply, Vec<u8>) {
 }
 
 pub fn on(state: State, table: &[u8], packet: &[u8]) -> (Reply, Vec<u8>) {
+    on_with(state, table, &[], packet)
+}
+
+/// A packet with a parameter list lent (K4).
+pub fn on_with(state: State, table: &[u8], list: &[u8], packet: &[u8]) -> (Reply, Vec<u8>) {
     let mut memory = vec![0xEE; BOUND];
-    let reply = perform(state, table, packet, &mut memory);
+    let reply = perform(state, table, list, packet, &mut memory);
     assert!(memory[reply.length..].iter().all(|&byte| byte == 0xEE));
     if reply.status == 2 || reply.refusal.is_some() {
         assert_eq!((reply.length, reply.start, reply.count), (0, 0, 0));
