@@ -1,7 +1,5 @@
 -- `mode::mode_sense::page_shown` meets its contract: page and control are the byte's, and each way out is one law of the definition.
-use mathlib.Core.Path.{_≡_, sym, ap, _∙_}
-use Prim.Native.Nat.{_/_, _%_}
-use Rattle.page.specs.declared.Page.{Page}
+use mathlib.Core.Path.{sym}
 use Rattle.mode.specs.ModeSenseLaws.{pageShown-other, pageShown-saved, pageShown-values}
 use borrow.Author.Needs.{needs}
 use Rattle.mode.proofs.mode_sense.page_shown.Statement.{statement}
