@@ -16,7 +16,6 @@ use Rattle.target.specs.Packet.{answer as replyTo}
 use Rattle.claims.specs.Telling.{Attention, power, change, pending, anyPending, Answer, answerOf, isGood, tellsTo}
 use Rattle.claims.specs.History as past
 use Rattle.claims.specs.History.{Event}
-use Rattle.claims.specs.Runs.{Pairwise, pairwise-map}
 use Rattle.claims.specs.Carried.{Board, answerOn, nextOn}
 
 -- K3: the two forms of power-on, that "by default" and "A second form"
@@ -202,14 +201,6 @@ pub data Alike : Call → Call → Type 0 where
 pub data Sharing : Call → Call → Type 0 where
   itself : (c : Call) → Sharing c c
   fitting : (p l m : List ℕ) {t u : List ℕ} → isFit t ≡ true → isFit u ≡ true → Sharing (packet p t l m) (packet p u l m)
-
-sharing-alike : (c e : Call) → Sharing c e → Alike c e
-sharing-alike c e (itself b) = same b
-sharing-alike c e (fitting p l m f g) = tables p m f g
-
--- and so calls that share their lists are alike, one by one
-pub shared : {cs ds : List Call} → Pairwise Sharing cs ds → Pairwise Alike cs ds
-shared = pairwise-map sharing-alike
 
 -- the call, lent that memory in place of its own
 abbrev pub lend : List ℕ → Call → Call

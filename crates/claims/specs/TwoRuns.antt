@@ -8,9 +8,9 @@ use lib.ListN.{length}
 use Rattle.drive.specs.declared.state.Drive.{Drive}
 use Rattle.claims.specs.Telling.{Answer}
 use Rattle.claims.specs.History.{Event, At}
-use Rattle.claims.specs.Runs.{Pairwise, runs-long}
+use Rattle.claims.specs.Runs.{Pairwise, pairwise-map, runs-long}
 use Rattle.claims.specs.Carried.{Board, runs-carried}
-use Rattle.claims.specs.Call.{Call, Happening, answer, next, event, history, final, isAttending, isCause, Alike, Sharing, shared, lend, left, historyOn, finalOn}
+use Rattle.claims.specs.Call.{Call, Happening, answer, next, event, history, final, isAttending, isCause, Alike, same, tables, Sharing, itself, fitting, lend, left, historyOn, finalOn}
 use Rattle.claims.specs.Device.{runs}
 use Rattle.claims.specs.DriveDevice.{drive, cause-attends, lend-alike, left-alike}
 
@@ -48,6 +48,14 @@ pub two-runs-long : (handed : Drive) (common : List Call) (c : Call) {cs ds : Li
 two-runs-long handed common c p = runs-long answer next handed common c p
 
 -- ---- K4: "Demand 3's two runs share the lent parameter list"
+
+sharing-alike : (c e : Call) → Sharing c e → Alike c e
+sharing-alike c e (itself b) = same b
+sharing-alike c e (fitting p l m f g) = tables p m f g
+
+-- calls that share their lists are alike, one by one
+shared : {cs ds : List Call} → Pairwise Sharing cs ds → Pairwise Alike cs ds
+shared = pairwise-map sharing-alike
 
 -- calls in common, then c, a power-on in either form or a loading, then calls that are alike, one by one, but for the fit tables lent
 pub two-runs : (handed : Drive) (common : List Call) (c : Call) → isCause (event c (final handed common)) ≡ true
