@@ -46,10 +46,8 @@ use Rattle.blocks.specs.RangeLaws.{inRange-end}
 use Rattle.blocks.specs.Blocks.{seek}
 use Rattle.audio.specs.Audio.{started, resumed, pauseResume}
 use Rattle.audio.specs.SubChannel.{reported}
-use Rattle.mode.specs.declared.mode_sense.Shown.{Shown}
-use Rattle.mode.specs.declared.mode_sense.Shown.the-variants.{Fails, Values}
-use Rattle.mode.specs.ModeSense.{pageShown, gives}
-use Rattle.mode.specs.ModeSelect.{isPage, selected, modeSelect}
+use Rattle.mode.specs.ModeSenseLaws.{modeSense-ways}
+use Rattle.mode.specs.ModeSelectLaws.{modeSelect-ways}
 use Rattle.target.specs.Perform.{L, work, perform}
 use Rattle.target.specs.Packet.{refusalOf, answer as replyTo}
 use Rattle.claims.specs.UnitLaws.{Kind, asks, frees, orders, reply, meets, nextOf}
@@ -200,18 +198,6 @@ module _ (m : Deck) (s : KnownDeck m) where
   unfolding reported
   reported-known = played (either Known _ (λ h. withStatus-known none isStatus-none (s .play)) (λ h. s .play))
 
-  gives-known : (g : Shown) (limit : ℕ) → Comes m (gives g limit m)
-  gives-known (Fails f) limit = s
-  gives-known (Values g) limit = answering-known false m _ limit s
-
-  -- a page that is set has one of the twenty
-  modeSelect-known : (n : ℕ) (l : List ℕ) → Comes m (modeSelect n l m)
-  unfolding modeSelect selected isPage
-  modeSelect-known n l =
-      either (Comes m) _
-      (λ h. either (Comes m) _ (λ k. s) (λ k. either (Comes m) _ (λ i. paged (and-tail _ _ (and-tail _ _ i))) (λ i. s)))
-      (λ h. s)
-
   -- each command that has what it needs
   work-known : (c : Command) (p t l : List ℕ) → (needsDisc c p ≡ true → L t ≤ last) → Comes m (work c p m t l)
   work-known TestUnitReady p t l f = s
@@ -227,8 +213,8 @@ module _ (m : Deck) (s : KnownDeck m) where
   work-known PlayAudio p t l f = ranged-known _ _ _ _ _ (started-known (addressIn p) (count10 p) (L t) (f refl))
   work-known PauseResume p t l f = pauseResume-known (bit0 (byte p 8))
   work-known ReadSubChannel p t l f = answering-known _ _ _ _ reported-known
-  work-known ModeSense p t l f = gives-known (pageShown (byte p 2) (m .page)) (lengthIn p)
-  work-known ModeSelect p t l f = modeSelect-known (lengthIn p) l
+  work-known ModeSense p t l f = modeSense-ways (Comes m) (lengthIn p) m (byte p 2) (λ e. s) (λ g. s)
+  work-known ModeSelect p t l f = modeSelect-ways (Comes m) (lengthIn p) l m s s paged s
   work-known Unknown p t l f = s
 
   perform-known : (c : Command) (p t l : List ℕ) → (isLoaded m ≡ true → L t ≤ last) → Comes m (perform c p m t l)

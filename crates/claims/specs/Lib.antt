@@ -5,6 +5,7 @@ pub mod TwoRuns
 pub mod Refused
 pub mod Whole
 pub mod Known
+pub mod Listed
 pub mod Marked
 pub mod Played
 pub mod Paged
@@ -27,4 +28,5 @@ pub mod DriveDevice
 pub mod RefusalLaws
 pub mod WholeLaws
 pub mod KnownLaws
+pub mod ListedLaws
 pub mod AddressLaws

@@ -48,7 +48,8 @@ loadedE = record {
   deck = record { «tray_open» = false; «disc_in» = true; lock = false; play = noPlay; page = defaults };
 }
 
--- a packet to the loaded drive with Table E, no parameter list and 6,538 bytes of response memory; the address of M:S:F; the M:S:F of an address
+-- a packet to the loaded drive with Table E, no parameter list and 6,538 bytes of response memory; the address of M:S:F; the M:S:F of an
+-- address
 pub data Question : Type 0 where
   packet : (bytes : List ℕ) → Question
   addressFor : (m s f : ℕ) → Question

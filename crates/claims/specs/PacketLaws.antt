@@ -14,16 +14,14 @@ use Rattle.disc.specs.Part.{unfit, ruleWith}
 use Rattle.gate.specs.Gate.{Result, refuse, gate}
 use Rattle.command.specs.declared.decode.Command.{Command}
 use Rattle.command.specs.declared.decode.Command.the-variants.{TestUnitReady, RequestSense, Inquiry, StartStop, Prevent, ReadCapacity, Read10, Seek, ReadToc, Read12, PlayAudio, PauseResume, ReadSubChannel, ModeSense, ModeSelect, Unknown}
-use Rattle.command.specs.Command.{decode, byte, codeOf, needsDisc, loEj, start}
+use Rattle.command.specs.Command.{decode, byte, codeOf, lengthIn, needsDisc, loEj, start}
 use Rattle.command.specs.Tray.{eject, load, startStop}
 use Rattle.command.specs.Done.{answering}
 use Rattle.blocks.specs.Range.{ranged}
 use Rattle.blocks.specs.Blocks.{seek}
 use Rattle.audio.specs.Audio.{started, pauseResume}
-use Rattle.mode.specs.declared.mode_sense.Shown.{Shown}
-use Rattle.mode.specs.declared.mode_sense.Shown.the-variants.{Fails, Values}
-use Rattle.mode.specs.ModeSense.{pageShown, gives, modeSense}
-use Rattle.mode.specs.ModeSelect.{selected, modeSelect}
+use Rattle.mode.specs.ModeSenseLaws.{modeSense-ways}
+use Rattle.mode.specs.ModeSelectLaws.{modeSelect-ways}
 use Rattle.target.specs.Perform.{work, perform}
 use Rattle.target.specs.Packet.{steps, refusalOf, answer as replyTo}
 use Rattle.target.specs.PacketLaws.{stepsOf}
@@ -176,20 +174,6 @@ pauseResume-fair : (resume : Bool) (m : Deck) → Fair m (pauseResume resume m)
 unfolding pauseResume
 pauseResume-fair resume m = either (Fair m) _ (λ h. closed-still m) (λ h. closed-still m)
 
-gives-fair : (s : Shown) (limit : ℕ) (m : Deck) → Fair m (gives s limit m)
-gives-fair (Fails f) limit m = closed-still m
-gives-fair (Values g) limit m = answering-fair false m m _ limit (closed-still m)
-
-modeSense-fair : (b limit : ℕ) (m : Deck) → Fair m (modeSense b limit m)
-modeSense-fair b limit m = gives-fair (pageShown b (m .page)) limit m
-
-modeSelect-fair : (n : ℕ) (l : List ℕ) (m : Deck) → Fair m (modeSelect n l m)
-unfolding modeSelect selected
-modeSelect-fair n l m =
-    either (Fair m) _
-    (λ h. either (Fair m) _ (λ k. closed-still m) (λ k. either (Fair m) _ (λ s. closed-still m) (λ s. closed-still m)))
-    (λ h. closed-still m)
-
 work-fair : (c : Command) (p : List ℕ) (m : Deck) (t l : List ℕ) → Fair m (work c p m t l)
 work-fair TestUnitReady p m t l = closed-still m
 work-fair RequestSense p m t l = closed-still m
@@ -204,8 +188,9 @@ work-fair Read12 p m t l = ranged-fair _ _ _ _ m _ (closed-still m)
 work-fair PlayAudio p m t l = ranged-fair _ _ _ _ m _ (started-fair _ _ m)
 work-fair PauseResume p m t l = pauseResume-fair _ m
 work-fair ReadSubChannel p m t l = answering-fair _ m _ _ _ (closed-still m)
-work-fair ModeSense p m t l = modeSense-fair _ _ m
-work-fair ModeSelect p m t l = modeSelect-fair _ l m
+work-fair ModeSense p m t l = modeSense-ways (Fair m) (lengthIn p) m (byte p 2) (λ f. closed-still m) (λ g. closed-still m)
+work-fair ModeSelect p m t l =
+    modeSelect-ways (Fair m) (lengthIn p) l m (closed-still m) (closed-still m) (λ h. closed-still m) (closed-still m)
 work-fair Unknown p m t l = closed-still m
 
 perform-fair : (c : Command) (p : List ℕ) (m : Deck) (t l : List ℕ) → Fair m (perform c p m t l)
@@ -261,7 +246,7 @@ packet-needs p = decode-needs (codeOf p) _ p refl
 pub packet-orders : (p : List ℕ) (m : Deck) (t l : List ℕ) → isNeeding p ≡ true → (r : Result Deck) × (kind p m t l ≡ orders r)
 packet-orders p m t l h = (_, kind-needs (seen (decode (codeOf p))) p _ (sym (packet-needs p) ∙ h))
 
--- ---- the lent table
+-- ---- the lent table and the parameter list
 
 -- beside any number a fit table's rule is 0
 ruleWith-fit : (n : ℕ) (t : List ℕ) → isFit t ≡ true → ruleWith n t ≡ 0

@@ -175,7 +175,8 @@ module _ (d : Drive) where
   -- ---- power-on
 
   -- "Power-on .. keeps the handed state's tray and disc and is never refused: lock off, sense 00/00/00, power attention pending"; K2:
-  -- "Power-on .. set 15h, position 0 and end 0"; K4: "Power-on restores defaults", 0 and 0: of every state, also one that refusal 2 meets. It hands back the state alone, and no number.
+  -- "Power-on .. set 15h, position 0 and end 0"; K4: "Power-on restores defaults", 0 and 0: of every state, also one that refusal 2 meets. It
+  -- hands back the state alone, and no number.
   abbrev restarted : Bool → Drive
   restarted change = record {
     unit = record { power = true; change = change; sense = triple 0x00 0x00 0x00 };

@@ -33,9 +33,7 @@ use Rattle.command.specs.Done.{answering}
 use Rattle.tracks.specs.Track.{trackOf}
 use Rattle.audio.specs.SubChannel.{subAskIn}
 use Rattle.audio.specs.SubChannelLaws.{subBytes-length}
-use Rattle.mode.specs.declared.mode_sense.Shown.{Shown}
-use Rattle.mode.specs.declared.mode_sense.Shown.the-variants.{Fails, Values}
-use Rattle.mode.specs.ModeSense.{pageShown, gives}
+use Rattle.mode.specs.ModeSenseLaws.{modeSense-ways}
 use Rattle.target.specs.ReadToc.{formatIn, msfIn, numberIn}
 use Rattle.target.specs.Perform.{L, work, perform}
 use Rattle.target.specs.PerformLaws.{fullOf, startStop-quiet, seek-quiet, ranged-quiet, pauseResume-quiet, modeSelect-quiet}
@@ -74,10 +72,6 @@ answering-bounded : (bad : Bool) (next : Deck) (full : List ℕ) (limit : ℕ) �
 unfolding answering
 answering-bounded bad next full limit h = either Bounded bad (λ b. omega arith) (λ b. h)
 
-gives-bounded : (g : Shown) (limit : ℕ) (m : Deck) → Bounded (gives g limit m)
-gives-bounded (Fails f) limit m = omega arith
-gives-bounded (Values g) limit m = answering-bounded false m _ limit (omega arith)
-
 -- of a command that has what it needs
 work-bounded : (c : Command) (p : List ℕ) (m : Deck) (t l : List ℕ) → (needsDisc c p ≡ true → Short t) → Bounded (work c p m t l)
 work-bounded TestUnitReady p m t l s = omega arith
@@ -96,7 +90,7 @@ work-bounded PauseResume p m t l s = rw (pauseResume-quiet (bit0 (byte p 8)) m) 
 work-bounded ReadSubChannel p m t l s =
     let e = subBytes-length (subAskIn p) (trackOf (descriptors t) (m .play .position)) (m .play) in
     answering-bounded _ _ _ _ (omega arith)
-work-bounded ModeSense p m t l s = gives-bounded (pageShown (byte p 2) (m .page)) _ m
+work-bounded ModeSense p m t l s = modeSense-ways Bounded (lengthIn p) m (byte p 2) (λ f. omega arith) (λ g. omega arith)
 work-bounded ModeSelect p m t l s = rw (modeSelect-quiet (lengthIn p) l m) (omega arith)
 work-bounded Unknown p m t l s = omega arith
 

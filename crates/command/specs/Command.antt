@@ -80,7 +80,8 @@ start p = bit0 (byte p 4)
 abbrev pub starting : ℕ → Bool
 starting b = not (bit1 b) and bit0 b
 
--- "Needing one: 00h, 25h, 28h, 2Bh, 43h, A8h, and 1Bh with LoEj 0 and Start 1."; K2: "These commands need a disc." b is the packet's byte 4.
+-- "Needing one: 00h, 25h, 28h, 2Bh, 43h, A8h, and 1Bh with LoEj 0 and Start 1."; K2: "These commands need a disc."; K4's two, which fail
+-- "after step 3", are not among them. b is the packet's byte 4.
 abbrev pub needing : Command → ℕ → Bool
 needing TestUnitReady b = true
 needing RequestSense b = false

@@ -13,18 +13,18 @@ use Rattle.gate.specs.Gate.{Result, fails}
 use Rattle.command.specs.Command.{byte}
 use Rattle.command.specs.Done.{done}
 
--- "05/1A/00 for another list length or one that differs from the lent list's": none of that
+-- "after step 3, .. in MODE SELECT 05/1A/00 for another list length or one that differs from the lent list's": none of that
 unfoldable pub isListLength : ℕ → ℕ → Bool
 isListLength n lent = eqb n lent and (eqb n 0 or eqb n 16)
 
 -- "its page begins 01 06 and one of the twenty"
 unfoldable pub isPage : ℕ → ℕ → ℕ → Bool
-isPage code length recovery = eqb code 0x01 and eqb length 0x06 and isSetting recovery
+isPage code len recovery = eqb code 0x01 and eqb len 0x06 and isSetting recovery
 
 -- "05/26/00 unless" it does; then its recovery byte and retry count are set
 unfoldable pub selected : ℕ → ℕ → ℕ → ℕ → Deck → Result Deck
-selected code length recovery retry m =
-    if isPage code length recovery then done (withPage m (pageOf recovery retry)) else fails ListField
+selected code len recovery retry m =
+    if isPage code len recovery then done (withPage m (pageOf recovery retry)) else fails ListField
 
 -- "A list is 0 bytes (GOOD, nothing changes) or 16, its header not looked at."
 unfoldable pub modeSelect : ℕ → List ℕ → Deck → Result Deck

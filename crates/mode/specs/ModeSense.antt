@@ -21,8 +21,14 @@ abbrev pub pageIn : ℕ → ℕ
 pageIn b = b % 64
 
 -- "Page control asks for current, changeable .., default .. or saved values": 0, 1, 2, 3
-abbrev pub saved : ℕ
-saved = 3
+abbrev pub asksChangeable : ℕ
+asksChangeable = 1
+
+abbrev pub asksDefault : ℕ
+asksDefault = 2
+
+abbrev pub asksSaved : ℕ
+asksSaved = 3
 
 -- "changeable (37h and FFh)"
 abbrev pub changeable : Page
@@ -30,13 +36,13 @@ changeable = pageOf 0x37 0xFF
 
 -- the values that a page control asks for, of the current ones
 unfoldable pub valuesOf : ℕ → Page → Page
-valuesOf control current = if eqb control 1 then changeable else (if eqb control 2 then defaults else current)
+valuesOf control current = if eqb control asksChangeable then changeable else (if eqb control asksDefault then defaults else current)
 
--- "in MODE SENSE 05/24/00 for another page, then 05/39/00 for saved values": b is the packet's byte 2
+-- "after step 3, in MODE SENSE 05/24/00 for another page, then 05/39/00 for saved values": b is the packet's byte 2
 unfoldable pub pageShown : ℕ → Page → Shown
 pageShown b current =
     if eqb (pageIn b) 0x01
-    then (if eqb (controlIn b) saved then Fails NoSaving else Values (valuesOf (controlIn b) current))
+    then (if eqb (controlIn b) asksSaved then Fails NoSaving else Values (valuesOf (controlIn b) current))
     else Fails BadField
 
 -- "Sense gives 00 0E and six zeros, then 01 06, recovery byte, retry count and four zeros."
@@ -51,5 +57,6 @@ abbrev pub gives : Shown → ℕ → Deck → Result Deck
 gives (Fails f) limit m = fails f
 gives (Values g) limit m = answering false m (modeBytes g) limit
 
+-- b is the packet's byte 2, limit its allocation length
 abbrev pub modeSense : ℕ → ℕ → Deck → Result Deck
 modeSense b limit m = gives (pageShown b (m .page)) limit m

@@ -13,11 +13,11 @@ ghost use Rattle.mode.specs.ModeSelect.{isPage, selected, modeSelect};
 const LIST: usize = 16;
 
 // The page begins with its code, its length and one of the twenty settings.
-fn is_page(code: u8, length: u8, recovery: u8) -> bool
-    ensures { λ r. ⌜ r ≡ isPage code length recovery ⌝ }
+fn is_page(code: u8, len: u8, recovery: u8) -> bool
+    ensures { λ r. ⌜ r ≡ isPage code len recovery ⌝ }
 {
     if code == 0x01 {
-        if length == 0x06 {
+        if len == 0x06 {
             return is_setting(recovery);
         }
         return false;
@@ -25,11 +25,11 @@ fn is_page(code: u8, length: u8, recovery: u8) -> bool
     false
 }
 
-// The page's first four bytes are set, or it is a bad one.
-fn selected(code: u8, length: u8, recovery: u8, retry: u8, m: Deck) -> Done
-    ensures { λ r. ⌜ r ≡ doneOf (selected code length recovery retry m) ⌝ }
+// The page's recovery byte and retry count are set where it begins as it must; else it is a bad one.
+fn selected(code: u8, len: u8, recovery: u8, retry: u8, m: Deck) -> Done
+    ensures { λ r. ⌜ r ≡ doneOf (selected code len recovery retry m) ⌝ }
 {
-    if is_page(code, length, recovery) {
+    if is_page(code, len, recovery) {
         return done_with(m.with_page(Page { recovery, retry }));
     }
     Done::Fails(Fault::ListField)

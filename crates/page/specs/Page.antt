@@ -6,6 +6,7 @@ use lib.Dec.{eqb}
 use Rattle.ground.specs.Tests.{_or_}
 use Rattle.page.specs.declared.Page.{Page}
 
+-- a page with that recovery byte and retry count
 abbrev pub pageOf : ℕ → ℕ → Page
 pageOf recovery retry = record { recovery = recovery; retry = retry }
 

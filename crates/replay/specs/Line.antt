@@ -47,6 +47,7 @@ playText r = spaced (hexByte (r .status)) next spaced (decimal (r .position)) ne
 unfoldable pub pageText : Page → List ℕ
 pageText g = spaced (hexByte (g .recovery)) next spaced (hexByte (g .retry))
 
+-- what the deck keeps beside its flags
 unfoldable pub keptText : Deck → List ℕ
 keptText m = playText (m .play) next pageText (m .page)
 

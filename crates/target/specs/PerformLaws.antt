@@ -24,7 +24,8 @@ use Rattle.command.specs.Done.{doneOf, answering, answering-fails, answering-go
 use Rattle.blocks.specs.Range.{ranged}
 use Rattle.blocks.specs.Blocks.{seek}
 use Rattle.audio.specs.Audio.{pauseResume}
-use Rattle.mode.specs.ModeSelect.{selected, modeSelect}
+use Rattle.mode.specs.ModeSelect.{modeSelect}
+use Rattle.mode.specs.ModeSelectLaws.{modeSelect-ways}
 use Rattle.target.specs.FitFacts.{ReadOff}
 use Rattle.target.specs.Perform.{written, Performed, L, work, perform}
 
@@ -111,9 +112,7 @@ unfolding pauseResume
 pauseResume-quiet resume m = either Quiet _ (λ h. refl) (λ h. refl)
 
 pub modeSelect-quiet : (n : ℕ) (l : List ℕ) (m : Deck) → Quiet (modeSelect n l m)
-unfolding modeSelect selected
-modeSelect-quiet n l m =
-    either Quiet _ (λ h. either Quiet _ (λ k. refl) (λ k. either Quiet _ (λ s. refl) (λ s. refl))) (λ h. refl)
+modeSelect-quiet n l m = modeSelect-ways Quiet n l m refl refl (λ h. refl) refl
 
 -- ---- steps 3 and 4
 

@@ -1,0 +1,75 @@
+-- MODE SELECT's is the only work that names the list, and 55h its only code.
+use mathlib.Core.Path.{_≡_, refl, sym, ap, _∙_}
+use mathlib.Core.Bool.{Bool, true, false, true≢false}
+use mathlib.Core.List.{List}
+use Prim.Native.Nat.{ℕ}
+use lib.Dec.{eqb}
+use borrow.Author.Tests.{eqb-true}
+use Rattle.ground.specs.Tests.{either}
+use Rattle.drive.specs.declared.state.Unit.{Unit}
+use Rattle.drive.specs.declared.state.Deck.{Deck}
+use Rattle.drive.specs.declared.state.Drive.{Drive}
+use Rattle.gate.specs.Gate.{gate, pass}
+use Rattle.command.specs.declared.decode.Command.{Command}
+use Rattle.command.specs.declared.decode.Command.the-variants.{TestUnitReady, RequestSense, Inquiry, StartStop, Prevent, ReadCapacity, Read10, Seek, ReadToc, Read12, PlayAudio, PauseResume, ReadSubChannel, ModeSense, ModeSelect, Unknown}
+use Rattle.command.specs.declared.decode.Kind.{Kind}
+use Rattle.command.specs.declared.decode.Kind.the-variants.{Asks, Passes, Gates}
+use Rattle.command.specs.Command.{decode, codeOf, kindOf}
+use Rattle.command.specs.Class.{classOf}
+use Rattle.target.specs.Perform.{work, perform}
+use Rattle.target.specs.Packet.{stepsBy, answer as replyTo}
+
+-- the command is MODE SELECT
+abbrev isSelect : Command → Bool
+isSelect c = eqb (classOf c) 15
+
+-- its code is 55h, and no other
+decode-select : (n : ℕ) → eqb n 0x55 ≡ isSelect (decode n)
+unfolding decode classOf
+decode-select n =
+    either P _ (at 0x00) (λ _. either P _ (at 0x03) (λ _. either P _ (at 0x12) (λ _. either P _ (at 0x1B) (λ _. either P _ (at 0x1E) (λ _.
+    either P _ (at 0x25) (λ _. either P _ (at 0x28) (λ _. either P _ (at 0x2B) (λ _. either P _ (at 0x43) (λ _. either P _ (at 0xA8) (λ _.
+    either P _ (at 0x45) (λ _. either P _ (at 0x4B) (λ _. either P _ (at 0x42) (λ _. either P _ (at 0x5A) (λ _. either P _ (at 0x55) (λ h. h)))))))))))))))
+  where
+    P : Command → Type 0
+    P c = eqb n 0x55 ≡ isSelect c
+
+    at : (k : ℕ) → eqb n k ≡ true → eqb n 0x55 ≡ eqb k 0x55
+    at k h = rw (eqb-true n k h)
+
+module _ (k l : List ℕ) where
+  work-unlisted : (c : Command) (p : List ℕ) (m : Deck) (t : List ℕ) → isSelect c ≡ false → work c p m t k ≡ work c p m t l
+  unfolding classOf
+  work-unlisted TestUnitReady p m t h = refl
+  work-unlisted RequestSense p m t h = refl
+  work-unlisted Inquiry p m t h = refl
+  work-unlisted StartStop p m t h = refl
+  work-unlisted Prevent p m t h = refl
+  work-unlisted ReadCapacity p m t h = refl
+  work-unlisted Read10 p m t h = refl
+  work-unlisted Seek p m t h = refl
+  work-unlisted ReadToc p m t h = refl
+  work-unlisted Read12 p m t h = refl
+  work-unlisted PlayAudio p m t h = refl
+  work-unlisted PauseResume p m t h = refl
+  work-unlisted ReadSubChannel p m t h = refl
+  work-unlisted ModeSense p m t h = refl
+  work-unlisted ModeSelect p m t h = absurd (true≢false h)
+  work-unlisted Unknown p m t h = refl
+
+  perform-unlisted : (c : Command) (p : List ℕ) (m : Deck) (t : List ℕ) → isSelect c ≡ false → perform c p m t k ≡ perform c p m t l
+  unfolding perform
+  perform-unlisted c p m t h = rw (work-unlisted c p m t h)
+
+  stepsBy-unlisted : (i : Kind) (c : Command) (u : Unit) (m : Deck) (p t : List ℕ) → perform c p m t k ≡ perform c p m t l
+      → stepsBy i c u m p t k ≡ stepsBy i c u m p t l
+  stepsBy-unlisted Asks c u m p t e = refl
+  stepsBy-unlisted Passes c u m p t e = ap (pass u m) e
+  stepsBy-unlisted Gates c u m p t e = ap (gate u m) e
+
+pub reply-unlisted : (d : Drive) (p t k l : List ℕ) (n : ℕ) → eqb (codeOf p) 0x55 ≡ false → replyTo d p t k n ≡ replyTo d p t l n
+unfolding replyTo
+reply-unlisted d p t k l n h =
+    let c = decode (codeOf p) in
+    let e = perform-unlisted k l c p (d .deck) t (sym (decode-select (codeOf p)) ∙ h) in
+    rw (stepsBy-unlisted k l (kindOf c) c (d .unit) (d .deck) p t e)
