@@ -724,7 +724,7 @@ fn two_covers_the_record() {
             }
         }
     }
-    // A sense that is none of the ten is covered as before, by this call too.
+    // A sense that is none of the thirteen is covered as before, by this call too.
     let stranger = State {
         sense: Sense::new(0, 0, 0x15),
         ..with(0x11, 1, 2)

@@ -1,8 +1,11 @@
 //! Whole runs of calls: what a run may depend on, and what not.
 
-use second::cases::packets::{any_list, any_packet, one_of_each, request_sense, Marks, Packet};
+use second::cases::packets::{
+    any_list, any_packet, mode_select, one_of_each, request_sense, Marks, Packet,
+};
 use second::cases::picked_state::all_flags;
 use second::cases::sheet::any_fit;
+use second::cases::spoil::any_broken;
 use second::drive::State;
 use second::limits::{BOUND, TOP_ADDRESS};
 use second::mode_page::{ModePage, SETTINGS};
@@ -48,13 +51,24 @@ impl Bench {
         }
     }
 
+    fn packet(&mut self, packet: &Packet, list: &[u8]) -> Given {
+        let reply = perform(self.state, &self.table, list, packet, &mut self.memory);
+        self.state = reply.next;
+        Given::Reply(reply)
+    }
+
+    /// The call, with this list in place of its own if it is a packet.
+    fn call_with(&mut self, call: Call, list: &[u8]) -> Given {
+        match call {
+            Call::Packet(packet, _) => self.packet(&packet, list),
+            moves => self.call(moves),
+        }
+    }
+
     fn call(&mut self, call: Call) -> Given {
         let moved = match call {
             Call::Packet(packet, list) => {
-                let list = list.as_ref().map_or(&[][..], |list| list);
-                let reply = perform(self.state, &self.table, list, &packet, &mut self.memory);
-                self.state = reply.next;
-                return Given::Reply(reply);
+                return self.packet(&packet, list.as_ref().map_or(&[][..], |list| list));
             }
             Call::PowerOn => Ok(self.state.power_on()),
             Call::PowerOnWithoutChange => Ok(self.state.power_on_without_change()),
@@ -111,8 +125,8 @@ fn any_bench(rng: &mut Rng) -> (Bench, Marks) {
 }
 
 /// From a power-on of either form two runs of the same calls, with different fit
-/// tables and, at each call, the same parameter list (K4), give the same answers, states and memory, up to and with the answer
-/// that leaves nothing pending.
+/// tables and, at each call, the same parameter list (K4), give the same answers,
+/// states and memory, up to and with the answer that leaves nothing pending.
 #[test]
 fn two_runs_agree() {
     let mut rng = Rng::new(5);
@@ -133,6 +147,78 @@ fn two_runs_agree() {
         }
     }
     assert!(told > 2_500 && longest > 10, "{told} {longest}");
+}
+
+/// What two runs with lists of their own met, all told.
+#[derive(Debug, Default)]
+struct Met {
+    runs_told: usize,
+    longest: usize,
+    /// 55h with two lists that differ, and those of them that 4 refused.
+    selects: usize,
+    refused: usize,
+}
+
+/// Two runs of the same calls, one in three a 55h, each packet lent a list of its
+/// own in each run: none, 16 sound bytes, another length or wrong content.
+fn agree_with_other_lists(rng: &mut Rng, marks: &Marks, runs: [&mut Bench; 2], met: &mut Met) {
+    let [one, other] = runs;
+    let fit = read(&one.table).is_ok();
+    for calls in 0..40 {
+        let call = if rng.one_in(3) {
+            Call::Packet(mode_select(rng.pick(&[16, 16, 16, 0, 8, 24])), None)
+        } else {
+            any_call(rng, marks)
+        };
+        let lists = [any_list(rng), any_list(rng)];
+        let refused = one.state.loaded() && !fit;
+        let given = one.call_with(call, &lists[0]);
+        assert_eq!(given, other.call_with(call, &lists[1]), "{lists:02X?}");
+        assert_eq!((one.state, &one.memory), (other.state, &other.memory));
+        if let (Call::Packet(packet, _), Given::Reply(reply)) = (call, given) {
+            let number = reply.refusal.map_or(0, |refusal| refusal.number());
+            assert_eq!(number, if refused { 4 } else { 0 });
+            let select = packet[0] == 0x55 && lists[0] != lists[1];
+            met.selects += usize::from(select);
+            met.refused += usize::from(select && refused);
+        }
+        met.longest = met.longest.max(calls);
+        if !one.state.power && !one.state.change {
+            met.runs_told += 1;
+            return;
+        }
+    }
+}
+
+/// Two runs from a power-on of either form agree so too where each packet is lent
+/// one list in the one run and another in the other: with two fit tables, and with
+/// one that is not fit, for which 4 refuses them alike while loaded. More than K4
+/// asks, "Demand 3's two runs share the lent parameter list": 55h is told what is
+/// pending before it looks at its list.
+#[test]
+fn two_runs_agree_with_other_lists() {
+    let mut rng = Rng::new(8);
+    let mut met = Met::default();
+    for _ in 0..3_000 {
+        let (mut one, marks) = any_bench(&mut rng);
+        one.call(any_power_on(&mut rng));
+        let mut other = Bench::new(one.state, any_fit(&mut rng).bytes());
+        agree_with_other_lists(&mut rng, &marks, [&mut one, &mut other], &mut met);
+    }
+    assert!(met.runs_told > 2_500 && met.longest > 6, "{met:?}");
+    assert!(met.selects > 1_500 && met.refused == 0, "{met:?}");
+
+    let mut met = Met::default();
+    for _ in 0..1_000 {
+        let (mut one, marks) = any_bench(&mut rng);
+        let unfit = std::iter::repeat_with(|| any_broken(&mut rng)).find(|t| read(t).is_err());
+        one.table = unfit.expect("a table that is not fit");
+        one.call(any_power_on(&mut rng));
+        let mut other = Bench::new(one.state, one.table.clone());
+        agree_with_other_lists(&mut rng, &marks, [&mut one, &mut other], &mut met);
+    }
+    assert!(met.runs_told > 800 && met.longest > 30, "{met:?}");
+    assert!(met.selects > 2_000 && met.refused > 1_000, "{met:?}");
 }
 
 /// The same call on the same drive gives the same, however often it is made. Each

@@ -24,8 +24,8 @@ fn packets(stream: &mut Stream, list: &[Packet]) {
     }
 }
 
-/// Each form on every setting of the flags, under senses of the ten and others:
-/// tray and disc alone decide what is pending. A 00h is told the power-on.
+/// Each form on every setting of the flags, under senses of the thirteen and
+/// others: tray and disc alone decide what is pending. A 00h is told the power-on.
 pub fn every_state(stream: &mut Stream) {
     lend_e(stream);
     for held in [
