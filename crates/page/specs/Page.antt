@@ -22,6 +22,7 @@ unfoldable pub among : List ℕ → ℕ → Bool
 among [] b = false
 among (x ∷ row) b = eqb x b or among row b
 
+-- the recovery byte is one of the twenty
 unfoldable pub isSetting : ℕ → Bool
 isSetting b = among settings b
 
