@@ -1,8 +1,10 @@
--- The laws of the calls: what each does in each case, and that a refused one leaves the state as it was.
+-- The laws of the calls: what each does in each case, and that a refused one leaves the state as it was, but for the event after a refused
+-- press.
 use mathlib.Core.Path.{_≡_, refl, _∙_}
-use mathlib.Core.Bool.{true, false}
+use mathlib.Core.Bool.{Bool, true, false}
 use Prim.Native.Nat.{ℕ}
-use Rattle.ground.specs.Tests.{_and_, and-head, and-tail, and-both, when, unless, either}
+use lib.Dec.{eqb}
+use Rattle.ground.specs.Tests.{_and_, if_then_else_, and-head, and-tail, and-both, when, unless, either}
 use Rattle.drive.specs.declared.state.Deck.{Deck}
 use Rattle.drive.specs.declared.state.Drive.{Drive}
 use Rattle.drive.specs.declared.state.Moved.{Moved}
@@ -10,11 +12,15 @@ use Rattle.drive.specs.Sense.{isKnown}
 use Rattle.play.specs.Play.{movedOn}
 use Rattle.play.specs.PlayLaws.{Known, isPlay-known, known-isPlay}
 use Rattle.page.specs.Page.{isSetting}
-use Rattle.drive.specs.State.{unknownState, locked, cannotLay, cannotLift, isKnownState, isLoaded, opening, closing, shift, holding, showing, powerOnWith, powerOn, powerOnWithoutChange, refuse, moves, button, lay, lift, moveOn}
+use Rattle.drive.specs.State.{unknownState, locked, cannotLay, cannotLift, pressed, isEvent, isKnownState, isLoaded, opening, closing, shift, holding, showing, noting, powerOnWith, powerOn, powerOnWithoutChange, refuse, moves, button, lay, lift, moveOn}
 
 -- a call with a number other than 0 hands back the state as it came
 abbrev pub Unmoved : Drive → Moved → Type 0
 Unmoved d r = (r .number ≡ 0 → ⊥) → r .state ≡ d
+
+-- a press with the number 5 changes the event only, and with any other number than 0 nothing
+abbrev pub Pressed : Drive → Moved → Type 0
+Pressed d r = (r .number ≡ 0 → ⊥) → r .state ≡ (if eqb (r .number) locked then noting d pressed else d)
 
 -- ---- refusal 2
 
@@ -22,6 +28,7 @@ Unmoved d r = (r .number ≡ 0 → ⊥) → r .state ≡ d
 pub record KnownDeck (m : Deck) : Type 0 where
   pub play : Known (m .play)
   pub page : isSetting (m .page .recovery) ≡ true
+  pub event : isEvent (m .event) ≡ true
 
 pub isKnownState-sense : (d : Drive) → isKnownState d ≡ true → isKnown (d .unit .sense) ≡ true
 unfolding isKnownState
@@ -29,11 +36,14 @@ isKnownState-sense d h = and-head _ _ h
 
 pub isKnownState-deck : (d : Drive) → isKnownState d ≡ true → KnownDeck (d .deck)
 unfolding isKnownState
-isKnownState-deck d h = let t = and-tail _ _ h in record { play = isPlay-known _ (and-head _ _ t); page = and-tail _ _ t }
+isKnownState-deck d h =
+    let t = and-tail _ _ h in
+    let g = and-tail _ _ t in
+    record { play = isPlay-known _ (and-head _ _ t); page = and-head _ _ g; event = and-tail _ _ g }
 
 pub known-isKnownState : (d : Drive) → isKnown (d .unit .sense) ≡ true → KnownDeck (d .deck) → isKnownState d ≡ true
 unfolding isKnownState
-known-isKnownState d h k = and-both _ _ h (and-both _ _ (known-isPlay (k .play)) (k .page))
+known-isKnownState d h k = and-both _ _ h (and-both _ _ (known-isPlay (k .play)) (and-both _ _ (k .page) (k .event)))
 
 -- ---- the two ways in which a call ends
 
@@ -81,7 +91,7 @@ module _ (d : Drive) where
     unfolding button
     button-closes t = when _ _ _ k ∙ when _ _ _ t
 
-    pub button-locked : d .deck .«tray_open» ≡ false → d .deck .lock ≡ true → button d ≡ refuse locked d
+    pub button-locked : d .deck .«tray_open» ≡ false → d .deck .lock ≡ true → button d ≡ refuse locked (noting d pressed)
     unfolding button
     button-locked t l = when _ _ _ k ∙ unless _ _ _ t ∙ when _ _ _ l
 
@@ -113,11 +123,17 @@ module _ (d : Drive) where
     unfolding lift _and_
     lift-lifts t i = when _ _ _ k ∙ when _ _ _ (rw (t, i))
 
-  -- ---- a refused call leaves the state as it was
+  -- ---- a refused call leaves the state as it was; a press under refusal 5 changes the event
 
-  pub button-refused : Unmoved d (button d)
-  unfolding button
-  button-refused = either (Unmoved d) _ (λ k. either (Unmoved d) _ (λ t. went d _) (λ t. either (Unmoved d) _ (λ l. stood d _) (λ l. went d _))) (λ k. stood d _)
+  pub button-refused : Pressed d (button d)
+  unfolding if_then_else_
+  button-refused = go (isKnownState d) (d .deck .«tray_open») (d .deck .lock) refl refl refl
+    where
+      go : (k t l : Bool) → isKnownState d ≡ k → d .deck .«tray_open» ≡ t → d .deck .lock ≡ l → Pressed d (button d)
+      go false t l h i j = rw (button-unknown h) (λ n. refl)
+      go true true l h i j = rw (button-closes h i) (λ n. absurd (n refl))
+      go true false true h i j = rw (button-locked h i j) (λ n. refl)
+      go true false false h i j = rw (button-opens h i j) (λ n. absurd (n refl))
 
   pub lay-refused : Unmoved d (lay d)
   unfolding lay

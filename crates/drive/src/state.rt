@@ -10,7 +10,7 @@ use play::Play;
 use play::no_play;
 ghost use mathlib.Core.Path.{_≡_};
 ghost use Rattle.drive.specs.Unit.{poweredOn, attend};
-ghost use Rattle.drive.specs.State.{isKnownState, opening, closedPlay, closing, restarted, withDisc, withLock, withPlay, withPage, withDeck, isLoaded, shift, powerOnWith, powerOn, powerOnWithoutChange, moves, refuse, button, lay, lift, moveOn};
+ghost use Rattle.drive.specs.State.{isEvent, isKnownState, eventMoved, opening, closedPlay, closing, restarted, withDisc, withLock, withPlay, withPage, withEvent, withDeck, isLoaded, shift, powerOnWith, powerOn, powerOnWithoutChange, moves, refuse, button, lay, lift, moveOn};
 
 // What is pending and what is held: this is the same for every device that stands behind the gate.
 pub struct Unit {
@@ -19,13 +19,14 @@ pub struct Unit {
     pub sense: Sense,
 }
 
-// Tray open or closed; disc in or not; lock; the play record; the mode page.
+// Tray open or closed; disc in or not; lock; the play record; the mode page; the media event.
 pub struct Deck {
     pub tray_open: bool,
     pub disc_in: bool,
     pub lock: bool,
     pub play: Play,
     pub page: Page,
+    pub event: u8,
 }
 
 pub struct Drive {
@@ -53,6 +54,22 @@ pub const LOCKED: u8 = 5;
 pub const CANNOT_LAY: u8 = 6;
 
 pub const CANNOT_LIFT: u8 = 7;
+
+// The media events: none, the button pressed on a locked closed tray, a loading, an opening with a disc.
+pub const NO_EVENT: u8 = 0;
+
+pub const PRESSED: u8 = 1;
+
+pub const LOADED: u8 = 2;
+
+pub const OPENED: u8 = 3;
+
+// The event is none or one of the three.
+fn is_event(event: u8) -> bool
+    ensures { λ r. ⌜ r ≡ isEvent event ⌝ }
+{
+    event <= OPENED
+}
 
 impl Unit {
     // Power-on: sense 00/00/00, power attention pending, and the change attention where the form of power-on says so.
@@ -93,7 +110,17 @@ impl Deck {
         self.disc_in
     }
 
-    // The tray opens, by button or packet: nothing is played.
+    // The event after the tray moved: with a disc in that is one.
+    fn event_moved(self, event: u8) -> u8
+        ensures { λ r. ⌜ r ≡ eventMoved self event ⌝ }
+    {
+        if self.disc_in {
+            return event;
+        }
+        self.event
+    }
+
+    // The tray opens, by button or packet: nothing is played, and with a disc in that is an event.
     pub fn opening(self) -> Shifted
         ensures { λ r. ⌜ r ≡ opening self ⌝ }
     {
@@ -105,6 +132,7 @@ impl Deck {
                 lock: self.lock,
                 play: no_play(),
                 page,
+                event: self.event_moved(OPENED),
             },
             loading: false,
         }
@@ -120,7 +148,7 @@ impl Deck {
         self.play
     }
 
-    // The tray closes, by button or packet: with a disc in that is a loading.
+    // The tray closes, by button or packet: with a disc in that is a loading, and an event.
     pub fn closing(self) -> Shifted
         ensures { λ r. ⌜ r ≡ closing self ⌝ }
     {
@@ -132,12 +160,13 @@ impl Deck {
                 lock: self.lock,
                 play: self.closed_play(),
                 page,
+                event: self.event_moved(LOADED),
             },
             loading: self.disc_in,
         }
     }
 
-    // What power-on leaves: tray and disc kept, lock off, nothing played, the page's default values.
+    // What power-on leaves: tray and disc kept, lock off, nothing played, the page's default values, no event.
     fn restarted(self) -> Deck
         ensures { λ r. ⌜ r ≡ restarted self ⌝ }
     {
@@ -149,6 +178,7 @@ impl Deck {
             lock: false,
             play,
             page,
+            event: NO_EVENT,
         }
     }
 
@@ -163,6 +193,7 @@ impl Deck {
             lock: self.lock,
             play,
             page,
+            event: self.event,
         }
     }
 
@@ -177,6 +208,7 @@ impl Deck {
             lock,
             play,
             page,
+            event: self.event,
         }
     }
 
@@ -190,6 +222,7 @@ impl Deck {
             lock: self.lock,
             play,
             page,
+            event: self.event,
         }
     }
 
@@ -203,19 +236,38 @@ impl Deck {
             lock: self.lock,
             play,
             page,
+            event: self.event,
+        }
+    }
+
+    pub fn with_event(self, event: u8) -> Deck
+        ensures { λ r. ⌜ r ≡ withEvent self event ⌝ }
+    {
+        let play = self.play;
+        let page = self.page;
+        Deck {
+            tray_open: self.tray_open,
+            disc_in: self.disc_in,
+            lock: self.lock,
+            play,
+            page,
+            event,
         }
     }
 }
 
 impl Drive {
     // Refusal 2 does not meet the state: the sense is one of the thirteen, the play status one of the four, the position not past the end, the
-    // end not over the last address, the recovery byte one of the twenty.
+    // end not over the last address, the recovery byte one of the twenty, the event not over 3.
     pub fn is_known_state(self) -> bool
         ensures { λ r. ⌜ r ≡ isKnownState self ⌝ }
     {
         if is_known(self.unit.sense) {
             if self.deck.play.is_play() {
-                return is_setting(self.deck.page.recovery);
+                if is_setting(self.deck.page.recovery) {
+                    return is_event(self.deck.event);
+                }
+                return false;
             }
             return false;
         }
@@ -247,8 +299,8 @@ impl Drive {
         self.power_on_with(false)
     }
 
-    // What both forms do: tray and disc kept, lock off, nothing played, the page's default values, sense 00/00/00, power attention pending;
-    // they differ in `change` alone.
+    // What both forms do: tray and disc kept, lock off, nothing played, the page's default values, no event, sense 00/00/00, power attention
+    // pending; they differ in `change` alone.
     fn power_on_with(self, change: bool) -> Drive
         ensures { λ r. ⌜ r ≡ powerOnWith self change ⌝ }
     {
@@ -258,7 +310,7 @@ impl Drive {
         }
     }
 
-    // An open tray closes; a closed one opens, unless locked.
+    // An open tray closes; a closed one opens, unless locked: that press is refused, and changes the event alone.
     pub fn button(self) -> Moved
         ensures { λ r. ⌜ r ≡ button self ⌝ }
     {
@@ -267,7 +319,7 @@ impl Drive {
                 return moves(self.shift(self.deck.closing()));
             }
             if self.deck.lock {
-                return refuse(LOCKED, self);
+                return refuse(LOCKED, self.with_deck(self.deck.with_event(PRESSED)));
             }
             return moves(self.shift(self.deck.opening()));
         }

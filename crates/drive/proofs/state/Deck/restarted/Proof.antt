@@ -1,4 +1,4 @@
--- `drive::state::Deck::restarted` meets its contract: nothing is played, and the page has its default values.
+-- `drive::state::Deck::restarted` meets its contract: nothing is played, the page has its default values, and there is no event.
 use borrow.Author.Needs.{needs}
 use Rattle.drive.proofs.state.Deck.restarted.Statement.{statement}
 use Rattle.drive.proofs.state.Deck.restarted.Tie as tie
