@@ -37,7 +37,7 @@ use Rattle.gate.specs.Fault.{senseOf}
 use Rattle.gate.specs.Unit.{pendingOf, give}
 use Rattle.gate.specs.Gate.{Result, fails, goes, gate}
 use Rattle.command.specs.declared.decode.Command.{Command}
-use Rattle.command.specs.declared.decode.Command.the-variants.{TestUnitReady, RequestSense, Inquiry, StartStop, Prevent, ReadCapacity, Read10, Seek, ReadToc, Read12, PlayAudio, PauseResume, ReadSubChannel, ModeSense, ModeSelect, Unknown}
+use Rattle.command.specs.declared.decode.Command.the-variants.{TestUnitReady, RequestSense, Inquiry, StartStop, Prevent, ReadCapacity, Read10, Seek, ReadToc, Read12, PlayAudio, PauseResume, ReadSubChannel, ModeSense, ModeSelect, GetEvent, Unknown}
 use Rattle.command.specs.Command.{byte, bit0, decode, codeOf, needsDisc, addressIn, count10, lengthIn}
 use Rattle.command.specs.Tray.{eject, load, startStop}
 use Rattle.command.specs.Done.{answering}

@@ -23,7 +23,7 @@ use Rattle.gate.specs.declared.unit.Pending.the-variants.{Power, Change, Nothin
 use Rattle.gate.specs.Unit.{pendingOf}
 use Rattle.gate.specs.Gate.{Result, fails, goes, Reply, settle, pass, meet, gate}
 use Rattle.command.specs.declared.decode.Command.{Command}
-use Rattle.command.specs.declared.decode.Command.the-variants.{TestUnitReady, RequestSense, Inquiry, StartStop, Prevent, ReadCapacity, Read10, Seek, ReadToc, Read12, PlayAudio, PauseResume, ReadSubChannel, ModeSense, ModeSelect, Unknown}
+use Rattle.command.specs.declared.decode.Command.the-variants.{TestUnitReady, RequestSense, Inquiry, StartStop, Prevent, ReadCapacity, Read10, Seek, ReadToc, Read12, PlayAudio, PauseResume, ReadSubChannel, ModeSense, ModeSelect, GetEvent, Unknown}
 use Rattle.command.specs.declared.decode.Kind.{Kind}
 use Rattle.command.specs.declared.decode.Kind.the-variants.{Asks, Passes, Gates}
 use Rattle.command.specs.Command.{byte, bit0, needsDisc, addressIn, lengthIn, codeOf, decode, kindOf}

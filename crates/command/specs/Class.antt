@@ -6,10 +6,10 @@ use lib.ListN.{getD}
 use lib.Dec.{eqb}
 use Rattle.ground.specs.Tests.{if_then_else_, every}
 use Rattle.command.specs.declared.decode.Command.{Command}
-use Rattle.command.specs.declared.decode.Command.the-variants.{TestUnitReady, RequestSense, Inquiry, StartStop, Prevent, ReadCapacity, Read10, Seek, ReadToc, Read12, PlayAudio, PauseResume, ReadSubChannel, ModeSense, ModeSelect, Unknown}
+use Rattle.command.specs.declared.decode.Command.the-variants.{TestUnitReady, RequestSense, Inquiry, StartStop, Prevent, ReadCapacity, Read10, Seek, ReadToc, Read12, PlayAudio, PauseResume, ReadSubChannel, ModeSense, ModeSelect, GetEvent, Unknown}
 use Rattle.command.specs.Command.{decode}
 
--- "the command's class": its number in 01's list of packets, K2's and K4's after them, and 0 for "unknown"
+-- "the command's class": its number in 01's list of packets, K2's, K4's and K7's after them, and 0 for "unknown"
 unfoldable pub classOf : Command → ℕ
 classOf Unknown = 0
 classOf TestUnitReady = 1
@@ -27,6 +27,7 @@ classOf PauseResume = 12
 classOf ReadSubChannel = 13
 classOf ModeSense = 14
 classOf ModeSelect = 15
+classOf GetEvent = 16
 
 -- the class of an operation code
 abbrev pub classAt : ℕ → ℕ
@@ -40,7 +41,7 @@ rowAt rows code = getD rows code 0
 abbrev pub keepsRule : List ℕ → Bool
 keepsRule rows = every 256 (λ code. eqb (getD rows code 0) (classAt code))
 
--- 01's list of packets, K2's and K4's
+-- 01's list of packets, K2's, K4's and K7's
 abbrev pub packets : List Command
 packets =
     TestUnitReady
@@ -58,6 +59,7 @@ packets =
     ∷ ReadSubChannel
     ∷ ModeSense
     ∷ ModeSelect
+    ∷ GetEvent
     ∷ []
 
 -- the command in a list that has the class; where none has it, "unknown"

@@ -6,7 +6,7 @@ use Prim.Native.Nat.{ℕ, _<_}
 use borrow.Author.Tests.{eqb-true}
 use Rattle.ground.specs.Tests.{if_then_else_, every-at}
 use Rattle.command.specs.declared.decode.Command.{Command}
-use Rattle.command.specs.declared.decode.Command.the-variants.{TestUnitReady, RequestSense, Inquiry, StartStop, Prevent, ReadCapacity, Read10, Seek, ReadToc, Read12, PlayAudio, PauseResume, ReadSubChannel, ModeSense, ModeSelect, Unknown}
+use Rattle.command.specs.declared.decode.Command.the-variants.{TestUnitReady, RequestSense, Inquiry, StartStop, Prevent, ReadCapacity, Read10, Seek, ReadToc, Read12, PlayAudio, PauseResume, ReadSubChannel, ModeSense, ModeSelect, GetEvent, Unknown}
 use Rattle.command.specs.Class.{classOf, classAt, rowAt, keepsRule, withClass, commandOf}
 
 -- a table that keeps the rule has at each code that code's class
@@ -33,3 +33,4 @@ commandOf-class PauseResume = refl
 commandOf-class ReadSubChannel = refl
 commandOf-class ModeSense = refl
 commandOf-class ModeSelect = refl
+commandOf-class GetEvent = refl

@@ -9,11 +9,11 @@ use Rattle.ground.specs.Number.{word16, word32}
 use Rattle.command.specs.declared.decode.Command.{Command}
 use Rattle.command.specs.declared.decode.Kind.{Kind}
 use Rattle.command.specs.declared.decode.Kind.the-variants.{Asks, Passes, Gates}
-use Rattle.command.specs.declared.decode.Command.the-variants.{TestUnitReady, RequestSense, Inquiry, StartStop, Prevent, ReadCapacity, Read10, Seek, ReadToc, Read12, PlayAudio, PauseResume, ReadSubChannel, ModeSense, ModeSelect, Unknown}
+use Rattle.command.specs.declared.decode.Command.the-variants.{TestUnitReady, RequestSense, Inquiry, StartStop, Prevent, ReadCapacity, Read10, Seek, ReadToc, Read12, PlayAudio, PauseResume, ReadSubChannel, ModeSense, ModeSelect, GetEvent, Unknown}
 
 -- "TEST UNIT READY 00h, REQUEST SENSE 03h, INQUIRY 12h, START/STOP UNIT 1Bh, PREVENT/ALLOW 1Eh, READ CAPACITY 25h, READ(10) 28h,
 -- SEEK(10) 2Bh, READ TOC 43h, READ(12) A8h"; K2: "PLAY AUDIO(10) 45h, PAUSE/RESUME 4Bh and READ SUB-CHANNEL 42h"; K4: "MODE SENSE(10) 5Ah
--- and MODE SELECT(10) 55h"
+-- and MODE SELECT(10) 55h"; K7: "GET EVENT STATUS NOTIFICATION 4Ah"
 unfoldable pub decode : ℕ → Command
 decode code =
     if eqb code 0x00 then TestUnitReady else (
@@ -30,7 +30,8 @@ decode code =
     if eqb code 0x4B then PauseResume else (
     if eqb code 0x42 then ReadSubChannel else (
     if eqb code 0x5A then ModeSense else (
-    if eqb code 0x55 then ModeSelect else Unknown))))))))))))))
+    if eqb code 0x55 then ModeSelect else (
+    if eqb code 0x4A then GetEvent else Unknown)))))))))))))))
 
 -- byte k of a packet, and the numbers that stand in it
 abbrev pub byte : List ℕ → ℕ → ℕ
@@ -65,7 +66,7 @@ count10 p = word16 (byte p 7) (byte p 8)
 abbrev pub count12 : List ℕ → ℕ
 count12 p = wordAt p 6
 
--- "length in 7 to 8" (43h); K2: 42h's stands there too, and K4: 5Ah's and 55h's
+-- "length in 7 to 8" (43h); K2: 42h's stands there too, and K4: 5Ah's and 55h's, K7: 4Ah's
 abbrev pub lengthIn : List ℕ → ℕ
 lengthIn p = word16 (byte p 7) (byte p 8)
 
@@ -81,7 +82,7 @@ abbrev pub starting : ℕ → Bool
 starting b = not (bit1 b) and bit0 b
 
 -- "Needing one: 00h, 25h, 28h, 2Bh, 43h, A8h, and 1Bh with LoEj 0 and Start 1."; K2: "These commands need a disc."; K4's two, which fail
--- "after step 3", are not among them. b is the packet's byte 4.
+-- "after step 3", and K7's are not among them. b is the packet's byte 4.
 abbrev pub needing : Command → ℕ → Bool
 needing TestUnitReady b = true
 needing RequestSense b = false
@@ -98,12 +99,14 @@ needing PauseResume b = true
 needing ReadSubChannel b = true
 needing ModeSense b = false
 needing ModeSelect b = false
+needing GetEvent b = false
 needing Unknown b = false
 
 abbrev pub needsDisc : Command → List ℕ → Bool
 needsDisc c p = needing c (byte p 4)
 
--- "1. INQUIRY and REQUEST SENSE are performed even with an attention pending. 2. Any other: .."
+-- "1. INQUIRY and REQUEST SENSE are performed even with an attention pending. 2. Any other: .."; K7: 4Ah "is performed while an attention is
+-- pending, tells none, and leaves the sense when GOOD", as INQUIRY is
 abbrev pub kindOf : Command → Kind
 kindOf TestUnitReady = Gates
 kindOf RequestSense = Asks
@@ -120,4 +123,5 @@ kindOf PauseResume = Gates
 kindOf ReadSubChannel = Gates
 kindOf ModeSense = Gates
 kindOf ModeSelect = Gates
+kindOf GetEvent = Passes
 kindOf Unknown = Gates

@@ -55,6 +55,9 @@ const MODE_SENSE: u8 = 14;
 // MODE SELECT(10)
 const MODE_SELECT: u8 = 15;
 
+// GET EVENT STATUS NOTIFICATION
+const GET_EVENT: u8 = 16;
+
 // Row `code` holds the class of that operation code.
 const ROWS: [u8; 256] = [
     TEST_UNIT_READY, // 00h
@@ -131,7 +134,7 @@ const ROWS: [u8; 256] = [
     UNKNOWN, // 47h
     UNKNOWN, // 48h
     UNKNOWN, // 49h
-    UNKNOWN, // 4Ah
+    GET_EVENT, // 4Ah
     PAUSE_RESUME, // 4Bh
     UNKNOWN, // 4Ch
     UNKNOWN, // 4Dh
@@ -349,6 +352,7 @@ pub(crate) fn command_of(class: u8) -> Command
         READ_SUB_CHANNEL => Command::ReadSubChannel,
         MODE_SENSE => Command::ModeSense,
         MODE_SELECT => Command::ModeSelect,
+        GET_EVENT => Command::GetEvent,
         _ => Command::Unknown,
     }
 }

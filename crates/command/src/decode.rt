@@ -22,6 +22,7 @@ pub enum Command {
     ReadSubChannel,
     ModeSense,
     ModeSelect,
+    GetEvent,
     Unknown,
 }
 
@@ -36,7 +37,7 @@ pub fn decode(code: u8) -> Command
 pub enum Kind {
     // REQUEST SENSE.
     Asks,
-    // INQUIRY: performed even with an attention pending.
+    // INQUIRY and GET EVENT STATUS NOTIFICATION: performed even with an attention pending.
     Passes,
     // Any other: a pending attention is told first.
     Gates,
@@ -61,6 +62,7 @@ pub fn kind_of(c: Command) -> Kind
         Command::ReadSubChannel => Kind::Gates,
         Command::ModeSense => Kind::Gates,
         Command::ModeSelect => Kind::Gates,
+        Command::GetEvent => Kind::Passes,
         Command::Unknown => Kind::Gates,
     }
 }
@@ -95,6 +97,7 @@ pub fn needs_disc(c: Command, b: u8) -> bool
         Command::ReadSubChannel => true,
         Command::ModeSense => false,
         Command::ModeSelect => false,
+        Command::GetEvent => false,
         Command::Unknown => false,
     }
 }

@@ -16,7 +16,7 @@ use Rattle.disc.specs.Disc.{lastPart}
 use Rattle.gate.specs.declared.fault.Fault.the-variants.{UnknownCode}
 use Rattle.gate.specs.Gate.{Result, fails, goes}
 use Rattle.command.specs.declared.decode.Command.{Command}
-use Rattle.command.specs.declared.decode.Command.the-variants.{TestUnitReady, RequestSense, Inquiry, StartStop, Prevent, ReadCapacity, Read10, Seek, ReadToc, Read12, PlayAudio, PauseResume, ReadSubChannel, ModeSense, ModeSelect, Unknown}
+use Rattle.command.specs.declared.decode.Command.the-variants.{TestUnitReady, RequestSense, Inquiry, StartStop, Prevent, ReadCapacity, Read10, Seek, ReadToc, Read12, PlayAudio, PauseResume, ReadSubChannel, ModeSense, ModeSelect, GetEvent, Unknown}
 use Rattle.command.specs.declared.done.Done.{Done}
 use Rattle.command.specs.Command.{byte, bit0, needsDisc, addressIn, count10, count12, lengthIn}
 use Rattle.command.specs.Tray.{startStop, prevent, noMedium}

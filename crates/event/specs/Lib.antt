@@ -1,0 +1,4 @@
+pub mod Class
+pub mod ClassLaws
+pub mod Answer
+pub mod AnswerLaws

@@ -1,0 +1,3 @@
+// GET EVENT STATUS NOTIFICATION, as functions of values: which class it answers, the answer's bytes, and what a media answer clears.
+pub mod answer;
+pub mod class;
