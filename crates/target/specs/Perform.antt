@@ -1,4 +1,4 @@
--- Steps 3 to 5: what a packet comes to that is performed. (INQUIRY also with an attention pending, any other once none is.)
+-- Steps 3 to 5: what a packet comes to that is performed. (INQUIRY and 4Ah also with an attention pending, any other once none is.)
 use Prim.Native.Nat.{ℕ}
 use mathlib.Core.Path.{_≡_}
 use mathlib.Core.Bool.{not}
@@ -28,6 +28,7 @@ use Rattle.audio.specs.Audio.{play, pauseResume}
 use Rattle.audio.specs.SubChannel.{subAskIn, readSubChannel}
 use Rattle.mode.specs.ModeSense.{modeSense}
 use Rattle.mode.specs.ModeSelect.{modeSelect}
+use Rattle.event.specs.Answer.{getEvent}
 use Rattle.target.specs.ReadToc.{readToc}
 
 -- "L is the last session's lead-out."
@@ -64,6 +65,7 @@ work PauseResume p m t l = pauseResume (bit0 (byte p 8)) m
 work ReadSubChannel p m t l = tells (subAskIn p) (lengthIn p) m t
 work ModeSense p m t l = modeSense (byte p 2) (lengthIn p) m
 work ModeSelect p m t l = modeSelect (lengthIn p) l m
+work GetEvent p m t l = getEvent (byte p 1) (byte p 4) (lengthIn p) m
 work Unknown p m t l = fails UnknownCode
 
 -- steps 3 and 4: "Unknown code: 05/20/00." (an unknown code needs no disc) "If the command needs a disc and the drive isn't loaded: .."

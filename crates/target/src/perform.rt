@@ -1,4 +1,5 @@
 // Steps 3 to 5: what each command does that is performed.
+use crate::get_event::get_event;
 use crate::mode_sense::mode_sense;
 use crate::read_sub_channel::read_sub_channel;
 use crate::read_toc::read_toc;
@@ -115,6 +116,7 @@ fn work(c: Command, p: &[u8], m: Deck, t: &[u8], list: &[u8], disc: Disc, mem: &
         Command::ReadSubChannel => read_sub_channel(p, m, t, mem),
         Command::ModeSense => mode_sense(p, m, mem),
         Command::ModeSelect => mode_select(word16(p[7], p[8]), list, m),
+        Command::GetEvent => get_event(p, m, mem),
         Command::Unknown => Done::Fails(Fault::UnknownCode),
     }
 }

@@ -69,7 +69,10 @@ returns-15 : tie.Need-returns-15
 returns-15 c = rw (c .before .before .before .before .enum-told15 .given .1) (performed-quiet _ (modeSelect-quiet _ _ _) (rw (c .before .word163 .ensures) at (c .mode-select .ensures)))
 
 returns-16 : tie.Need-returns-16
-returns-16 c = rw (c .enum-told16 .given .1) (performed-fails _ refl)
+returns-16 c = rw (c .before .before .before .before .enum-told16 .given .1) (c .before .before .get-event .ensures)
+
+returns-17 : tie.Need-returns-17
+returns-17 c = rw (c .enum-told17 .given .1) (performed-fails _ refl)
 
 pub work-spec : {M : Type 1} → statement M
-work-spec = tie.close (tie.spec (λ c. search needs) (λ c κs. search needs) (λ c. search needs) (λ c κs. search needs) (λ c. search needs) (λ c. search needs) (λ c κs. search needs) (λ c κs. search needs) (λ c. search needs) (λ c. search needs) (λ c κs. search needs) (λ c κs. search needs) (λ c. search needs) (λ c. search needs) (λ c κs. search needs) (λ c. search needs) (λ c. search needs) (λ c κs. search needs) (λ c. search needs) (λ c κs. search needs) (λ c. search needs) (λ c κs. search needs) (λ c. search needs) (λ c κs. search needs) (λ c. search needs) (λ c. search needs) (λ c κs. search needs) read-run-requires (λ c. search needs) (λ c κs. search needs) (λ c κs. search needs) (λ c. search needs) read-toc-requires (λ c. search needs) (λ c κs. search needs) (λ c κs. search needs) read-run-requires-2 (λ c. search needs) (λ c κs. search needs) (λ c. search needs) (λ c. search needs) (λ c κs. search needs) play-run-requires (λ c. search needs) (λ c. search needs) (λ c κs. search needs) (λ c κs. search needs) (λ c. search needs) (λ c κs. search needs) (λ c. search needs) (λ c κs. search needs) (λ c. search needs) (λ c. search needs) (λ c. search needs) (λ c κs. search needs) (λ c κs. search needs) (λ c. search needs) returns returns-2 (λ c. search needs) returns-3 returns-4 returns-5 (λ c. search needs) returns-6 returns-7 returns-8 (λ c. search needs) returns-9 returns-10 returns-11 returns-12 (λ c. search needs) returns-13 (λ c. search needs) returns-14 returns-15 returns-16)
+work-spec = tie.close (tie.spec (λ c. search needs) (λ c κs. search needs) (λ c. search needs) (λ c κs. search needs) (λ c. search needs) (λ c. search needs) (λ c κs. search needs) (λ c κs. search needs) (λ c. search needs) (λ c. search needs) (λ c κs. search needs) (λ c κs. search needs) (λ c. search needs) (λ c. search needs) (λ c κs. search needs) (λ c. search needs) (λ c. search needs) (λ c κs. search needs) (λ c. search needs) (λ c κs. search needs) (λ c. search needs) (λ c κs. search needs) (λ c. search needs) (λ c κs. search needs) (λ c. search needs) (λ c. search needs) (λ c κs. search needs) read-run-requires (λ c. search needs) (λ c κs. search needs) (λ c κs. search needs) (λ c. search needs) read-toc-requires (λ c. search needs) (λ c κs. search needs) (λ c κs. search needs) read-run-requires-2 (λ c. search needs) (λ c κs. search needs) (λ c. search needs) (λ c. search needs) (λ c κs. search needs) play-run-requires (λ c. search needs) (λ c. search needs) (λ c κs. search needs) (λ c κs. search needs) (λ c. search needs) (λ c κs. search needs) (λ c. search needs) (λ c κs. search needs) (λ c. search needs) (λ c. search needs) (λ c. search needs) (λ c κs. search needs) (λ c κs. search needs) (λ c. search needs) (λ c κs. search needs) (λ c. search needs) returns returns-2 (λ c. search needs) returns-3 returns-4 returns-5 (λ c. search needs) returns-6 returns-7 returns-8 (λ c. search needs) returns-9 returns-10 returns-11 returns-12 (λ c. search needs) returns-13 (λ c. search needs) returns-14 returns-15 (λ c. search needs) returns-16 returns-17)
