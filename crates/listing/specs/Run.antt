@@ -7,7 +7,7 @@ use Rattle.drive.specs.declared.state.Drive.{Drive}
 use Rattle.drive.specs.Sense.{noSense}
 use Rattle.play.specs.Play.{noPlay}
 use Rattle.page.specs.Page.{defaults}
-use Rattle.drive.specs.State.{powerOnWithoutChange}
+use Rattle.drive.specs.State.{noEvent, powerOnWithoutChange}
 use Rattle.table.specs.Layout.{bound}
 use Rattle.outcome.specs.Outcome.{stateOf}
 use Rattle.target.specs.Packet.{answer}
@@ -16,7 +16,7 @@ use Rattle.target.specs.Packet.{answer}
 abbrev pub loaded : Drive
 loaded = powerOnWithoutChange (record {
   unit = record { power = false; change = false; sense = noSense };
-  deck = record { «tray_open» = false; «disc_in» = true; lock = false; play = noPlay; page = defaults };
+  deck = record { «tray_open» = false; «disc_in» = true; lock = false; play = noPlay; page = defaults; event = noEvent };
 })
 
 -- packet k of the file f, counted from 0: 12 bytes; "a short last packet is handed on as it is"

@@ -6,6 +6,7 @@ use drive::sense::NO_SENSE;
 use drive::sense::sense_at;
 use drive::state::Deck;
 use drive::state::Drive;
+use drive::state::NO_EVENT;
 use drive::state::Unit;
 use file::load;
 use libc::STDERR_FILENO;
@@ -57,6 +58,7 @@ fn loaded() -> Drive
         lock: false,
         play: no_play(),
         page: defaults(),
+        event: NO_EVENT,
     };
     Drive { unit, deck }.power_on_without_change()
 }

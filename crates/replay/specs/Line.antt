@@ -47,11 +47,11 @@ playText r = spaced (hexByte (r .status)) next spaced (decimal (r .position)) ne
 unfoldable pub pageText : Page → List ℕ
 pageText g = spaced (hexByte (g .recovery)) next spaced (hexByte (g .retry))
 
--- what the deck keeps beside its flags
+-- what the deck keeps beside its flags; K7: ` E` "(decimal)"
 unfoldable pub keptText : Deck → List ℕ
-keptText m = playText (m .play) next pageText (m .page)
+keptText m = playText (m .play) next pageText (m .page) next spaced (decimal (m .event))
 
--- "STATE is five digits 0 or 1 and three hex bytes"; K2: and the play record; K4: and the mode page
+-- "STATE is five digits 0 or 1 and three hex bytes"; K2: and the play record; K4: and the mode page; K7: and the media event
 unfoldable pub stateText : Drive → List ℕ
 stateText d = spaced (flags d) next triple (d .unit .sense) next keptText (d .deck)
 

@@ -68,6 +68,7 @@ pub(crate) fn empty() -> Bench {
         lock: false,
         play,
         page,
+        event: 0,
     };
     Bench {
         drive: Drive { unit, deck },
@@ -137,7 +138,7 @@ fn fill(m: &mut [u8], x: u8)
 
 // The state that a record gives.
 fn state_of(body: &[u8]) -> Drive
-    requires { ⌜ length (now body) ≡ 19 ⌝ }
+    requires { ⌜ length (now body) ≡ 20 ⌝ }
 {
     let play = Play {
         status: body[8],
@@ -154,6 +155,7 @@ fn state_of(body: &[u8]) -> Drive
         lock: body[2] == 1,
         play,
         page,
+        event: body[19],
     };
     let sense = Sense {
         key: body[5],
@@ -185,7 +187,7 @@ fn are_flags(body: &[u8]) -> bool {
 
 // Kind 0: the state.
 fn set_state(body: &[u8], bench: Bench, line: &mut [u8]) -> Turn {
-    if body.len() == 19 {
+    if body.len() == 20 {
         if are_flags(body) {
             return printed(0, with_drive(bench, state_of(body)));
         }

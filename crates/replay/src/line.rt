@@ -49,16 +49,17 @@ fn next_page(g: Page, out: &mut [u8]) -> usize
     at
 }
 
-// What the deck keeps beside its flags: the play record and the mode page.
+// What the deck keeps beside its flags: the play record, the mode page and the media event.
 fn next_kept(m: Deck, out: &mut [u8]) -> usize
     ensures { λ n. ⌜ Laid (now (out .entry)) (keptText m) n (now (out .exit)) ⌝ }
 {
     let mut at = next_play(m.play, out);
     at += next_page(m.page, &mut out[at..]);
+    at += next_decimal(wide(m.event), &mut out[at..]);
     at
 }
 
-// The state: five flags, the held sense, the play record and the mode page.
+// The state: five flags, the held sense, the play record, the mode page and the media event.
 fn next_state(d: Drive, out: &mut [u8]) -> usize
     ensures { λ r. ⌜ Laid (now (out .entry)) (stateText d) r (now (out .exit)) ⌝ }
 {
