@@ -98,6 +98,15 @@ isPowering lifting = false
 isPowering (movingOn k) = false
 isPowering (packet p t l m) = false
 
+-- a press of the button
+abbrev pub isPressing : Call → Bool
+isPressing (powering f) = false
+isPressing pressing = true
+isPressing laying = false
+isPressing lifting = false
+isPressing (movingOn k) = false
+isPressing (packet p t l m) = false
+
 -- "Power-on (also reset)", in either form
 abbrev pub isPowerOn : Happening → Bool
 isPowerOn e = isPowering (e .call)

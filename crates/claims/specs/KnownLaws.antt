@@ -1,5 +1,5 @@
--- A state that refusal 2 does not meet stays one: every triple that is held is a row of the table, what is played lies below L, and a page that
--- is set has one of the twenty.
+-- A state that refusal 2 does not meet stays one: every triple that is held is a row of the table, what is played lies below L, a page that
+-- is set has one of the twenty, and an event that is noted is one of the three.
 use mathlib.Core.Path.{_≡_, refl, sym, ap, _∙_}
 use mathlib.Core.Bool.{Bool, true, false, not}
 use mathlib.Core.List.{List, [], _∷_}
@@ -24,7 +24,7 @@ use Rattle.page.specs.PageLaws.{isSetting-default}
 use Rattle.play.specs.Play.{none, isStatus, withStatus}
 use Rattle.play.specs.PlayLaws.{Known, isStatus-playing, isStatus-paused, isStatus-none, noPlay-known, withStatus-known, movedOn-known}
 use Rattle.drive.specs.Unit.{attend}
-use Rattle.drive.specs.State.{isKnownState, isLoaded, opening, closing, restarted, withDisc, withLock, withPlay, withPage, button, lay, lift, moveOn}
+use Rattle.drive.specs.State.{loaded, opened, isEvent, isKnownState, isLoaded, eventMoved, opening, closing, restarted, withDisc, withLock, withPlay, withPage, withEvent, button, lay, lift, moveOn}
 use Rattle.drive.specs.StateLaws.{KnownDeck, isKnownState-sense, isKnownState-deck, known-isKnownState, powerOn-with, powerOnWithoutChange-with}
 use Rattle.table.specs.Layout.{bound}
 use Rattle.disc.specs.Rules.{isFit}
@@ -48,6 +48,8 @@ use Rattle.audio.specs.Audio.{started, resumed, pauseResume}
 use Rattle.audio.specs.SubChannel.{reported}
 use Rattle.mode.specs.ModeSenseLaws.{modeSense-ways}
 use Rattle.mode.specs.ModeSelectLaws.{modeSelect-ways}
+use Rattle.event.specs.Answer.{isTelling}
+use Rattle.event.specs.AnswerLaws.{getEvent-ways}
 use Rattle.target.specs.Perform.{L, work, perform}
 use Rattle.target.specs.Packet.{refusalOf, answer as replyTo}
 use Rattle.claims.specs.UnitLaws.{Kind, asks, frees, orders, reply, meets, nextOf}
@@ -132,19 +134,22 @@ abbrev Comes : Deck → Result Deck → Type 0
 Comes m r = KnownDeck (nextOf m r)
 
 module _ (m : Deck) (s : KnownDeck m) where
-  -- another play record, or another page
+  -- another play record, another page, or another event
   played : {r : Play} → Known r → KnownDeck (withPlay m r)
-  played k = record { play = k; page = s .page }
+  played k = record { play = k; page = s .page; event = s .event }
 
   paged : {g : Page} → isSetting (g .recovery) ≡ true → KnownDeck (withPage m g)
-  paged k = record { play = s .play; page = k }
+  paged k = record { play = s .play; page = k; event = s .event }
+
+  noted : {e : ℕ} → isEvent e ≡ true → KnownDeck (withEvent m e)
+  noted k = record { play = s .play; page = s .page; event = k }
 
   -- another lock, or another disc: refusal 2 asks nothing of them
   locked : (b : Bool) → KnownDeck (withLock m b)
-  locked b = record { play = s .play; page = s .page }
+  locked b = record { play = s .play; page = s .page; event = s .event }
 
   held : (b : Bool) → KnownDeck (withDisc m b)
-  held b = record { play = s .play; page = s .page }
+  held b = record { play = s .play; page = s .page; event = s .event }
 
   stopped-known : KnownDeck (withPlay m (withStatus (m .play) none))
   stopped-known = played (withStatus-known none isStatus-none (s .play))
@@ -161,11 +166,19 @@ module _ (m : Deck) (s : KnownDeck m) where
   unfolding seek
   seek-known a l = either (Comes m) _ (λ h. s) (λ h. stopped-known)
 
+  -- with a disc in the tray's move is one of the three
+  eventMoved-known : (e : ℕ) → isEvent e ≡ true → isEvent (eventMoved m e) ≡ true
+  eventMoved-known e k = either (λ (x : ℕ). isEvent x ≡ true) (m .«disc_in») (λ h. k) (λ h. s .event)
+
   closing-known : KnownDeck (closing m .deck)
-  closing-known = record { play = either Known (m .«disc_in») (λ h. noPlay-known) (λ h. s .play); page = s .page }
+  closing-known = record {
+    play = either Known (m .«disc_in») (λ h. noPlay-known) (λ h. s .play);
+    page = s .page;
+    event = eventMoved-known loaded refl;
+  }
 
   opening-known : KnownDeck (opening m .deck)
-  opening-known = record { play = noPlay-known; page = s .page }
+  opening-known = record { play = noPlay-known; page = s .page; event = eventMoved-known opened refl }
 
   load-known : Comes m (load m)
   unfolding load
@@ -215,6 +228,9 @@ module _ (m : Deck) (s : KnownDeck m) where
   work-known ReadSubChannel p t l f = answering-known _ _ _ _ reported-known
   work-known ModeSense p t l f = modeSense-ways (Comes m) (lengthIn p) m (byte p 2) (λ e. s) (λ g. s)
   work-known ModeSelect p t l f = modeSelect-ways (Comes m) (lengthIn p) l m s s paged s
+  work-known GetEvent p t l f =
+      getEvent-ways (Comes m) (lengthIn p) m (byte p 1) (byte p 4) s
+      (λ full h. either KnownDeck (isTelling full (lengthIn p)) (λ k. noted refl) (λ k. s))
   work-known Unknown p t l f = s
 
   perform-known : (c : Command) (p t l : List ℕ) → (isLoaded m ≡ true → L t ≤ last) → Comes m (perform c p m t l)
@@ -224,7 +240,7 @@ module _ (m : Deck) (s : KnownDeck m) where
 
   kind-known : {c : Command} (z : Seen c) (p t l : List ℕ) → (isLoaded m ≡ true → L t ≤ last) → KnownDeck (comesTo m (kindOf z p (perform c p m t l)))
   kind-known asking p t l f = s
-  kind-known freeing p t l f = perform-known Inquiry p t l f
+  kind-known (freeing {c} z) p t l f = perform-known c p t l f
   kind-known (ordering {c} n g) p t l f = perform-known c p t l f
 
 -- ---- each call
@@ -251,7 +267,7 @@ module _ (d : Drive) (s : isKnownState d ≡ true) (p t l : List ℕ) (n : ℕ) 
 
 -- what power-on leaves
 pub restarted-known : (m : Deck) → KnownDeck (restarted m)
-restarted-known m = record { play = noPlay-known; page = isSetting-default }
+restarted-known m = record { play = noPlay-known; page = isSetting-default; event = refl }
 
 pub power-state : (f : Form) (d : Drive) → isKnownState (next (powering f) d) ≡ true
 power-state byDefault d = rw (powerOn-with d) (known-isKnownState _ known-none (restarted-known (d .deck)))
@@ -273,7 +289,9 @@ module _ (d : Drive) (s : isKnownState d ≡ true) where
   button-state = either Stays _
       (λ k. either Stays _
       (λ t. known-isKnownState _ (attend-known (d .deck .«disc_in») (d .unit) sense) (closing-known (d .deck) deck))
-      (λ t. either Stays _ (λ l. s) (λ l. known-isKnownState _ (attend-known false (d .unit) sense) (opening-known (d .deck) deck))))
+      (λ t. either Stays _
+      (λ l. known-isKnownState _ sense (noted (d .deck) deck refl))
+      (λ l. known-isKnownState _ (attend-known false (d .unit) sense) (opening-known (d .deck) deck))))
       (λ k. s)
 
   lay-state : Stays (lay d)

@@ -29,7 +29,8 @@ unfolding decode classOf
 decode-select n =
     either P _ (at 0x00) (λ _. either P _ (at 0x03) (λ _. either P _ (at 0x12) (λ _. either P _ (at 0x1B) (λ _. either P _ (at 0x1E) (λ _.
     either P _ (at 0x25) (λ _. either P _ (at 0x28) (λ _. either P _ (at 0x2B) (λ _. either P _ (at 0x43) (λ _. either P _ (at 0xA8) (λ _.
-    either P _ (at 0x45) (λ _. either P _ (at 0x4B) (λ _. either P _ (at 0x42) (λ _. either P _ (at 0x5A) (λ _. either P _ (at 0x55) (λ h. h)))))))))))))))
+    either P _ (at 0x45) (λ _. either P _ (at 0x4B) (λ _. either P _ (at 0x42) (λ _. either P _ (at 0x5A) (λ _. either P _ (at 0x55) (λ h.
+    either P _ (at 0x4A) (λ _. h))))))))))))))))
   where
     P : Command → Type 0
     P c = eqb n 0x55 ≡ isSelect c
@@ -55,6 +56,7 @@ module _ (k l : List ℕ) where
   work-unlisted ReadSubChannel p m t h = refl
   work-unlisted ModeSense p m t h = refl
   work-unlisted ModeSelect p m t h = absurd (true≢false h)
+  work-unlisted GetEvent p m t h = refl
   work-unlisted Unknown p m t h = refl
 
   perform-unlisted : (c : Command) (p : List ℕ) (m : Deck) (t : List ℕ) → isSelect c ≡ false → perform c p m t k ≡ perform c p m t l

@@ -13,7 +13,7 @@ use Rattle.drive.specs.Sense.{triple, senseAt, sameSense, among, isKnown}
 use Rattle.play.specs.Play.{noPlay, isStatus, isPlay}
 use Rattle.page.specs.Page.{defaults, among as amongBytes, isSetting}
 use Rattle.drive.specs.Unit.{attend}
-use Rattle.drive.specs.State.{isKnownState}
+use Rattle.drive.specs.State.{noEvent, isKnownState}
 use Rattle.table.specs.Layout.{bound, isTrack, isExtra}
 use Rattle.table.specs.Row.{startOf, names, simple, free, plain, headA0, headA1, headed, addressed, rowTest}
 use Rattle.sessions.specs.Session.{one, size, listed, numbered, isSession, starts, before, follows, inPlace, inOrder}
@@ -45,7 +45,7 @@ tableE =
 abbrev pub loadedE : Drive
 loadedE = record {
   unit = record { power = false; change = false; sense = triple 0x00 0x00 0x00 };
-  deck = record { «tray_open» = false; «disc_in» = true; lock = false; play = noPlay; page = defaults };
+  deck = record { «tray_open» = false; «disc_in» = true; lock = false; play = noPlay; page = defaults; event = noEvent };
 }
 
 -- a packet to the loaded drive with Table E, no parameter list and 6,538 bytes of response memory; the address of M:S:F; the M:S:F of an

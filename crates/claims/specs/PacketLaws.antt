@@ -1,5 +1,5 @@
 -- A packet on the drive is one of three kinds, refused or not; none but a closing with a disc is a loading.
-use mathlib.Core.Path.{_≡_, refl, sym, _∙_}
+use mathlib.Core.Path.{_≡_, refl, sym, ap, _∙_}
 use mathlib.Core.Bool.{Bool, true, false, not, false≢true}
 use mathlib.Core.List.{List}
 use Prim.Native.Nat.{ℕ, zero, suc}
@@ -11,7 +11,7 @@ use Rattle.drive.specs.declared.state.Deck.{Deck}
 use Rattle.drive.specs.declared.state.Drive.{Drive}
 use Rattle.disc.specs.Rules.{isFit}
 use Rattle.disc.specs.Part.{unfit, ruleWith}
-use Rattle.gate.specs.Gate.{Result, refuse, gate}
+use Rattle.gate.specs.Gate.{Result, refuse, gate, pass}
 use Rattle.command.specs.declared.decode.Command.{Command}
 use Rattle.command.specs.declared.decode.Command.the-variants.{TestUnitReady, RequestSense, Inquiry, StartStop, Prevent, ReadCapacity, Read10, Seek, ReadToc, Read12, PlayAudio, PauseResume, ReadSubChannel, ModeSense, ModeSelect, GetEvent, Unknown}
 use Rattle.command.specs.Command.{decode, byte, codeOf, lengthIn, needsDisc, loEj, start}
@@ -22,6 +22,8 @@ use Rattle.blocks.specs.Blocks.{seek}
 use Rattle.audio.specs.Audio.{started, pauseResume}
 use Rattle.mode.specs.ModeSenseLaws.{modeSense-ways}
 use Rattle.mode.specs.ModeSelectLaws.{modeSelect-ways}
+use Rattle.event.specs.Answer.{isTelling}
+use Rattle.event.specs.AnswerLaws.{getEvent-ways}
 use Rattle.target.specs.Perform.{work, perform}
 use Rattle.target.specs.Packet.{steps, refusalOf, answer as replyTo}
 use Rattle.target.specs.PacketLaws.{stepsOf}
@@ -45,18 +47,34 @@ isRequest PauseResume = false
 isRequest ReadSubChannel = false
 isRequest ModeSense = false
 isRequest ModeSelect = false
+isRequest GetEvent = false
 isRequest Unknown = false
 
--- REQUEST SENSE, INQUIRY, or a command that meets the gate
+-- a command that is "performed even with an attention pending" and tells none: it needs no disc, and looks at neither table nor list
+pub record Free (c : Command) : Type 0 where
+  pub other : isRequest c ≡ false
+  pub passes : (u : Unit) (m : Deck) (p t l : List ℕ) → steps c u m p t l ≡ pass u m (perform c p m t l)
+  pub blind : (p : List ℕ) (m : Deck) (t t′ l l′ : List ℕ) → perform c p m t l ≡ perform c p m t′ l′
+  pub needs : (p : List ℕ) → needsDisc c p ≡ false
+
+inquiry-free : Free Inquiry
+unfolding perform _and_ if_then_else_
+inquiry-free = record { other = refl; passes = λ u m p t l. refl; blind = λ p m t t′ l l′. refl; needs = λ p. refl }
+
+getEvent-free : Free GetEvent
+unfolding perform _and_ if_then_else_
+getEvent-free = record { other = refl; passes = λ u m p t l. refl; blind = λ p m t t′ l l′. refl; needs = λ p. refl }
+
+-- REQUEST SENSE, INQUIRY or 4Ah, or a command that meets the gate
 pub data Seen : Command → Type 0 where
   asking : Seen RequestSense
-  freeing : Seen Inquiry
+  freeing : {c : Command} → Free c → Seen c
   ordering : {c : Command} → isRequest c ≡ false → ((u : Unit) (m : Deck) (p t l : List ℕ) → steps c u m p t l ≡ gate u m (perform c p m t l)) → Seen c
 
 pub seen : (c : Command) → Seen c
 seen TestUnitReady = ordering refl (λ u m p t l. refl)
 seen RequestSense = asking
-seen Inquiry = freeing
+seen Inquiry = freeing inquiry-free
 seen StartStop = ordering refl (λ u m p t l. refl)
 seen Prevent = ordering refl (λ u m p t l. refl)
 seen ReadCapacity = ordering refl (λ u m p t l. refl)
@@ -69,11 +87,12 @@ seen PauseResume = ordering refl (λ u m p t l. refl)
 seen ReadSubChannel = ordering refl (λ u m p t l. refl)
 seen ModeSense = ordering refl (λ u m p t l. refl)
 seen ModeSelect = ordering refl (λ u m p t l. refl)
+seen GetEvent = freeing getEvent-free
 seen Unknown = ordering refl (λ u m p t l. refl)
 
 abbrev pub kindOf : {c : Command} → Seen c → List ℕ → Result Deck → Kind Deck
 kindOf asking p r = asks (byte p 4)
-kindOf freeing p r = frees r
+kindOf (freeing f) p r = frees r
 kindOf (ordering n g) p r = orders r
 
 -- what the packet comes to
@@ -82,25 +101,24 @@ kind p m t l = kindOf (seen (decode (codeOf p))) p (perform (decode (codeOf p)) 
 
 kind-steps : {c : Command} (s : Seen c) (u : Unit) (m : Deck) (p t l : List ℕ) → steps c u m p t l ≡ reply (kindOf s p (perform c p m t l)) u m
 kind-steps asking u m p t l = refl
-kind-steps freeing u m p t l = refl
+kind-steps (freeing f) u m p t l = f .passes u m p t l
 kind-steps (ordering n g) u m p t l = g u m p t l
 
 kind-request : {c : Command} (s : Seen c) (p : List ℕ) (r : Result Deck) → isAsking (kindOf s p r) ≡ isRequest c
 kind-request asking p r = refl
-kind-request freeing p r = refl
+kind-request (freeing f) p r = sym (f .other)
 kind-request (ordering n g) p r = sym n
 
 kind-needs : {c : Command} (s : Seen c) (p : List ℕ) (r : Result Deck) → needsDisc c p ≡ true → kindOf s p r ≡ orders r
 kind-needs asking p r h = absurd (false≢true h)
-kind-needs freeing p r h = absurd (false≢true h)
+kind-needs (freeing f) p r h = absurd (false≢true (sym (f .needs p) ∙ h))
 kind-needs (ordering n g) p r h = refl
 
 -- while an attention is pending neither the lent table nor the parameter list is looked at
 kind-blind : {c : Command} (s : Seen c) (u : Unit) (m : Deck) (p t t′ l l′ : List ℕ) → anyPending u ≡ true
     → reply (kindOf s p (perform c p m t l)) u m ≡ reply (kindOf s p (perform c p m t′ l′)) u m
-unfolding perform _and_ if_then_else_
 kind-blind asking u m p t t′ l l′ a = refl
-kind-blind freeing u m p t t′ l l′ a = refl
+kind-blind (freeing f) u m p t t′ l l′ a = ap (pass u m) (f .blind p m t t′ l l′)
 kind-blind (ordering n g) u m p t t′ l l′ a = gate-blind u m _ _ a
 
 pub steps-blind : (c : Command) (u : Unit) (m : Deck) (p t t′ l l′ : List ℕ) → anyPending u ≡ true → steps c u m p t l ≡ steps c u m p t′ l′
@@ -191,6 +209,9 @@ work-fair ReadSubChannel p m t l = answering-fair _ m _ _ _ (closed-still m)
 work-fair ModeSense p m t l = modeSense-ways (Fair m) (lengthIn p) m (byte p 2) (λ f. closed-still m) (λ g. closed-still m)
 work-fair ModeSelect p m t l =
     modeSelect-ways (Fair m) (lengthIn p) l m (closed-still m) (closed-still m) (λ h. closed-still m) (closed-still m)
+work-fair GetEvent p m t l =
+    getEvent-ways (Fair m) (lengthIn p) m (byte p 1) (byte p 4) (closed-still m)
+    (λ full h. either (λ (k : Deck). closed m k ≡ false) (isTelling full (lengthIn p)) (λ k. closed-still m) (λ k. closed-still m))
 work-fair Unknown p m t l = closed-still m
 
 perform-fair : (c : Command) (p : List ℕ) (m : Deck) (t l : List ℕ) → Fair m (perform c p m t l)
@@ -199,7 +220,7 @@ perform-fair c p m t l = either (Fair m) _ (λ h. closed-still m) (λ h. work-fa
 
 kind-fair : {c : Command} (s : Seen c) (p : List ℕ) (m : Deck) (t l : List ℕ) → Honest closed m (kindOf s p (perform c p m t l))
 kind-fair asking p m t l = closed-still m
-kind-fair freeing p m t l = (perform-fair Inquiry p m t l, closed-still m)
+kind-fair (freeing {c} f) p m t l = (perform-fair c p m t l, closed-still m)
 kind-fair (ordering {c} n g) p m t l = (perform-fair c p m t l, closed-still m)
 
 pub packet-fair : (p : List ℕ) (m : Deck) (t l : List ℕ) → Honest closed m (kind p m t l)
@@ -214,7 +235,8 @@ decode-request n =
     either P _ (λ h. at 0x00 h) (λ h. either P _ (λ h. h) (λ h₃. either P _ (λ h. h₃) (λ h.
     either P _ (λ h. h₃) (λ h. either P _ (λ h. h₃) (λ h. either P _ (λ h. h₃) (λ h. either P _ (λ h. h₃) (λ h.
     either P _ (λ h. h₃) (λ h. either P _ (λ h. h₃) (λ h. either P _ (λ h. h₃) (λ h. either P _ (λ h. h₃) (λ h.
-    either P _ (λ h. h₃) (λ h. either P _ (λ h. h₃) (λ h. either P _ (λ h. h₃) (λ h. either P _ (λ h. h₃) (λ h. h₃)))))))))))))))
+    either P _ (λ h. h₃) (λ h. either P _ (λ h. h₃) (λ h. either P _ (λ h. h₃) (λ h. either P _ (λ h. h₃) (λ h.
+    either P _ (λ h. h₃) (λ h. h₃))))))))))))))))
   where
     P : Command → Type 0
     P c = eqb n 0x03 ≡ isRequest c
@@ -234,7 +256,7 @@ decode-needs n b p e =
     either P _ (λ h. rw (eqb-true n _ h)) (λ h28. either P _ (λ h. rw (eqb-true n _ h)) (λ h2B. either P _ (λ h. rw (eqb-true n _ h)) (λ h43.
     either P _ (λ h. rw (eqb-true n _ h)) (λ hA8. either P _ (λ h. rw (eqb-true n _ h)) (λ h45. either P _ (λ h. rw (eqb-true n _ h)) (λ h4B.
     either P _ (λ h. rw (eqb-true n _ h)) (λ h42. either P _ (λ h. rw (eqb-true n _ h)) (λ h5A. either P _ (λ h. rw (eqb-true n _ h)) (λ h55.
-    rw (h0, h1B, h25, h28, h2B, h43, hA8, h45, h4B, h42))))))))))))))))
+    either P _ (λ h. rw (eqb-true n _ h)) (λ h4A. rw (h0, h1B, h25, h28, h2B, h43, hA8, h45, h4B, h42)))))))))))))))))
   where
     P : Command → Type 0
     P c = eqb n 0x00 or eqb n 0x25 or eqb n 0x28 or eqb n 0x2B or eqb n 0x43 or eqb n 0xA8 or eqb n 0x45 or eqb n 0x4B or eqb n 0x42 or eqb n 0x1B and b ≡ needsDisc c p

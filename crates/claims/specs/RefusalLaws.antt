@@ -9,14 +9,14 @@ use native.Mathlib.Decide.{decLe}
 use borrow.Author.Tests.{eq-eqb, ne-eqb, le-leb, le-ltb, lt-ltb}
 use lib.ListN.{length}
 use lib.Dec.{eqb, ltb, leb, eqb·suc-zero}
-use Rattle.ground.specs.Tests.{_and_, _or_, if_then_else_, and-tail, and-both, and-assoc}
+use Rattle.ground.specs.Tests.{_and_, _or_, if_then_else_, unless, either, and-tail, and-both, and-assoc}
 use Rattle.ground.specs.Memory.{fill-none}
 use Rattle.drive.specs.declared.state.Unit.{Unit}
 use Rattle.drive.specs.declared.state.Deck.{Deck}
 use Rattle.drive.specs.declared.state.Drive.{Drive}
 use Rattle.drive.specs.declared.state.Moved.{Moved}
 use Rattle.drive.specs.declared.sense.Sense.{Sense}
-use Rattle.drive.specs.State.{isKnownState, isLoaded, button, lay, lift, moveOn}
+use Rattle.drive.specs.State.{locked, pressed, isKnownState, isLoaded, noting, button, lay, lift, moveOn}
 use Rattle.drive.specs.StateLaws.{button-unknown, button-closes, button-locked, button-opens, button-refused, lay-unknown, lay-closed, lay-full, lay-lays, lay-refused, lift-unknown, lift-closed, lift-empty, lift-lifts, lift-refused, moveOn-unknown, moveOn-moves, moveOn-refused}
 use Rattle.table.specs.Layout.{bound, lastSession}
 use Rattle.disc.specs.Rules.{fault, isFit}
@@ -31,7 +31,7 @@ use Rattle.outcome.specs.Outcome.{stateOf}
 use Rattle.target.specs.Packet.{refusalOf, answer as replyTo}
 use Rattle.claims.specs.Telling.{Attention, Answer, answerOf, tellsTo}
 use Rattle.claims.specs.UnitLaws.{Kind, asks, frees, orders, reply, meets, only-none}
-use Rattle.claims.specs.Call.{Call, powering, pressing, laying, lifting, movingOn, packet, memoryOf, answer, next, event, isPowering, closed, isLoading, causes, isRequestSense, tells}
+use Rattle.claims.specs.Call.{Call, powering, pressing, laying, lifting, movingOn, packet, memoryOf, answer, next, event, isPowering, isPressing, closed, isLoading, causes, isRequestSense, tells}
 use Rattle.claims.specs.PacketLaws.{closed-still, kind, ruleOf, reply-kind}
 use Rattle.claims.specs.DriveDevice.{causes-only}
 
@@ -75,8 +75,13 @@ meets-unchanged : (j rule : ℕ) (k : Kind Deck) (d : Drive) (m : List ℕ) → 
 meets-unchanged zero rule k d m n = absurd (n (reply-numbered k (d .unit) (d .deck) .0))
 meets-unchanged (suc j) rule k d m n = (refl, ap (λ (l : List ℕ). refusing (suc j) rule l) (fill-none m))
 
+-- what a refused call leaves of the state: a press under refusal 5 changes the event
+abbrev leaves : Call → Drive → Drive
+leaves c d = if isPressing c and eqb (answer c d .number) locked then noting d pressed else d
+
 pub call-unchanged : (c : Call) (d : Drive) → (answer c d .number ≡ 0 → ⊥)
-    → (next c d ≡ d) × (answer c d ≡ refusing (answer c d .number) (answer c d .rule) (memoryOf c))
+    → (next c d ≡ leaves c d) × (answer c d ≡ refusing (answer c d .number) (answer c d .rule) (memoryOf c))
+unfolding _and_ if_then_else_
 call-unchanged (powering f) d n = absurd (n refl)
 call-unchanged pressing d n = (button-refused d n, refl)
 call-unchanged laying d n = (lay-refused d n, refl)
@@ -93,14 +98,15 @@ unfolding _and_ _or_
 refused-untold k true old new a h = rw h
 refused-untold k false old new a h = rw h
 
-refused-unloaded : (c : Call) (d : Drive) → next c d ≡ d → isLoading (event c d) ≡ false
+refused-unloaded : (c : Call) (d : Drive) → next c d ≡ leaves c d → isLoading (event c d) ≡ false
 unfolding _and_
 refused-unloaded (powering f) d h = refl
-refused-unloaded pressing d h = rw h (closed-still (d .deck))
+refused-unloaded pressing d h =
+    rw h (either (λ (e : Drive). closed (d .deck) (e .deck) ≡ false) (eqb (button d .number) locked) (λ k. closed-still (d .deck)) (λ k. closed-still (d .deck)))
 refused-unloaded laying d h = refl
 refused-unloaded lifting d h = refl
 refused-unloaded (movingOn k) d h = refl
-refused-unloaded (packet p t l m) d h = ap (λ (e : Drive). closed (d .deck) (e .deck)) h ∙ closed-still (d .deck)
+refused-unloaded (packet p t l m) d h = ap (λ (e : Drive). closed (d .deck) (e .deck)) (h ∙ unless false _ _ refl) ∙ closed-still (d .deck)
 
 refused-on : (c : Call) (d : Drive) → (answer c d .number ≡ 0 → ⊥) → isPowering c ≡ false
 refused-on (powering f) d n = absurd (n refl)

@@ -1,4 +1,5 @@
--- "Unfit ones are refused by number; a refused call leaves state and memory as they were." Each number "given exactly when";
+-- "Unfit ones are refused by number; a refused call leaves state and memory as they were." K7: "A press under refusal 5 now changes that event
+-- only, the one exception to demand 1." Each number "given exactly when";
 -- K6: "Refusal 4 carries that number to every caller", the first broken rule.
 use mathlib.Core.Path.{_≡_, refl}
 use mathlib.Core.Bool.{Bool, true, false, not}
@@ -7,7 +8,7 @@ use Prim.Native.Nat.{ℕ, _+_, _*_, _≤_}
 use native.Mathlib.Omega.{arith}
 use lib.ListN.{length}
 use lib.Dec.{eqb, ltb, leb}
-use Rattle.ground.specs.Tests.{_and_, _or_}
+use Rattle.ground.specs.Tests.{_and_, _or_, if_then_else_}
 use Rattle.address.specs.Address.{toMsf, toBlock, isMsf}
 use Rattle.drive.specs.declared.state.Drive.{Drive}
 use Rattle.drive.specs.Sense.{triple, senseAt, isKnown}
@@ -20,12 +21,31 @@ use Rattle.sessions.specs.Session.{inOrder}
 use Rattle.disc.specs.Rules.{rule1, rule2, eachRow, rule7, isFit}
 use Rattle.disc.specs.RulesLaws.{fault-first}
 use Rattle.disc.specs.Part.{partRefused}
-use Rattle.claims.specs.Call.{byDefault, withoutChange, Call, powering, pressing, laying, lifting, movingOn, packet, memoryOf, answer, next}
+use Rattle.claims.specs.Call.{isPressing, byDefault, withoutChange, Call, powering, pressing, laying, lifting, movingOn, packet, memoryOf, answer, next}
 use Rattle.claims.specs.RefusalLaws.{call-unchanged, call-beside, reply-ordered, reply-broken, press-tested, press-locked, lay-tested, lift-tested, move-tested, part-parted, part-beside, part-broken, toMsf-number, toBlock-number}
 
--- a call with a number other than 0 leaves the state as it was, and answers "status 0, 0 bytes, start 0, count 0" with the memory as it was
+-- K7: "A press under refusal 5"
+abbrev isRefusedPress : Call → Drive → Bool
+isRefusedPress c d = isPressing c and eqb (answer c d .number) 5
+
+-- K7: it "changes that event only", to 1, "button pressed on a locked closed tray"
+abbrev pressedOn : Drive → Drive
+pressedOn d = record {
+  unit = d .unit;
+  deck = record {
+    «tray_open» = d .deck .«tray_open»;
+    «disc_in» = d .deck .«disc_in»;
+    lock = d .deck .lock;
+    play = d .deck .play;
+    page = d .deck .page;
+    event = 1;
+  };
+}
+
+-- a call with a number other than 0 leaves the state as it was, with this one exception, that a press under refusal 5 changes the event only;
+-- and it answers "status 0, 0 bytes, start 0, count 0" with the memory as it was
 pub refused-unchanged : (c : Call) (d : Drive) → (answer c d .number ≡ 0 → ⊥)
-    → (next c d ≡ d)
+    → (next c d ≡ (if isRefusedPress c d then pressedOn d else d))
     × (answer c d ≡ record {
       number = answer c d .number;
       rule = answer c d .rule;
@@ -83,7 +103,7 @@ module _ (d : Drive) where
   refused-rule c = let b = call-beside c d in (b .one, b .none)
 
   -- ---- 2: "held sense is none of the ten below"; K2: "2 also covers another status, a position past its end, or an end over 449,849"; K4:
-  -- "refusal 2 admits these triples, and covers a recovery byte outside the twenty"
+  -- "refusal 2 admits these triples, and covers a recovery byte outside the twenty"; K7: "2 also covers an event over 3"
 
   -- none of that holds of the state
   abbrev isState : Bool
@@ -109,7 +129,11 @@ module _ (d : Drive) where
   abbrev isOfTwenty : Bool
   isOfTwenty = among settings (d .deck .page .recovery)
 
-  pub refused-2-state : isState ≡ isOfThirteen and (isOfFour and isWithin) and isOfTwenty
+  -- the event is not over 3
+  abbrev isUpToThree : Bool
+  isUpToThree = leb (d .deck .event) 3
+
+  pub refused-2-state : isState ≡ isOfThirteen and (isOfFour and isWithin) and isOfTwenty and isUpToThree
   unfolding isKnownState isPlay isStatus isSetting
   refused-2-state = refl
 
@@ -175,8 +199,8 @@ module _ (d : Drive) where
   -- ---- power-on
 
   -- "Power-on .. keeps the handed state's tray and disc and is never refused: lock off, sense 00/00/00, power attention pending"; K2:
-  -- "Power-on .. set 15h, position 0 and end 0"; K4: "Power-on restores defaults", 0 and 0: of every state, also one that refusal 2 meets. It
-  -- hands back the state alone, and no number.
+  -- "Power-on .. set 15h, position 0 and end 0"; K4: "Power-on restores defaults", 0 and 0; K7: "power-on clears it", the event: of every
+  -- state, also one that refusal 2 meets. It hands back the state alone, and no number.
   abbrev restarted : Bool → Drive
   restarted change = record {
     unit = record { power = true; change = change; sense = triple 0x00 0x00 0x00 };
@@ -186,6 +210,7 @@ module _ (d : Drive) where
       lock = false;
       play = record { status = 0x15; position = 0; end = 0 };
       page = record { recovery = 0x00; retry = 0x00 };
+      event = 0;
     };
   }
 

@@ -34,6 +34,7 @@ use Rattle.tracks.specs.Track.{trackOf}
 use Rattle.audio.specs.SubChannel.{subAskIn}
 use Rattle.audio.specs.SubChannelLaws.{subBytes-length}
 use Rattle.mode.specs.ModeSenseLaws.{modeSense-ways}
+use Rattle.event.specs.AnswerLaws.{getEvent-ways}
 use Rattle.target.specs.ReadToc.{formatIn, msfIn, numberIn}
 use Rattle.target.specs.Perform.{L, work, perform}
 use Rattle.target.specs.PerformLaws.{fullOf, startStop-quiet, seek-quiet, ranged-quiet, pauseResume-quiet, modeSelect-quiet}
@@ -92,6 +93,8 @@ work-bounded ReadSubChannel p m t l s =
     answering-bounded _ _ _ _ (omega arith)
 work-bounded ModeSense p m t l s = modeSense-ways Bounded (lengthIn p) m (byte p 2) (λ f. omega arith) (λ g. omega arith)
 work-bounded ModeSelect p m t l s = rw (modeSelect-quiet (lengthIn p) l m) (omega arith)
+work-bounded GetEvent p m t l s =
+    getEvent-ways Bounded (lengthIn p) m (byte p 1) (byte p 4) (omega arith) (λ full h. let k = h in omega arith)
 work-bounded Unknown p m t l s = omega arith
 
 perform-bounded : (c : Command) (p : List ℕ) (m : Deck) (t l : List ℕ) → (isLoaded m ≡ true → Short t) → Bounded (perform c p m t l)
