@@ -112,13 +112,13 @@ abbrev pub isPowerOn : Happening → Bool
 isPowerOn e = isPowering (e .call)
 
 -- "by button or packet"
-abbrev pub closes : Call → Bool
-closes (powering f) = false
-closes pressing = true
-closes laying = false
-closes lifting = false
-closes (movingOn k) = false
-closes (packet p t l m) = true
+abbrev pub movesTray : Call → Bool
+movesTray (powering f) = false
+movesTray pressing = true
+movesTray laying = false
+movesTray lifting = false
+movesTray (movingOn k) = false
+movesTray (packet p t l m) = true
 
 -- the tray was open and is closed, with a disc in
 abbrev pub closed : Deck → Deck → Bool
@@ -126,7 +126,7 @@ closed m n = m .«tray_open» and not (n .«tray_open») and n .«disc_in»
 
 -- "Loading is any closing of the tray, by button or packet, with a disc in"
 abbrev pub isLoading : Happening → Bool
-isLoading e = closes (e .call) and closed (e .old .deck) (e .new .deck)
+isLoading e = movesTray (e .call) and closed (e .old .deck) (e .new .deck)
 
 -- K3: power-on in the form "by default"
 abbrev pub greets : Call → Bool

@@ -18,7 +18,8 @@ use Rattle.claims.specs.Telling.{Attention, power, change, Answer, answe
 use Rattle.claims.specs.UnitLaws.{Turn, only, or-none, only-none, unmoved, attended, meets-turn, orders-blocks, any-pending}
 use Rattle.claims.specs.Call.{Form, byDefault, withoutChange, Call, powering, pressing, laying, lifting, movingOn, packet, answer, next, event, isPending, isAttending, isPowering, isPowerOn, closed, isLoading, isCause, causes, tells, isNeeding, isSuccess, Alike, same, lists, tables, lend, left}
 use Rattle.claims.specs.PacketLaws.{kind, ruleOf, reply-kind, closed-still, packet-fair, packet-request, packet-orders, packet-blind, packet-unlisted}
-use Rattle.claims.specs.Device.{Device, or-cases, cause-lives}
+use Rattle.claims.specs.Stands.{or-cases}
+use Rattle.claims.specs.Device.{Device, cause-lives}
 
 -- ---- how a call turns an attention
 

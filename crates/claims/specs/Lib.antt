@@ -6,9 +6,11 @@ pub mod Refused
 pub mod Whole
 pub mod Known
 pub mod Listed
+pub mod Waiting
 pub mod Marked
 pub mod Played
 pub mod Paged
+pub mod Polled
 pub mod Addresses
 pub mod Block
 pub mod Unique
@@ -17,9 +19,11 @@ pub mod Served
 pub mod Call
 pub mod Telling
 pub mod History
+pub mod MediaEvent
 pub mod Stepped
 -- their proofs: over any device, over any deck, for the drive
 pub mod Runs
+pub mod Stands
 pub mod Device
 pub mod Carried
 pub mod UnitLaws
@@ -29,4 +33,5 @@ pub mod RefusalLaws
 pub mod WholeLaws
 pub mod KnownLaws
 pub mod ListedLaws
+pub mod WaitingLaws
 pub mod AddressLaws

@@ -9,20 +9,26 @@ use Rattle.ground.specs.Tests.{_and_, _or_, if_then_else_, when, unless, either
 use Rattle.drive.specs.declared.state.Unit.{Unit}
 use Rattle.drive.specs.declared.state.Deck.{Deck}
 use Rattle.drive.specs.declared.state.Drive.{Drive}
+use Rattle.play.specs.declared.Play.{Play}
+use Rattle.page.specs.declared.Page.{Page}
+use Rattle.drive.specs.State.{noEvent, opening, closing, withLock, withPlay, withPage, withEvent}
 use Rattle.disc.specs.Rules.{isFit}
 use Rattle.disc.specs.Part.{unfit, ruleWith}
-use Rattle.gate.specs.Gate.{Result, refuse, gate, pass}
+use Rattle.gate.specs.declared.fault.Fault.{Fault}
+use Rattle.gate.specs.Gate.{Result, fails, goes, refuse, gate, pass}
 use Rattle.command.specs.declared.decode.Command.{Command}
 use Rattle.command.specs.declared.decode.Command.the-variants.{TestUnitReady, RequestSense, Inquiry, StartStop, Prevent, ReadCapacity, Read10, Seek, ReadToc, Read12, PlayAudio, PauseResume, ReadSubChannel, ModeSense, ModeSelect, GetEvent, Unknown}
-use Rattle.command.specs.Command.{decode, byte, codeOf, lengthIn, needsDisc, loEj, start}
-use Rattle.command.specs.Tray.{eject, load, startStop}
-use Rattle.command.specs.Done.{answering}
+use Rattle.command.specs.Command.{decode, byte, bit0, codeOf, lengthIn, needsDisc, loEj, start}
+use Rattle.command.specs.Class.{classOf}
+use Rattle.command.specs.Tray.{moving, eject, load, startStop}
+use Rattle.command.specs.Done.{done, answering}
 use Rattle.blocks.specs.Range.{ranged}
 use Rattle.blocks.specs.Blocks.{seek}
 use Rattle.audio.specs.Audio.{started, pauseResume}
+use Rattle.mode.specs.ModeSense.{modeBytes}
 use Rattle.mode.specs.ModeSenseLaws.{modeSense-ways}
 use Rattle.mode.specs.ModeSelectLaws.{modeSelect-ways}
-use Rattle.event.specs.Answer.{isTelling}
+use Rattle.event.specs.Answer.{isTelling, getEvent}
 use Rattle.event.specs.AnswerLaws.{getEvent-ways}
 use Rattle.target.specs.Perform.{work, perform}
 use Rattle.target.specs.Packet.{steps, refusalOf, answer as replyTo}
@@ -146,7 +152,7 @@ reply-kind d p t l n = by-number (refusalOf d p t n)
     by-number zero = when _ _ _ refl ∙ stepsOf-kind d p t l
     by-number (suc j) = unless _ _ _ (eqb·suc-zero j)
 
--- ---- no command but a closing is a loading
+-- ---- what each command does to tray, disc and event
 
 pub closed-still : (m : Deck) → closed m m ≡ false
 unfolding _and_
@@ -156,72 +162,136 @@ closed-still m = go (m .«tray_open») _
     go true c = refl
     go false c = refl
 
+-- the deck n has the tray, the disc and the event of m
+pub record Still (m n : Deck) : Type 0 where
+  pub tray : n .«tray_open» ≡ m .«tray_open»
+  pub disc : n .«disc_in» ≡ m .«disc_in»
+  pub event : n .event ≡ m .event
+
+still : (m : Deck) → Still m m
+still m = record { tray = refl; disc = refl; event = refl }
+
+-- a result of a command on the deck m, where `polls` says that it is 4Ah: it fails, keeps all three, moves the tray, or clears the event
+pub data Tells (polls : Bool) (m : Deck) : Result Deck → Type 0 where
+  failing : {f : Fault} → Tells polls m (fails f)
+  keeping : {n : Deck} {full : List ℕ} {limit start count : ℕ} → Still m n → polls and isTelling full limit ≡ false
+      → Tells polls m (goes n false full limit start count)
+  closing-it : m .«tray_open» ≡ true → Tells polls m (moving (closing m))
+  opening-it : m .«tray_open» ≡ false → Tells polls m (moving (opening m))
+  clearing : {full : List ℕ} {limit : ℕ} → polls and isTelling full limit ≡ true → Tells polls m (goes (withEvent m noEvent) false full limit 0 0)
+
+-- any command but 4Ah
+module _ (m : Deck) where
+  abbrev Other : Result Deck → Type 0
+  Other r = Tells false m r
+
+  kept : (n : Deck) {full : List ℕ} {limit start count : ℕ} → Still m n → Other (goes n false full limit start count)
+  unfolding _and_
+  kept n s = keeping s refl
+
+  stays : Other (done m)
+  stays = kept m (still m)
+
+  -- another lock, play record or page
+  relocked : (b : Bool) → Still m (withLock m b)
+  relocked b = record { tray = refl; disc = refl; event = refl }
+
+  replayed : (r : Play) → Still m (withPlay m r)
+  replayed r = record { tray = refl; disc = refl; event = refl }
+
+  repaged : (g : Page) → Still m (withPage m g)
+  repaged g = record { tray = refl; disc = refl; event = refl }
+
+  load-tells : Other (load m)
+  unfolding load
+  load-tells = either Other _ (λ h. closing-it h) (λ h. stays)
+
+  eject-tells : Other (eject m)
+  unfolding eject
+  eject-tells = either Other _ (λ h. stays) (λ h. either Other _ (λ k. failing) (λ k. opening-it h))
+
+  startStop-tells : (b : ℕ) → Other (startStop b m)
+  unfolding startStop
+  startStop-tells b = either Other _ (λ h. either Other _ (λ k. load-tells) (λ k. eject-tells)) (λ h. stays)
+
+  answering-tells : (bad : Bool) (n : Deck) (full : List ℕ) (limit : ℕ) → Still m n → Other (answering bad n full limit)
+  unfolding answering
+  answering-tells bad n full limit s = either Other bad (λ h. failing) (λ h. kept n s)
+
+  ranged-tells : (all : Bool) (a n l : ℕ) (r : Result Deck) → Other r → Other (ranged all a n l r)
+  unfolding ranged
+  ranged-tells all a n l r f = either Other _ (λ h. either Other all (λ k. f) (λ k. failing)) (λ h. failing)
+
+  seek-tells : (a l : ℕ) → Other (seek a l m)
+  unfolding seek
+  seek-tells a l = either Other _ (λ h. failing) (λ h. kept _ (replayed _))
+
+  started-still : (a n : ℕ) → Still m (started a n m)
+  unfolding started
+  started-still a n = either (Still m) _ (λ h. still m) (λ h. replayed _)
+
+  pauseResume-tells : (resume : Bool) → Other (pauseResume resume m)
+  unfolding pauseResume
+  pauseResume-tells resume = either Other _ (λ h. failing) (λ h. kept _ (replayed _))
+
+  getEvent-tells : (b1 asked limit : ℕ) → Tells true m (getEvent b1 asked limit m)
+  unfolding _and_
+  getEvent-tells b1 asked limit = getEvent-ways (Tells true m) limit m b1 asked failing (λ full h. by-telling full (isTelling full limit) refl)
+    where
+      by-telling : (full : List ℕ) (b : Bool) → isTelling full limit ≡ b → Tells true m (goes (if isTelling full limit then withEvent m noEvent else m) false full limit 0 0)
+      by-telling full true h = rw (when {A = Deck} _ (withEvent m noEvent) m h) (clearing h)
+      by-telling full false h = rw (unless {A = Deck} _ (withEvent m noEvent) m h) (keeping (still m) h)
+
+-- the command is 4Ah
+abbrev pub isPolling : Command → Bool
+isPolling c = eqb (classOf c) 16
+
+work-tells : (c : Command) (p : List ℕ) (m : Deck) (t l : List ℕ) → Tells (isPolling c) m (work c p m t l)
+unfolding classOf
+work-tells TestUnitReady p m t l = stays m
+work-tells RequestSense p m t l = stays m
+work-tells Inquiry p m t l = answering-tells m _ m _ _ (still m)
+work-tells StartStop p m t l = startStop-tells m (byte p 4)
+work-tells Prevent p m t l = kept m _ (relocked m (bit0 (byte p 4)))
+work-tells ReadCapacity p m t l = answering-tells m _ m _ _ (still m)
+work-tells Read10 p m t l = ranged-tells m _ _ _ _ _ (kept m _ (replayed m _))
+work-tells Seek p m t l = seek-tells m _ _
+work-tells ReadToc p m t l = answering-tells m _ m _ _ (still m)
+work-tells Read12 p m t l = ranged-tells m _ _ _ _ _ (kept m _ (replayed m _))
+work-tells PlayAudio p m t l = ranged-tells m _ _ _ _ _ (kept m _ (started-still m _ _))
+work-tells PauseResume p m t l = pauseResume-tells m _
+work-tells ReadSubChannel p m t l = answering-tells m _ _ _ _ (replayed m _)
+work-tells ModeSense p m t l = modeSense-ways (Other m) (lengthIn p) m (byte p 2) (λ f. failing) (λ g. stays′ g)
+  where
+    stays′ : (g : Page) → Other m (goes m false (modeBytes g) (lengthIn p) 0 0)
+    stays′ g = kept m m (still m)
+work-tells ModeSelect p m t l =
+    modeSelect-ways (Other m) (lengthIn p) l m failing (stays m) (λ h. kept m _ (repaged m _)) failing
+work-tells GetEvent p m t l = getEvent-tells m (byte p 1) (byte p 4) (lengthIn p)
+work-tells Unknown p m t l = failing
+
+pub perform-tells : (c : Command) (p : List ℕ) (m : Deck) (t l : List ℕ) → Tells (isPolling c) m (perform c p m t l)
+unfolding perform
+perform-tells c p m t l = either (Tells (isPolling c) m) _ (λ h. failing) (λ h. work-tells c p m t l)
+
+-- ---- no command but a closing is a loading
+
 -- the result moves the tray only as it says
 abbrev Fair : Deck → Result Deck → Type 0
 Fair m r = closed m (nextOf m r) ≡ loadingOf r
 
-load-fair : (m : Deck) → Fair m (load m)
-unfolding load _and_
-load-fair m = either (Fair m) _ (λ h. rw h) (λ h. closed-still m)
-
-eject-fair : (m : Deck) → Fair m (eject m)
-unfolding eject _and_
-eject-fair m = either (Fair m) _ (λ h. closed-still m) (λ h. either (Fair m) _ (λ k. closed-still m) (λ k. rw h))
-
-startStop-fair : (b : ℕ) (m : Deck) → Fair m (startStop b m)
-unfolding startStop
-startStop-fair b m = either (Fair m) _ (λ h. either (Fair m) _ (λ k. load-fair m) (λ k. eject-fair m)) (λ h. closed-still m)
-
-answering-fair : (bad : Bool) (m next : Deck) (full : List ℕ) (limit : ℕ) → closed m next ≡ false → Fair m (answering bad next full limit)
-unfolding answering
-answering-fair bad m next full limit c = either (Fair m) bad (λ h. closed-still m) (λ h. c)
-
-ranged-fair : (all : Bool) (a n l : ℕ) (m : Deck) (r : Result Deck) → Fair m r → Fair m (ranged all a n l r)
-unfolding ranged
-ranged-fair all a n l m r f = either (Fair m) _ (λ h. either (Fair m) all (λ k. f) (λ k. closed-still m)) (λ h. closed-still m)
-
-seek-fair : (a l : ℕ) (m : Deck) → Fair m (seek a l m)
-unfolding seek
-seek-fair a l m = either (Fair m) _ (λ h. closed-still m) (λ h. closed-still m)
-
-started-fair : (a n : ℕ) (m : Deck) → closed m (started a n m) ≡ false
-unfolding started
-started-fair a n m = either (λ (k : Deck). closed m k ≡ false) _ (λ h. closed-still m) (λ h. closed-still m)
-
-pauseResume-fair : (resume : Bool) (m : Deck) → Fair m (pauseResume resume m)
-unfolding pauseResume
-pauseResume-fair resume m = either (Fair m) _ (λ h. closed-still m) (λ h. closed-still m)
-
-work-fair : (c : Command) (p : List ℕ) (m : Deck) (t l : List ℕ) → Fair m (work c p m t l)
-work-fair TestUnitReady p m t l = closed-still m
-work-fair RequestSense p m t l = closed-still m
-work-fair Inquiry p m t l = answering-fair _ m m _ _ (closed-still m)
-work-fair StartStop p m t l = startStop-fair (byte p 4) m
-work-fair Prevent p m t l = closed-still m
-work-fair ReadCapacity p m t l = answering-fair _ m m _ _ (closed-still m)
-work-fair Read10 p m t l = ranged-fair _ _ _ _ m _ (closed-still m)
-work-fair Seek p m t l = seek-fair _ _ m
-work-fair ReadToc p m t l = answering-fair _ m m _ _ (closed-still m)
-work-fair Read12 p m t l = ranged-fair _ _ _ _ m _ (closed-still m)
-work-fair PlayAudio p m t l = ranged-fair _ _ _ _ m _ (started-fair _ _ m)
-work-fair PauseResume p m t l = pauseResume-fair _ m
-work-fair ReadSubChannel p m t l = answering-fair _ m _ _ _ (closed-still m)
-work-fair ModeSense p m t l = modeSense-ways (Fair m) (lengthIn p) m (byte p 2) (λ f. closed-still m) (λ g. closed-still m)
-work-fair ModeSelect p m t l =
-    modeSelect-ways (Fair m) (lengthIn p) l m (closed-still m) (closed-still m) (λ h. closed-still m) (closed-still m)
-work-fair GetEvent p m t l =
-    getEvent-ways (Fair m) (lengthIn p) m (byte p 1) (byte p 4) (closed-still m)
-    (λ full h. either (λ (k : Deck). closed m k ≡ false) (isTelling full (lengthIn p)) (λ k. closed-still m) (λ k. closed-still m))
-work-fair Unknown p m t l = closed-still m
-
-perform-fair : (c : Command) (p : List ℕ) (m : Deck) (t l : List ℕ) → Fair m (perform c p m t l)
-unfolding perform
-perform-fair c p m t l = either (Fair m) _ (λ h. closed-still m) (λ h. work-fair c p m t l)
+tells-fair : {polls : Bool} {m : Deck} {r : Result Deck} → Tells polls m r → Fair m r
+unfolding _and_
+tells-fair {m = m} failing = closed-still m
+tells-fair {m = m} (keeping s b) = rw (s .tray, s .disc) (closed-still m)
+tells-fair (closing-it h) = rw h
+tells-fair (opening-it h) = rw h
+tells-fair {m = m} (clearing b) = closed-still m
 
 kind-fair : {c : Command} (s : Seen c) (p : List ℕ) (m : Deck) (t l : List ℕ) → Honest closed m (kindOf s p (perform c p m t l))
 kind-fair asking p m t l = closed-still m
-kind-fair (freeing {c} f) p m t l = (perform-fair c p m t l, closed-still m)
-kind-fair (ordering {c} n g) p m t l = (perform-fair c p m t l, closed-still m)
+kind-fair (freeing {c} f) p m t l = (tells-fair (perform-tells c p m t l), closed-still m)
+kind-fair (ordering {c} n g) p m t l = (tells-fair (perform-tells c p m t l), closed-still m)
 
 pub packet-fair : (p : List ℕ) (m : Deck) (t l : List ℕ) → Honest closed m (kind p m t l)
 packet-fair p m t l = kind-fair (seen (decode (codeOf p))) p m t l
