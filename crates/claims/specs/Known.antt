@@ -37,11 +37,11 @@ pub known-record : (f : Form) (handed : Drive) (calls : List Call) →
     (isStatus (r .status) ≡ true) × (r .position ≤ r .end) × (r .end ≤ last)
 known-record f handed calls = let s = isKnownState-deck _ (known-always f handed calls) .play in (s .status, s .within, s .most)
 
--- K7's: the event is not over 3
-pub known-event : (f : Form) (handed : Drive) (calls : List Call) → final handed (powering f ∷ calls) .deck .event ≤ 3
-known-event f handed calls = leb-true _ _ (isKnownState-deck _ (known-always f handed calls) .event)
-
 -- K4's: the recovery byte is one of the twenty
 pub known-page : (f : Form) (handed : Drive) (calls : List Call) → among settings (final handed (powering f ∷ calls) .deck .page .recovery) ≡ true
 unfolding isSetting
 known-page f handed calls = isKnownState-deck _ (known-always f handed calls) .page
+
+-- K7's: the event is not over 3
+pub known-event : (f : Form) (handed : Drive) (calls : List Call) → final handed (powering f ∷ calls) .deck .event ≤ 3
+known-event f handed calls = leb-true _ _ (isKnownState-deck _ (known-always f handed calls) .event)

@@ -23,7 +23,7 @@ use Rattle.command.specs.Command.{decode}
 use Rattle.command.specs.Done.{answering}
 use Rattle.command.specs.Tray.{eject, load, startStop}
 use Rattle.event.specs.Class.{waiting, orElse, classFor}
-use Rattle.event.specs.Answer.{mediaStatus, eventOf, statusOf, eventBytes, reported}
+use Rattle.event.specs.Answer.{mediaStatus, eventOf, statusOf, eventBytes, cleared}
 use Rattle.target.specs.Perform.{perform}
 use Rattle.target.specs.Packet.{refusalOf, answer}
 use Rattle.claims.specs.Marked.{loadedE, Outcome, gives, fails, refuses, sameBytes, sameOutcome}
@@ -88,5 +88,5 @@ pollMarks =
     ∷ []
 
 pub polled : allStepped loadedE pollMarks ≡ true
-unfolding allStepped waits after comes sameOutcome sameBytes _and_ _or_ if_then_else_ every isMsf senseAt sameSense among isKnown isStatus isPlay amongBytes isSetting isKnownState powerOn button attend isTrack isExtra startOf names simple free plain headA0 headA1 headed addressed rowTest one size listed numbered isSession starts before follows inPlace inOrder rule1 rule2 eachRow rises outBefore beginsAfter rising rule7 firstBroken lateRules rowRules fault isFit pendingOf gate decode answering load eject startStop trailingZeros waiting orElse classFor mediaStatus eventOf statusOf eventBytes reported perform refusalOf answer
+unfolding allStepped waits after comes sameOutcome sameBytes _and_ _or_ if_then_else_ every isMsf senseAt sameSense among isKnown isStatus isPlay amongBytes isSetting isKnownState powerOn button attend isTrack isExtra startOf names simple free plain headA0 headA1 headed addressed rowTest one size listed numbered isSession starts before follows inPlace inOrder rule1 rule2 eachRow rises outBefore beginsAfter rising rule7 firstBroken lateRules rowRules fault isFit pendingOf gate decode answering load eject startStop trailingZeros waiting orElse classFor mediaStatus eventOf statusOf eventBytes cleared perform refusalOf answer
 polled = refl

@@ -3,7 +3,7 @@
 use mathlib.Core.Path.{_≡_, refl, sym, ap, _∙_}
 use mathlib.Core.Bool.{Bool}
 use mathlib.Core.List.{List}
-use Prim.Native.Nat.{ℕ, _≤_, _<_}
+use Prim.Native.Nat.{ℕ, _≤_, _<_, min}
 use native.Mathlib.Omega.{arith}
 use lib.ListN.{length, take, getD}
 use denote.Ref.{RefT, ptr, now}
@@ -27,7 +27,7 @@ use Rattle.play.specs.Play.{noPlay, withStatus, isPlay, movedOn}
 use Rattle.page.specs.declared.Page.{Page}
 use Rattle.page.specs.Page.{defaults, isSetting}
 use Rattle.drive.specs.Unit.{poweredOn, attend}
-use Rattle.drive.specs.State.{isKnownState, isLoaded, opening, closing, withDisc, withLock, withPlay, withPage, shift, powerOn, powerOnWithoutChange, button, lay, lift, moveOn}
+use Rattle.drive.specs.State.{isKnownState, isLoaded, opening, closing, withDisc, withLock, withPlay, withPage, withEvent, shift, powerOn, powerOnWithoutChange, button, lay, lift, moveOn}
 use Rattle.gate.specs.declared.fault.Fault.{Fault}
 use Rattle.gate.specs.declared.unit.Pending.{Pending}
 use Rattle.gate.specs.declared.unit.Giving.{Giving}
@@ -64,6 +64,8 @@ use Rattle.audio.specs.SubChannel.{subAsk, subBad, positionBytes, statusBytes, 
 use Rattle.mode.specs.declared.mode_sense.Shown.{Shown}
 use Rattle.mode.specs.ModeSense.{pageShown, modeBytes}
 use Rattle.mode.specs.ModeSelect.{modeSelect}
+use Rattle.event.specs.Class.{classFor}
+use Rattle.event.specs.Answer.{classBytes, noneBytes, eventBytes, cleared}
 use Rattle.toc.specs.Answer.{tocBytes, tocBad}
 use Rattle.outcome.specs.declared.Outcome.{Outcome}
 use Rattle.outcome.specs.Outcome.{Answered, refused, checked, granted, finished}
@@ -207,6 +209,9 @@ unique-with-play m a r s = value-once
 
 pub unique-with-page : (m : Deck) (a : Page) (r s : Deck) → r ≡ withPage m a → s ≡ withPage m a → r ≡ s
 unique-with-page m a r s = value-once
+
+pub unique-with-event : (m : Deck) (e : ℕ) (r s : Deck) → r ≡ withEvent m e → s ≡ withEvent m e → r ≡ s
+unique-with-event m e r s = value-once
 
 pub unique-is-known-state : (d : Drive) (r s : Bool) → r ≡ isKnownState d → s ≡ isKnownState d → r ≡ s
 unique-is-known-state d r s = value-once
@@ -455,6 +460,22 @@ unique-mode-bytes a r s = value-once
 pub unique-mode-select : (n : ℕ) (l : List ℕ) (m : Deck) (r s : Done)
     → r ≡ doneOf (modeSelect n l m) → s ≡ doneOf (modeSelect n l m) → r ≡ s
 unique-mode-select n l m r s = value-once
+
+-- ---- event
+
+pub unique-class-for : (asked e r s : ℕ) → r ≡ classFor asked e → s ≡ classFor asked e → r ≡ s
+unique-class-for asked e r s = value-once
+
+pub unique-class-bytes : (class : ℕ) (m : Deck) (r s : List ℕ) → r ≡ classBytes class m → s ≡ classBytes class m → r ≡ s
+unique-class-bytes class m r s = value-once
+
+pub unique-none-bytes : (r s : List ℕ) → r ≡ noneBytes → s ≡ noneBytes → r ≡ s
+unique-none-bytes r s = value-once
+
+pub unique-cleared : (class limit : ℕ) (m r s : Deck)
+    → r ≡ cleared class (min limit (length (eventBytes class m))) m → s ≡ cleared class (min limit (length (eventBytes class m))) m
+    → r ≡ s
+unique-cleared class limit m r s = value-once
 
 -- ---- target
 

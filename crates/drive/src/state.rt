@@ -110,14 +110,14 @@ impl Deck {
         self.disc_in
     }
 
-    // The event after the tray moved: with a disc in that is one.
+    // The event after the tray moved: without a disc it stays.
     fn event_moved(self, event: u8) -> u8
         ensures { λ r. ⌜ r ≡ eventMoved self event ⌝ }
     {
-        if self.disc_in {
-            return event;
+        if !self.disc_in {
+            return self.event;
         }
-        self.event
+        event
     }
 
     // The tray opens, by button or packet: nothing is played, and with a disc in that is an event.

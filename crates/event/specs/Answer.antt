@@ -37,8 +37,8 @@ unfoldable pub eventBytes : ℕ → Deck → List ℕ
 eventBytes class m = if eqb class noClass then noneBytes else classBytes class m
 
 -- "A media answer of at least five bytes clears the event": `given` counts the bytes that are given
-unfoldable pub reported : ℕ → ℕ → Deck → Deck
-reported class given m = if eqb class media and leb 5 given then withEvent m noEvent else m
+unfoldable pub cleared : ℕ → ℕ → Deck → Deck
+cleared class given m = if eqb class media and leb 5 given then withEvent m noEvent else m
 
 -- the same, read off a full answer, `limit` bytes of it being asked for: it shows the class media, and at least five are given
 abbrev pub isTelling : List ℕ → ℕ → Bool
@@ -49,4 +49,4 @@ abbrev pub getEvent : ℕ → ℕ → ℕ → Deck → Result Deck
 getEvent b1 asked limit m =
     let class = classFor asked (m .event) in
     let full = eventBytes class m in
-    answering (not (bit0 b1)) (reported class (min limit (length full)) m) full limit
+    answering (not (bit0 b1)) (cleared class (min limit (length full)) m) full limit

@@ -15,7 +15,7 @@ use Rattle.gate.specs.Gate.{Result, fails, goes}
 use Rattle.command.specs.Command.{byte, bit0}
 use Rattle.command.specs.Done.{answering}
 use Rattle.event.specs.Class.{media, noClass, classFor}
-use Rattle.event.specs.Answer.{classBytes, noneBytes, eventBytes, reported, isTelling, getEvent}
+use Rattle.event.specs.Answer.{classBytes, noneBytes, eventBytes, cleared, isTelling, getEvent}
 
 module _ (class : ℕ) (m : Deck) where
   pub eventBytes-none : class ≡ noClass → eventBytes class m ≡ noneBytes
@@ -35,20 +35,20 @@ module _ (class : ℕ) (m : Deck) where
   eventBytes-media : class ≡ media → length (eventBytes class m) ≡ 8
   eventBytes-media h = ap length (eventBytes-class (λ n. let e : _≡_ {A = ℕ} media noClass = sym h ∙ n in omega arith))
 
-  pub reported-clears : (limit : ℕ) → class ≡ media → 5 ≤ limit → reported class (min limit (length (eventBytes class m))) m ≡ withEvent m noEvent
-  unfolding reported
-  reported-clears limit h l =
+  pub cleared-media : (limit : ℕ) → class ≡ media → 5 ≤ limit → cleared class (min limit (length (eventBytes class m))) m ≡ withEvent m noEvent
+  unfolding cleared
+  cleared-media limit h l =
       let n = eventBytes-media h in
       when _ _ _ (and-both _ _ (eq-eqb _ _ h) (le-leb 5 (min limit (length (eventBytes class m))) (omega arith)))
 
-  pub reported-short : (limit : ℕ) → limit < 5 → reported class (min limit (length (eventBytes class m))) m ≡ m
-  unfolding reported
-  reported-short limit l =
+  pub cleared-short : (limit : ℕ) → limit < 5 → cleared class (min limit (length (eventBytes class m))) m ≡ m
+  unfolding cleared
+  cleared-short limit l =
       unless _ _ _ (sym (and-late (eqb class media) _ (sym (lt-leb 5 (min limit (length (eventBytes class m))) (omega arith)))))
 
-  pub reported-other : (given : ℕ) → (class ≡ media → ⊥) → reported class given m ≡ m
-  unfolding reported
-  reported-other given h = unless _ _ _ (sym (and-off _ _ (ne-eqb _ _ h)))
+  pub cleared-other : (given : ℕ) → (class ≡ media → ⊥) → cleared class given m ≡ m
+  unfolding cleared
+  cleared-other given h = unless _ _ _ (sym (and-off _ _ (ne-eqb _ _ h)))
 
   -- the class that is answered stands in byte 2, and 80h where there is none
   eventBytes-shown : eqb (byte (eventBytes class m) 2) media ≡ eqb class media
@@ -62,10 +62,10 @@ module _ (class : ℕ) (m : Deck) where
       go false h = ap shown (eventBytes-class (eqb-false class noClass h))
 
   -- so the answer tells whether it cleared the event: it shows the class media, and at least five bytes of it are given
-  pub reported-told : (limit : ℕ) → let full = eventBytes class m in
-      reported class (min limit (length full)) m ≡ (if isTelling full limit then withEvent m noEvent else m)
-  unfolding reported
-  reported-told limit = rw eventBytes-shown
+  pub cleared-told : (limit : ℕ) → let full = eventBytes class m in
+      cleared class (min limit (length full)) m ≡ (if isTelling full limit then withEvent m noEvent else m)
+  unfolding cleared
+  cleared-told limit = rw eventBytes-shown
 
 -- ---- each way out
 
@@ -77,4 +77,4 @@ module _ (P : Result Deck → Type 0) (limit : ℕ) (m : Deck) where
   unfolding answering
   getEvent-ways b1 asked f g =
       let class = classFor asked (m .event) in
-      either P (not (bit0 b1)) (λ h. f) (λ h. rw (reported-told class m limit) (g (eventBytes class m) (eventBytes-length class m)))
+      either P (not (bit0 b1)) (λ h. f) (λ h. rw (cleared-told class m limit) (g (eventBytes class m) (eventBytes-length class m)))

@@ -6,7 +6,7 @@ use drive::state::NO_EVENT;
 ghost use mathlib.Core.Path.{_≡_};
 ghost use Prim.Native.Nat.{min};
 ghost use lib.ListN.{length};
-ghost use Rattle.event.specs.Answer.{mediaStatus, eventOf, statusOf, classBytes, noneBytes, eventBytes, reported};
+ghost use Rattle.event.specs.Answer.{mediaStatus, eventOf, statusOf, classBytes, noneBytes, eventBytes, cleared};
 
 // How many bytes of a media answer tell the event.
 const TELLING: usize = 5;
@@ -31,20 +31,20 @@ fn media_status(m: Deck) -> u8
 fn event_of(class: u8, m: Deck) -> u8
     ensures { λ r. ⌜ r ≡ eventOf class m ⌝ }
 {
-    if class == MEDIA {
-        return m.event;
+    if class != MEDIA {
+        return 0;
     }
-    0
+    m.event
 }
 
 // The status that the class reports.
 fn status_of(class: u8, m: Deck) -> u8
     ensures { λ r. ⌜ r ≡ statusOf class m ⌝ }
 {
-    if class == MEDIA {
-        return media_status(m);
+    if class != MEDIA {
+        return 0;
     }
-    0
+    media_status(m)
 }
 
 // The answer of a class.
@@ -71,8 +71,8 @@ pub fn none_bytes() -> [u8; 4]
 }
 
 // The deck after the answer, `limit` bytes being asked for: enough of a media answer clears the event.
-pub fn reported(class: u8, limit: usize, m: Deck) -> Deck
-    ensures { λ r. ⌜ r ≡ reported class (min limit (length (eventBytes class m))) m ⌝ }
+pub fn cleared(class: u8, limit: usize, m: Deck) -> Deck
+    ensures { λ r. ⌜ r ≡ cleared class (min limit (length (eventBytes class m))) m ⌝ }
 {
     if class == MEDIA {
         if limit < TELLING {

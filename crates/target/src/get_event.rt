@@ -4,8 +4,8 @@ use command::done::Done;
 use command::field::bit0;
 use drive::state::Deck;
 use event::answer::class_bytes;
+use event::answer::cleared;
 use event::answer::none_bytes;
-use event::answer::reported;
 use event::class::NO_CLASS;
 use event::class::class_for;
 use ground::number::word16;
@@ -25,7 +25,7 @@ pub(crate) fn get_event(p: &[u8], m: Deck, mem: &mut [u8]) -> Done
     let bad = !bit0(p[1]);
     let limit = word16(p[7], p[8]);
     let class = class_for(p[4], m.event);
-    let next = reported(class, limit, m);
+    let next = cleared(class, limit, m);
     if class == NO_CLASS {
         return answer(bad, next, &none_bytes(), limit, mem);
     }

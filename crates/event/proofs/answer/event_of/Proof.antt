@@ -8,11 +8,11 @@ use Rattle.event.proofs.answer.event_of.Tie as tie
 
 returns : tie.Need-returns
 unfolding eventOf
-returns c = sym (when _ _ _ (eq-eqb _ _ (c .if1 .taken)))
+returns c = sym (unless _ _ _ (ne-eqb _ _ (c .if1 .taken)))
 
 returns-2 : tie.Need-returns-2
 unfolding eventOf
-returns-2 c = sym (unless _ _ _ (ne-eqb _ _ (c .if1 .left)))
+returns-2 c = sym (when _ _ _ (eq-eqb _ _ (c .if1 .left)))
 
 pub event-of-spec : {M : Type 1} → statement M
 event-of-spec = tie.close (tie.spec returns returns-2)

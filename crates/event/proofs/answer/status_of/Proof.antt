@@ -9,11 +9,11 @@ use Rattle.event.proofs.answer.status_of.Tie as tie
 
 returns : tie.Need-returns
 unfolding statusOf
-returns c = c .media-status .ensures ∙ sym (when _ _ _ (eq-eqb _ _ (c .before .if1 .taken)))
+returns c = sym (unless _ _ _ (ne-eqb _ _ (c .if1 .taken)))
 
 returns-2 : tie.Need-returns-2
 unfolding statusOf
-returns-2 c = sym (unless _ _ _ (ne-eqb _ _ (c .if1 .left)))
+returns-2 c = c .media-status .ensures ∙ sym (when _ _ _ (eq-eqb _ _ (c .before .if1 .left)))
 
 pub status-of-spec : {M : Type 1} → statement M
-status-of-spec = tie.close (tie.spec (λ c κs. search needs) returns returns-2)
+status-of-spec = tie.close (tie.spec returns (λ c κs. search needs) returns-2)
