@@ -384,7 +384,9 @@ pub fn any_event_status(rng: &mut Rng) -> Packet {
         5 => rng.byte() | 0x10,
         _ => 0x18,
     };
-    let length = rng.pick(&[0, 2, 3, 4, 4, 5, 5, 6, 7, 8, 8, 8, 9, 255, 256, 0x0400, 65_535]);
+    let length = rng.pick(&[
+        0, 2, 3, 4, 4, 5, 5, 6, 7, 8, 8, 8, 9, 255, 256, 0x0400, 65_535,
+    ]);
     let mut p = event_status(classes, length);
     p[1] = u8::from(rng.below(10) > 0);
     p
