@@ -96,18 +96,21 @@ pub fn marked_event(stream: &mut Stream) {
     stream.packet(&poll());
 }
 
-/// All 256 class bytes, with no event waiting and with one. Asked for, media clears
-/// it, so it is set again before.
+/// All 256 class bytes, with no event waiting and with one: first those without
+/// media, which leave it, then those with media, each after another event.
 pub fn every_class(stream: &mut Stream) {
     bench(stream, State::READY);
-    for classes in 0..=255u8 {
+    for classes in 0..=255 {
         stream.packet(&event_status(classes, 8));
     }
-    for classes in 0..=255u8 {
-        if classes & 0x10 != 0 {
-            stream.state(with(State::READY, 1 + classes % 3));
-        }
+    stream.state(with(State::READY, LOADED));
+    let asks_media = |classes: &u8| classes & 0x10 != 0;
+    for classes in (0..=255).filter(|classes| !asks_media(classes)) {
         stream.packet(&event_status(classes, 8));
+    }
+    for classes in (0..=255).filter(asks_media) {
+        let state = with(State::READY, 1 + classes % 3);
+        stream.packet_from(state, &event_status(classes, 8));
     }
 }
 
