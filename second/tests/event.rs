@@ -484,27 +484,39 @@ fn press_under_lock() {
     }
 }
 
-/// No other refusal changes the event, or anything else: laying and lifting, and
-/// every packet.
+/// No other refusal changes the event, or anything else: a press of an unknown
+/// state, laying, lifting, the outside call, and packets.
 #[test]
 fn other_refusals_leave_the_event() {
+    let calls: [fn(&mut Stream); 5] = [
+        Stream::button,
+        Stream::lay,
+        Stream::lift,
+        |stream| stream.move_on(1),
+        |stream| stream.packet(&poll()),
+    ];
+    let mut refused = 0;
     for event in 0..=255 {
         for flags in all_flags() {
             let state = with(flags, event);
-            for call in [State::lay, State::lift] {
-                if let Ok(next) = call(state) {
-                    assert_eq!(next.event, event);
+            for call in calls {
+                // No memory is lent, so 3 refuses the packet where 2 does not.
+                let mut stream = Stream::new();
+                stream.state(state);
+                call(&mut stream);
+                let line = replay::run(&stream.bytes);
+                let number = line.split(' ').nth(1).expect("a number");
+                let handed = state_in(line.trim_end());
+                let left = if number == "5" { 1 } else { event };
+                if number != "0" {
+                    refused += 1;
+                    let [tray, disc] = [flags.tray_open, flags.disc_in].map(u8::from);
+                    assert_eq!(handed, Some([tray, disc, left]), "{line}");
                 }
-            }
-            let sound = event < 4;
-            let pressed = state.pressed();
-            match state.button() {
-                Err(Refusal::Locked) => assert_eq!((pressed.event, sound), (1, true)),
-                Err(_) => assert_eq!((pressed, sound), (state, false)),
-                Ok(next) => assert_eq!((pressed, sound), (next, true)),
             }
         }
     }
+    assert!(refused > 252 * 32 * 5, "{refused}");
 }
 
 /// "an eject packet under lock is no press": 05/53/02, and the event stays, with a
@@ -769,7 +781,7 @@ fn streams_have_events() {
 
 /// The 4Ah of a stream with the state that meets it, and the events handed over.
 struct Polls {
-    /// The packet, and the line before it or the state set since.
+    /// The packet, and tray, disc and event that it meets.
     asked: Vec<(Packet, Option<[u8; 3]>)>,
     held: BTreeSet<u8>,
 }

@@ -147,7 +147,11 @@ fn button_and_power_on() {
             tray_open: !tray_open,
             change: state.change || tray_open && disc_in,
             // K7: 2 where a disc is loaded, 3 where the tray opens with one.
-            event: [0, if tray_open { 2 } else { 3 }][usize::from(disc_in)],
+            event: match (tray_open, disc_in) {
+                (true, true) => 2,
+                (false, true) => 3,
+                _ => 0,
+            },
             ..state
         };
         let due = if state.lock && !tray_open {
