@@ -583,15 +583,24 @@ fn the_latest_is_kept() {
     }
 }
 
-/// One of the calls on the drive, with what it gives.
-fn any_call(rng: &mut Rng, state: State, e: &[u8]) -> (State, Option<(Packet, Reply)>) {
+/// What was called, as far as the event is concerned.
+#[derive(Debug)]
+enum Made {
+    PowerOn,
+    Press,
+    Packet(Packet, Reply),
+    Other,
+}
+
+/// One of the calls on the drive, and the state that it hands back.
+fn any_call(rng: &mut Rng, state: State, e: &[u8]) -> (State, Made) {
     match rng.below(15) {
-        0 => (state.power_on(), None),
-        1 => (state.power_on_without_change(), None),
-        2..=4 => (state.pressed(), None),
-        5 => (state.lay().unwrap_or(state), None),
-        6 => (state.lift().unwrap_or(state), None),
-        7 => (state.move_on(9).unwrap_or(state), None),
+        0 => (state.power_on(), Made::PowerOn),
+        1 => (state.power_on_without_change(), Made::PowerOn),
+        2..=4 => (state.pressed(), Made::Press),
+        5 => (state.lay().unwrap_or(state), Made::Other),
+        6 => (state.lift().unwrap_or(state), Made::Other),
+        7 => (state.move_on(9).unwrap_or(state), Made::Other),
         n => {
             let packet = match n {
                 8 => rng.pick(&one_of_each()),
@@ -601,7 +610,7 @@ fn any_call(rng: &mut Rng, state: State, e: &[u8]) -> (State, Option<(Packet, Re
                 _ => any_packet(rng, &Marks::of(None)),
             };
             let (reply, _) = on(state, e, &packet);
-            (reply.next, Some((packet, reply)))
+            (reply.next, Made::Packet(packet, reply))
         }
     }
 }
@@ -616,22 +625,20 @@ fn event_from_the_history() {
     let mut met = [0; 4];
     for _ in 0..60_000 {
         let before = state;
-        let (next, packet) = any_call(&mut rng, before, &e);
+        let (next, made) = any_call(&mut rng, before, &e);
         let moved = before.tray_open != next.tray_open;
-        match packet {
+        match made {
+            Made::PowerOn => latest = 0,
+            Made::Press if before.lock && !before.tray_open => latest = 1,
             _ if moved && before.disc_in => latest = if next.tray_open { 3 } else { 2 },
-            None if next == before.power_on() => latest = 0,
-            None if next == before.power_on_without_change() => latest = 0,
-            // Of the calls without a packet a refused press alone is left.
-            None if before.lock && !before.tray_open && next == with(before, 1) => latest = 1,
-            Some((packet, reply)) if packet[0] == 0x4A && reply.status == 0 => {
+            Made::Packet(packet, reply) if packet[0] == 0x4A && reply.status == 0 => {
                 if due(before, packet[4])[2] == 4 && reply.length >= 5 {
                     latest = 0;
                 }
             }
             _ => {}
         }
-        assert_eq!(next.event, latest, "{before:?} {packet:02X?}");
+        assert_eq!(next.event, latest, "{before:?} {made:02X?}");
         met[usize::from(latest)] += 1;
         state = next;
     }
