@@ -45,8 +45,8 @@ fn long(bytes: &[u8]) -> u32 {
 }
 
 impl Command {
-    /// None is step 3's "Unknown code". INQUIRY and REQUEST SENSE never come
-    /// here (step 1).
+    /// None is step 3's "Unknown code". INQUIRY, REQUEST SENSE and K7's 4Ah never
+    /// come here (step 1).
     pub fn from_packet(p: &[u8; 12]) -> Option<Command> {
         Some(match p[0] {
             0x00 => Command::TestReady,

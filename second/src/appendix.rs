@@ -1,6 +1,6 @@
 //! K5: "Appendix A has a row for each operation code." The page's 256 lines by
 //! this program's own reading, and a page held to them. Names and classes are
-//! those of 01's list, K2's and K4's; the last two columns are what the drive
+//! those of 01's list, K2's, K4's and K7's; the last two columns are what the drive
 //! does.
 
 use std::fs;
@@ -10,14 +10,15 @@ use crate::cases::packets::{with_byte_4, Packet};
 use crate::cases::sheet::disc_e;
 use crate::drive::State;
 use crate::limits::BOUND;
-use crate::packet::{self, Reply};
+use crate::packet::{self, Reply, EVENT_STATUS};
 use crate::sense::{self, Sense};
 
 /// Where the page stands.
 pub const PAGE: &str = "docs/APPENDIX-A.md";
 
-/// 01's "Packets", in the list's order, then K2's three and K4's two in 02's.
-pub const PACKETS: [(u8, &str); 15] = [
+/// 01's "Packets", in the list's order, then K2's three, K4's two and K7's one in
+/// 02's.
+pub const PACKETS: [(u8, &str); 16] = [
     (0x00, "TEST UNIT READY"),
     (0x03, "REQUEST SENSE"),
     (0x12, "INQUIRY"),
@@ -33,6 +34,7 @@ pub const PACKETS: [(u8, &str); 15] = [
     (0x42, "READ SUB-CHANNEL"),
     (0x5A, "MODE SENSE(10)"),
     (0x55, "MODE SELECT(10)"),
+    (0x4A, "GET EVENT STATUS NOTIFICATION"),
 ];
 
 /// "the command's class or "unknown"": the command's number in the list,
@@ -60,6 +62,14 @@ fn answer(state: State, packet: &Packet) -> (Reply, Vec<u8>) {
     (reply, memory)
 }
 
+/// A packet of this code and byte 4, all else 0 but 4Ah's Polled bit: without it
+/// 4Ah is 05/24/00, whatever is pending.
+fn asking(code: u8, byte_4: u8) -> Packet {
+    let mut p = with_byte_4(code, byte_4);
+    p[1] = u8::from(code == EVENT_STATUS);
+    p
+}
+
 /// Whether the answer is CHECK CONDITION with this triple.
 fn tells(reply: &Reply, triple: Sense) -> bool {
     reply.refusal.is_none() && reply.status == 0x02 && reply.next.sense == triple
@@ -69,7 +79,7 @@ fn tells(reply: &Reply, triple: Sense) -> bool {
 /// the four settings of byte 4's bits 1 and 0 (LoEj and Start) get 02/3A/01.
 pub fn needs_a_disc(code: u8) -> &'static str {
     let told = [0, 1, 2, 3].map(|byte_4| {
-        let (reply, _) = answer(State::EMPTY, &with_byte_4(code, byte_4));
+        let (reply, _) = answer(State::EMPTY, &asking(code, byte_4));
         tells(&reply, sense::NO_MEDIUM)
     });
     match told {
@@ -99,7 +109,7 @@ pub fn under_an_attention(code: u8) -> &'static str {
 /// What the packet does under the one attention that is pending here, with no
 /// sense held and with one. A length of 18 lets an answer show what it gives.
 fn under(code: u8, pending: State, attention: Sense) -> &'static str {
-    let p = with_byte_4(code, 18);
+    let p = asking(code, 18);
     let holding = State {
         sense: sense::PREVENTED,
         ..pending

@@ -1,5 +1,5 @@
 //! An independent second program for the packet target of the build
-//! definition (called "01" in the comments; K1 to K6 and K9 are the change requests
+//! definition (called "01" in the comments; K1 to K7 and K9 are the change requests
 //! built on it). It shares no code with the target: the two meet through files
 //! only.
 
@@ -9,6 +9,7 @@ pub mod answers;
 pub mod appendix;
 pub mod cases;
 pub mod drive;
+pub mod events;
 pub mod examples;
 pub mod files;
 pub mod limits;

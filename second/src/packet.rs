@@ -3,6 +3,7 @@
 
 use crate::answers::{self, Command, Outcome};
 use crate::drive::State;
+use crate::events;
 use crate::limits::{BOUND, PACKET};
 use crate::refusal::Refusal;
 use crate::sense;
@@ -10,6 +11,7 @@ use crate::table::{self, Disc};
 
 pub const INQUIRY: u8 = 0x12;
 pub const REQUEST_SENSE: u8 = 0x03;
+pub const EVENT_STATUS: u8 = 0x4A;
 
 /// What a packet gives back; the response memory is changed in place.
 #[derive(Clone, Copy, Debug, PartialEq, Eq)]
@@ -64,8 +66,8 @@ pub fn perform(state: State, table: &[u8], list: &[u8], packet: &[u8], memory: &
             let n = good.allocation.map_or(whole, |limit| limit.min(whole));
             memory[..n].copy_from_slice(&good.answer[..n]);
             // "GOOD is status 00h and sets the sense to 00/00/00, but INQUIRY
-            // leaves it."
-            if bytes[0] != INQUIRY {
+            // leaves it." K7's 4Ah too "leaves the sense when GOOD".
+            if ![INQUIRY, EVENT_STATUS].contains(&bytes[0]) {
                 next.sense = sense::NONE;
             }
             Reply {
@@ -105,10 +107,12 @@ fn tests(
 /// "Steps for a packet", 1 to 5. A disc is at hand exactly when loaded.
 fn steps(state: &mut State, disc: Option<&Disc>, list: &[u8], p: &[u8; PACKET]) -> Outcome {
     // 1. "INQUIRY and REQUEST SENSE are performed even with an attention
-    // pending."
+    // pending." K7's 4Ah too: it "is performed while an attention is pending,
+    // tells none".
     match p[0] {
         INQUIRY => return answers::inquiry(p),
         REQUEST_SENSE => return Ok(answers::request_sense(state, p)),
+        EVENT_STATUS => return events::status_notification(state, p),
         _ => {}
     }
     // 2. "if the power attention is pending, else the change attention ..

@@ -6,14 +6,15 @@ pub enum Refusal {
     PacketLength,
     /// "held sense is none of the ten below"; K2: "2 also covers another status,
     /// a position past its end, or an end over 449,849"; K4: it "admits these
-    /// triples, and covers a recovery byte outside the twenty"
+    /// triples, and covers a recovery byte outside the twenty"; K7: "2 also covers
+    /// an event over 3"
     UnsoundState,
     /// "response memory is under 6,538 bytes" (K1's bound)
     SmallMemory,
     /// "loaded, or asked for a session's part, and the table is not fit"; K6:
     /// it "carries that number", the first broken rule of 1 to 7
     UnfitTable(u8),
-    /// "a closed one opens, unless locked (5)"
+    /// "a closed one opens, unless locked (5)"; K7: it "changes that event only"
     Locked,
     /// "Laying a disc needs an open tray without one (6)"
     CannotLay,

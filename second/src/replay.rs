@@ -35,14 +35,16 @@ pub fn is_call(kind: u8) -> bool {
     ![STATE, TABLE, MEMORY, LIST].contains(&kind)
 }
 
-/// Bytes of kind 0's body: five flags, the sense, K2's play record, K4's page.
-pub const STATE_BYTES: usize = 19;
+/// Bytes of kind 0's body: five flags, the sense, K2's play record, K4's page and
+/// K7's event.
+pub const STATE_BYTES: usize = 20;
 
 /// "At the start every byte is 0": so the play status is 00h, and refusal 2
 /// covers it.
 const START: State = State {
     play: Play::new(0, 0, 0),
     mode: ModePage::new(0, 0),
+    event: 0,
     ..State::EMPTY
 };
 
@@ -114,10 +116,11 @@ fn number(refusal: Option<Refusal>) -> String {
 
 /// Kind 0's body: "tray, disc, lock, power, change as 0 or 1, key, ASC, ASCQ",
 /// then K2's "play status (1 byte), position (4), end (4)", then K4's "recovery
-/// byte, retry count". The last three parts may be anything.
+/// byte, retry count", then K7's "media event (1)". The last four parts may be
+/// anything.
 fn state_of(body: &[u8; STATE_BYTES]) -> Result<State, BadRecord> {
     let &[tray, disc, lock, power, change, key, asc, ascq, status, ref numbers @ ..] = body;
-    let [a, b, c, d, e, f, g, h, recovery, retries] = *numbers;
+    let [a, b, c, d, e, f, g, h, recovery, retries, event] = *numbers;
     Ok(State {
         tray_open: flag(tray)?,
         disc_in: flag(disc)?,
@@ -131,11 +134,12 @@ fn state_of(body: &[u8; STATE_BYTES]) -> Result<State, BadRecord> {
             end: u32::from_be_bytes([e, f, g, h]),
         },
         mode: ModePage::new(recovery, retries),
+        event,
     })
 }
 
-/// Five digits, three hex bytes, the play record and the page's two bytes:
-/// `01010 06 29 00 15 0 0 00 00`.
+/// Five digits, three hex bytes, the play record, the page's two bytes and the
+/// event, a decimal: `01010 06 29 00 15 0 0 00 00 0`.
 pub fn state_text(state: State) -> String {
     let digits = [
         state.tray_open,
@@ -147,7 +151,7 @@ pub fn state_text(state: State) -> String {
     .map(|on| if on { '1' } else { '0' });
     let digits: String = digits.iter().collect();
     let (sense, play, mode) = (state.sense.text(), state.play.text(), state.mode.text());
-    format!("{digits} {sense} {play} {mode}")
+    format!("{digits} {sense} {play} {mode} {}", state.event)
 }
 
 /// Capital hex, two digits a byte, "-" where no bytes.
@@ -186,7 +190,11 @@ impl Bench {
             (POWER_ON_WITHOUT_CHANGE, []) => {
                 self.moved('q', Ok(self.state.power_on_without_change()));
             }
-            (BUTTON, []) => self.moved('b', self.state.button()),
+            // K7: a refused press may hand back another state.
+            (BUTTON, []) => {
+                let (result, pressed) = (self.state.button(), self.state.pressed());
+                self.moved_or('b', result, pressed);
+            }
             (LAY, []) => self.moved('d', self.state.lay()),
             (LIFT, []) => self.moved('u', self.state.lift()),
             // K2: "kind 12, the outside call, body k (4 bytes), line `m N STATE`"
@@ -227,8 +235,13 @@ impl Bench {
     /// A tray call, a power-on or the outside call: "state as handed in" where
     /// refused.
     fn moved(&mut self, letter: char, result: Result<State, Refusal>) {
+        self.moved_or(letter, result, self.state);
+    }
+
+    /// Such a call, and the state that it hands back where it is refused.
+    fn moved_or(&mut self, letter: char, result: Result<State, Refusal>, refused: State) {
         let number = number(result.err());
-        self.state = result.unwrap_or(self.state);
+        self.state = result.unwrap_or(refused);
         self.line(format!("{letter} {number} {}", state_text(self.state)));
     }
 

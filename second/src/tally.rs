@@ -1,10 +1,12 @@
 //! How many broken tables a stream meets, by the rule that refusal 4 carries
 //! (K6), how many power-ons it has, by form and by what they meet (K3), how many
-//! plays, 42h and outside calls, by status (K2), and how many 5Ah, by page
-//! control, and 55h, by outcome (K4).
+//! plays, 42h and outside calls, by status (K2), how many 5Ah, by page control,
+//! and 55h, by outcome (K4), and how many 4Ah, by class and by outcome, and presses
+//! under lock (K7).
 
 use std::fmt::Write;
 
+use crate::events::{is_event, EXTERNAL, MEDIA, NO_EVENT};
 use crate::mode_page::{PAGE, SETTINGS};
 use crate::play::STATUSES;
 use crate::replay::{self, take_record};
@@ -101,6 +103,9 @@ pub struct Audio {
     pub refused_moves: usize,
 }
 
+/// Where a packet's bytes stand in its line, behind the state.
+const DATA: usize = 16;
+
 /// Each call's line shows what became of it; a packet's code stands in its body.
 pub fn audio(stream: &[u8]) -> Audio {
     let lines = replay::run(stream);
@@ -128,8 +133,10 @@ pub fn audio(stream: &[u8]) -> Audio {
                 audio.pauses += usize::from(good);
                 audio.refused_pauses += usize::from(!good);
             }
-            (replay::PACKET, Some(0x42)) if words[1..3] == ["0", "00"] && words[15].len() > 3 => {
-                count(&mut audio, &words[15][2..4], |status| &mut status.told);
+            (replay::PACKET, Some(0x42)) if words[1..3] == ["0", "00"] => {
+                if let Some(told) = words[DATA].get(2..4) {
+                    count(&mut audio, told, |status| &mut status.told);
+                }
             }
             _ => {}
         }
@@ -213,8 +220,93 @@ impl Modes {
     }
 }
 
+/// What a stream has of K7.
+#[derive(Clone, Copy, Debug, Default, PartialEq, Eq)]
+pub struct Events {
+    /// GOOD 4Ah that answer the class external, media with event 0 to 3, and none.
+    pub external: usize,
+    pub media: [usize; 4],
+    pub none: usize,
+    /// GOOD 4Ah of under three bytes, which show no class.
+    pub short: usize,
+    /// Media answers that clear an event, and those too short for it.
+    pub cleared: usize,
+    pub kept: usize,
+    /// 4Ah that are 05/24/00, and those that are refused.
+    pub not_polled: usize,
+    pub refused: usize,
+    /// Presses that 5 refuses, with a disc in and without.
+    pub presses: [usize; 2],
+    /// Calls that 2 refuses while the event is over 3.
+    pub unsound: usize,
+}
+
+/// A call's line has the event behind it; a 4Ah of five bytes shows the one before.
+pub fn events(stream: &[u8]) -> Events {
+    let lines = replay::run(stream);
+    let mut lines = lines.lines();
+    let (mut rest, mut events) = (stream, Events::default());
+    while let Ok((kind, body, after)) = take_record(rest) {
+        rest = after;
+        if !replay::is_call(kind) {
+            continue;
+        }
+        let Some(line) = lines.next().filter(|&line| line != "bad record") else {
+            break;
+        };
+        let words: Vec<&str> = line.split(' ').collect();
+        events.unsound +=
+            usize::from(words[1] == "2" && !event_in(&words, kind).is_some_and(is_event));
+        match (kind, body.first()) {
+            (replay::BUTTON, _) if words[1] == "5" => {
+                let empty = usize::from(!words[2][1..].starts_with('1'));
+                events.presses[empty] += 1;
+            }
+            (replay::PACKET, Some(0x4A)) if body.len() == 12 => {
+                let event = event_in(&words, kind).unwrap_or(NO_EVENT);
+                events.count(&words[1..3], words[DATA], event);
+            }
+            _ => {}
+        }
+    }
+    events
+}
+
+/// The event in a line, the last word of the state.
+fn event_in(words: &[&str], kind: u8) -> Option<u8> {
+    let place = if kind == replay::PACKET { DATA - 1 } else { 11 };
+    words.get(place)?.parse().ok()
+}
+
+/// The byte at this place of what is printed.
+fn byte_at(data: &str, place: usize) -> Option<u8> {
+    u8::from_str_radix(data.get(place * 2..place * 2 + 2)?, 16).ok()
+}
+
+impl Events {
+    /// Counts a 4Ah by its number and status, its bytes and the event behind it.
+    fn count(&mut self, outcome: &[&str], data: &str, left: u8) {
+        match (outcome, byte_at(data, 2)) {
+            (["0", "02"], _) => self.not_polled += 1,
+            (["0", "00"], None) => self.short += 1,
+            (["0", "00"], Some(EXTERNAL)) => self.external += 1,
+            (["0", "00"], Some(MEDIA)) => {
+                // Too short to show the event, it leaves it.
+                let shown = byte_at(data, 4);
+                let event = shown.unwrap_or(left);
+                self.media[usize::from(event)] += 1;
+                self.cleared += usize::from(shown.is_some() && event != NO_EVENT);
+                self.kept += usize::from(shown.is_none() && event != NO_EVENT);
+            }
+            (["0", "00"], Some(_)) => self.none += 1,
+            _ => self.refused += 1,
+        }
+    }
+}
+
 /// A header and a line for each rule, then one and a line for each form, then
-/// K2's: plays and pauses, then a line for each status; then K4's two packets.
+/// K2's: plays and pauses, then a line for each status; then K4's two packets and
+/// K7's one, with the presses under lock.
 pub fn print(stream: &[u8]) -> String {
     let mut out = "rule tables packets parts\n".to_string();
     for (met, rule) in of(stream).iter().zip(1..) {
@@ -238,6 +330,7 @@ pub fn print(stream: &[u8]) -> String {
     }
     print_audio(&mut out, &audio(stream));
     print_modes(&mut out, &modes(stream));
+    print_events(&mut out, &events(stream));
     out
 }
 
@@ -280,4 +373,27 @@ fn print_modes(out: &mut String, modes: &Modes) {
     out.push_str(&line);
     out.push_str("mode other unsound\n");
     out.push_str(&format!("mode {other} {unsound}\n"));
+}
+
+fn print_events(out: &mut String, events: &Events) {
+    let Events {
+        external,
+        media: [none_waiting, pressed, loaded, opened],
+        none,
+        short,
+        cleared,
+        kept,
+        not_polled,
+        refused,
+        presses: [with_disc, without],
+        unsound,
+    } = events;
+    out.push_str("4Ah external media-0 media-1 media-2 media-3 none short\n");
+    let media = format!("{none_waiting} {pressed} {loaded} {opened}");
+    out.push_str(&format!("4Ah {external} {media} {none} {short}\n"));
+    out.push_str("event cleared kept not-polled refused unsound\n");
+    let line = format!("event {cleared} {kept} {not_polled} {refused} {unsound}\n");
+    out.push_str(&line);
+    out.push_str("press with-disc without\n");
+    out.push_str(&format!("press {with_disc} {without}\n"));
 }

@@ -820,7 +820,7 @@ n st key asc ascq len data start count
 /// each status, outside calls that leave each, and those that 2 refuses.
 #[test]
 fn streams_have_audio() {
-    for stream in [stored::stored_stream(), random_stream(56, 16_000)] {
+    for stream in [stored::stored_stream(), random_stream(56, 17_000)] {
         let audio = tally::audio(&stream.bytes);
         assert!(audio.plays > 300 && audio.failed > 300, "{audio:?}");
         assert!(

@@ -223,7 +223,7 @@ fn stored_listings_show_each_rule() {
 /// Broken tables are many, of every rule, and met by packets and by parts.
 #[test]
 fn streams_meet_each_rule_often() {
-    for stream in [stored::stored_stream(), random_stream(32, 16_000)] {
+    for stream in [stored::stored_stream(), random_stream(32, 17_000)] {
         for (met, rule) in tally::of(&stream.bytes).iter().zip(1..) {
             let Met {
                 tables,

@@ -5,7 +5,7 @@ mod common;
 
 use common::{check, on_e};
 use second::appendix::{class, PACKETS};
-use second::cases::packets::{plain, read10, read12, request_sense, CODES};
+use second::cases::packets::{event_status, plain, read10, read12, request_sense, CODES};
 use second::cases::picked_codes::{every_row, every_row_told};
 use second::cases::stream::Stream;
 use second::drive::State;
@@ -14,8 +14,8 @@ use second::sense::{self, Sense, NONE};
 use second::stored::stored_stream;
 
 /// A code for each class, "unknown" first; no command has 01h.
-fn one_of_each_class() -> [u8; 16] {
-    let mut list = [0x01; 16];
+fn one_of_each_class() -> [u8; 17] {
+    let mut list = [0x01; 17];
     for (code, _) in PACKETS {
         list[class(code)] = code;
     }
@@ -59,7 +59,7 @@ fn printed(records: &[(u8, Vec<u8>)], code: u8, answered_as: u8) -> Vec<String> 
     lines.lines().map(cut).collect()
 }
 
-/// 256 x 15 wrong tables, each with one wrong row: each prints another line.
+/// 256 x 16 wrong tables, each with one wrong row: each prints another line.
 #[test]
 fn each_wrong_row_is_noticed() {
     let records = records(every_row);
@@ -76,15 +76,21 @@ fn each_wrong_row_is_noticed() {
             }
         }
     }
-    assert_eq!(tables, 256 * 15);
+    assert_eq!(tables, 256 * 16);
 }
 
-/// The same under attentions: there the rows of INQUIRY and REQUEST SENSE show,
-/// and all the others are told alike.
+/// The same under attentions: there the rows of INQUIRY, REQUEST SENSE and 4Ah
+/// show, and all the others are told alike.
 #[test]
 fn wrong_rows_under_an_attention() {
     let records = records(every_row_told);
-    let rank = |class: usize| if [2, 3].contains(&class) { class } else { 0 };
+    let rank = |class: usize| {
+        if [2, 3, 16].contains(&class) {
+            class
+        } else {
+            0
+        }
+    };
     for code in 0..=255 {
         let sound = printed(&records, code, code);
         assert_eq!(sound.len(), 4);
@@ -110,18 +116,18 @@ fn every_row_is_stored() {
     }
 }
 
-/// "giving the command's class or "unknown"": 01's ten codes, K2's three and K4's
-/// two have a command, and exactly the others are 05/20/00, loaded, closed and
-/// empty, and open.
+/// "giving the command's class or "unknown"": 01's ten codes, K2's three, K4's two
+/// and K7's one have a command, and exactly the others are 05/20/00, loaded, closed
+/// and empty, and open.
 #[test]
-fn fifteen_codes_and_no_others() {
+fn sixteen_codes_and_no_others() {
     assert_eq!(PACKETS.map(|(code, _)| code), CODES);
     assert_eq!(
         PACKETS.map(|(code, _)| class(code)),
-        [1, 2, 3, 4, 5, 6, 7, 8, 9, 10, 11, 12, 13, 14, 15]
+        [1, 2, 3, 4, 5, 6, 7, 8, 9, 10, 11, 12, 13, 14, 15, 16]
     );
     assert_eq!([0x45, 0x4B, 0x42].map(class), [11, 12, 13]);
-    assert_eq!([0x5A, 0x55].map(class), [14, 15]);
+    assert_eq!([0x5A, 0x55, 0x4A].map(class), [14, 15, 16]);
     for state in [State::READY, State::EMPTY, State::READY.opened()] {
         for code in 0..=255 {
             let (reply, _) = on_e(state, &plain(code));
@@ -132,7 +138,7 @@ fn fifteen_codes_and_no_others() {
     }
 }
 
-/// Step 2 before step 3: every code but 03h and 12h is told, whatever its row.
+/// Step 2 before step 3: every code but 03h, 12h and 4Ah is told, whatever its row.
 #[test]
 fn every_code_under_attentions() {
     let both = State {
@@ -140,7 +146,7 @@ fn every_code_under_attentions() {
         change: true,
         ..State::READY
     };
-    for code in (0..=255).filter(|code| ![0x03, 0x12].contains(code)) {
+    for code in (0..=255).filter(|code| ![0x03, 0x12, 0x4A].contains(code)) {
         assert_eq!(check(both, &plain(code)), Sense::new(6, 0x29, 0));
         let (told, _) = on_e(both, &plain(code));
         assert_eq!((told.next.power, told.next.change), (false, true));
@@ -149,6 +155,8 @@ fn every_code_under_attentions() {
         assert_eq!((told.next.power, told.next.change), (false, false));
     }
     assert_eq!(on_e(both, &plain(0x12)).0.next, both);
+    assert_eq!(on_e(both, &event_status(0x18, 8)).0.next, both);
+    assert_eq!(check(both, &plain(0x4A)), Sense::new(5, 0x24, 0));
     let held = State {
         sense: sense::PREVENTED,
         ..both

@@ -667,16 +667,16 @@ fn lists_in_a_stream() {
     stream.packet(&mode_select(8_191));
     assert_eq!(stream.calls, 10);
     let states = [
-        "p 0 02 0 0 0 00000 05 1A 00 15 0 0 00 00 -",
-        "p 0 00 0 0 0 00000 00 00 00 15 0 0 00 00 -",
-        "p 0 00 0 0 0 00000 00 00 00 15 0 0 05 A3 -",
-        "p 0 02 0 0 0 00000 05 1A 00 15 0 0 05 A3 -",
-        "p 0 00 16 0 0 00000 00 00 00 15 0 0 05 A3 000E000000000000010605A300000000",
-        "o 0 00010 00 00 00 15 0 0 00 00",
-        "p 0 02 0 0 0 00000 06 29 00 15 0 0 00 00 -",
-        "p 0 00 0 0 0 00000 00 00 00 15 0 0 05 A3 -",
-        "p 0 02 0 0 0 00000 05 1A 00 15 0 0 05 A3 -",
-        "p 0 02 0 0 0 00000 05 1A 00 15 0 0 05 A3 -",
+        "p 0 02 0 0 0 00000 05 1A 00 15 0 0 00 00 0 -",
+        "p 0 00 0 0 0 00000 00 00 00 15 0 0 00 00 0 -",
+        "p 0 00 0 0 0 00000 00 00 00 15 0 0 05 A3 0 -",
+        "p 0 02 0 0 0 00000 05 1A 00 15 0 0 05 A3 0 -",
+        "p 0 00 16 0 0 00000 00 00 00 15 0 0 05 A3 0 000E000000000000010605A300000000",
+        "o 0 00010 00 00 00 15 0 0 00 00 0",
+        "p 0 02 0 0 0 00000 06 29 00 15 0 0 00 00 0 -",
+        "p 0 00 0 0 0 00000 00 00 00 15 0 0 05 A3 0 -",
+        "p 0 02 0 0 0 00000 05 1A 00 15 0 0 05 A3 0 -",
+        "p 0 02 0 0 0 00000 05 1A 00 15 0 0 05 A3 0 -",
     ];
     let lines = replay::run(&stream.bytes);
     assert_eq!(lines.lines().count(), states.len());
@@ -736,7 +736,7 @@ fn stored_listing_has_the_page() {
 /// that 2 covers.
 #[test]
 fn streams_have_the_page() {
-    for stream in [stored::stored_stream(), random_stream(64, 16_000)] {
+    for stream in [stored::stored_stream(), random_stream(64, 17_000)] {
         let modes = tally::modes(&stream.bytes);
         let [current, changeable, default] = modes.sensed;
         assert!(current > 200 && changeable.min(default) > 30, "{modes:?}");
@@ -876,5 +876,5 @@ fn tally_counts_the_page() {
 mode other unsound
 mode 3 2
 ";
-    assert!(tally::print(&stream.bytes).ends_with(tail));
+    assert!(tally::print(&stream.bytes).contains(tail));
 }

@@ -12,7 +12,7 @@ use second::drive::State;
 use second::sense::Sense;
 use second::{examples, files, stored};
 
-const KNOWN: [&str; 15] = [
+const KNOWN: [&str; 16] = [
     "| 00h | TEST UNIT READY | 1 | yes | told first |",
     "| 03h | REQUEST SENSE | 2 | no | performed; gives it where no sense is held |",
     "| 12h | INQUIRY | 3 | no | performed |",
@@ -28,6 +28,7 @@ const KNOWN: [&str; 15] = [
     "| 42h | READ SUB-CHANNEL | 13 | yes | told first |",
     "| 5Ah | MODE SENSE(10) | 14 | no | told first |",
     "| 55h | MODE SELECT(10) | 15 | no | told first |",
+    "| 4Ah | GET EVENT STATUS NOTIFICATION | 16 | no | performed |",
 ];
 
 /// A page that has these lines between others.
@@ -39,7 +40,7 @@ fn page(lines: &[String]) -> String {
     )
 }
 
-/// The fifteen codes, and all the others, in order.
+/// The sixteen codes, and all the others, in order.
 #[test]
 fn page_has_a_line_for_each_code() {
     let lines = lines();
@@ -51,12 +52,12 @@ fn page_has_a_line_for_each_code() {
         assert_eq!(line, known.map_or(unknown.as_str(), |one| *one));
     }
     let known = lines.iter().filter(|line| !line.contains("unknown"));
-    assert_eq!(known.count(), 15);
+    assert_eq!(known.count(), 16);
 }
 
 /// "Needing one: 00h, 25h, 28h, 2Bh, 43h, A8h, and 1Bh with LoEj 0 and Start
-/// 1." K2: "These commands need a disc." K4's two do not. The column says what an
-/// open drive does too.
+/// 1." K2: "These commands need a disc." K4's two and K7's 4Ah do not. The column
+/// says what an open drive does too.
 #[test]
 fn needs_a_disc_is_step_4() {
     for code in 0..=255 {
@@ -76,14 +77,14 @@ fn needs_a_disc_is_step_4() {
     }
 }
 
-/// "INQUIRY and REQUEST SENSE are performed even with an attention pending.",
-/// any other is told.
+/// "INQUIRY and REQUEST SENSE are performed even with an attention pending." K7's
+/// 4Ah "is performed while an attention is pending, tells none"; any other is told.
 #[test]
 fn under_an_attention_is_steps_1_and_2() {
     for code in 0..=255 {
         let due = match code {
             0x03 => "performed; gives it where no sense is held",
-            0x12 => "performed",
+            0x12 | 0x4A => "performed",
             _ => "told first",
         };
         assert_eq!(under_an_attention(code), due, "{code:02X}h");

@@ -52,6 +52,9 @@ fn records() -> [Play; 7] {
     ]
 }
 
+/// Events of K7, sound and not.
+const EVENTS: [u8; 7] = [3, 0, 2, 255, 1, 4, 2];
+
 /// Every state that a power-on may meet.
 fn all_states() -> impl Iterator<Item = State> {
     held()
@@ -59,10 +62,12 @@ fn all_states() -> impl Iterator<Item = State> {
         .flat_map(|sense| all_flags().map(move |flags| (sense, flags)))
         .zip(records().into_iter().cycle())
         .zip(mode_pages().into_iter().cycle())
-        .map(|(((sense, flags), play), mode)| State {
+        .zip(EVENTS.into_iter().cycle())
+        .map(|((((sense, flags), play), mode), event)| State {
             sense,
             play,
             mode,
+            event,
             ..flags
         })
 }
@@ -89,6 +94,7 @@ fn greeted(state: State, change: bool) -> State {
         sense: Sense::new(0, 0, 0),
         play: Play::NONE,
         mode: ModePage::DEFAULT,
+        event: 0,
     }
 }
 
@@ -134,11 +140,12 @@ fn told_twice_or_once() {
     assert_eq!(told(second, &three), [POWERED_ON, NONE, NONE]);
 }
 
-/// Any packet but INQUIRY and REQUEST SENSE is told, also one that needs no disc.
+/// Any packet but INQUIRY, REQUEST SENSE and 4Ah is told, also one that needs no
+/// disc.
 #[test]
 fn any_other_packet_is_told() {
     for packet in one_of_each() {
-        if [0x03, 0x12].contains(&packet[0]) {
+        if [0x03, 0x12, 0x4A].contains(&packet[0]) {
             continue;
         }
         let two = [packet; 2];
@@ -237,12 +244,12 @@ fn last_power_on_decides() {
 fn nothing_is_looked_at() {
     for stranger in [[0, 0, 0], [1, 2, 3]] {
         // A play record of zeros is none that a call but power-on takes, and a
-        // recovery byte of FFh none either.
-        let rest = [0, 0, 0, 0, 0, 0, 0, 0, 0, 0xFF, 0xFF];
+        // recovery byte or an event of FFh none either.
+        let rest = [0, 0, 0, 0, 0, 0, 0, 0, 0, 0xFF, 0xFF, 0xFF];
         let state = [[0, 1, 1, 0, 0].as_slice(), &stranger, &rest].concat();
         for (kind, line) in [
-            (3, "o 0 01011 00 00 00 15 0 0 00 00\n"),
-            (11, "q 0 01010 00 00 00 15 0 0 00 00\n"),
+            (3, "o 0 01011 00 00 00 15 0 0 00 00 0\n"),
+            (11, "q 0 01010 00 00 00 15 0 0 00 00 0\n"),
         ] {
             let mut stream = Stream::new();
             stream.record(replay::STATE, &state);
@@ -271,7 +278,7 @@ n st key asc ascq len data start count
 /// tray without one, each often.
 #[test]
 fn streams_have_both_forms() {
-    for stream in [stored::stored_stream(), random_stream(40, 16_000)] {
+    for stream in [stored::stored_stream(), random_stream(40, 17_000)] {
         for met in tally::power_ons(&stream.bytes) {
             let PowerOns {
                 loaded,
@@ -304,6 +311,7 @@ fn state_in(line: &str) -> Option<Vec<u8>> {
     for word in &words[from + 7..from + 9] {
         state.push(u8::from_str_radix(word, 16).expect("a hex byte"));
     }
+    state.push(words[from + 9].parse().expect("a decimal"));
     Some(state)
 }
 
@@ -382,7 +390,7 @@ fn behind(set: &[Vec<u8>; 4], form: u8, mut rest: &[u8]) -> Vec<u8> {
 /// default form.
 #[test]
 fn answers_tell_the_forms_apart() {
-    for stream in [stored::stored_stream(), random_stream(48, 16_000)] {
+    for stream in [stored::stored_stream(), random_stream(48, 17_000)] {
         let (loaded, apart) = told_apart(&stream.bytes);
         assert!(apart > 50, "{apart} of {loaded}");
     }

@@ -42,6 +42,7 @@ fn line_forms() {
     stream.state(State {
         play: Play::new(0x11, 150, 300),
         mode: ModePage::new(0x35, 0xFF),
+        event: 1,
         ..State::READY
     });
     stream.list(&[1; 16]);
@@ -64,21 +65,21 @@ fn line_forms() {
     let blank = adler32(&memory);
     memory[..8].copy_from_slice(&[0, 0, 1, 0x2B, 0, 0, 8, 0]);
     let expected = [
-        "p 2 00 0 0 0 00000 00 00 00 00 0 0 00 00 - 00000001".to_string(),
+        "p 2 00 0 0 0 00000 00 00 00 00 0 0 00 00 0 - 00000001".to_string(),
         "s 4.1 0 00000001".to_string(),
-        "o 0 01011 00 00 00 15 0 0 00 00".to_string(),
-        "q 0 01010 00 00 00 15 0 0 00 00".to_string(),
-        format!("p 0 02 0 0 0 01000 06 29 00 15 0 0 00 00 - {blank:08X}"),
+        "o 0 01011 00 00 00 15 0 0 00 00 0".to_string(),
+        "q 0 01010 00 00 00 15 0 0 00 00 0".to_string(),
+        format!("p 0 02 0 0 0 01000 06 29 00 15 0 0 00 00 0 - {blank:08X}"),
         format!(
-            "p 0 00 8 0 0 01000 00 00 00 15 0 0 00 00 0000012B00000800 {:08X}",
+            "p 0 00 8 0 0 01000 00 00 00 15 0 0 00 00 0 0000012B00000800 {:08X}",
             adler32(&memory)
         ),
-        "m 0 01000 00 00 00 11 299 300 35 FF".to_string(),
-        "m 0 01000 00 00 00 13 300 300 35 FF".to_string(),
-        "b 0 11000 00 00 00 15 0 0 35 FF".to_string(),
-        "d 6 11000 00 00 00 15 0 0 35 FF".to_string(),
-        "u 0 10000 00 00 00 15 0 0 35 FF".to_string(),
-        "b 0 00000 00 00 00 15 0 0 35 FF".to_string(),
+        "m 0 01000 00 00 00 11 299 300 35 FF 1".to_string(),
+        "m 0 01000 00 00 00 13 300 300 35 FF 1".to_string(),
+        "b 0 11000 00 00 00 15 0 0 35 FF 3".to_string(),
+        "d 6 11000 00 00 00 15 0 0 35 FF 3".to_string(),
+        "u 0 10000 00 00 00 15 0 0 35 FF 3".to_string(),
+        "b 0 00000 00 00 00 15 0 0 35 FF 3".to_string(),
         "a 0 99 59 74".to_string(),
         "a 8 0 0 0".to_string(),
         "c 0 0".to_string(),
@@ -102,7 +103,7 @@ fn lines_with_a_rule() {
         stream.packet(&[]);
         stream.table(&disc_e().bytes());
         stream.part(0);
-        let rest = "00 0 0 0 01000 00 00 00 15 0 0 00 00 - 198A0001";
+        let rest = "00 0 0 0 01000 00 00 00 15 0 0 00 00 0 - 198A0001";
         expected += &format!("s 4.{rule} 0 00000001\np 4.{rule} {rest}\np 1 {rest}\n");
         expected += "s 10 0 00000001\n";
     }
@@ -129,12 +130,12 @@ fn each_bad_record_ends_the_run() {
 /// on; prints nothing"; 14 is no kind yet.
 #[test]
 fn thirteen_is_the_last_kind() {
-    assert_eq!(run(&[3, 0, 0]), "o 0 00010 00 00 00 15 0 0 00 00\n");
-    assert_eq!(run(&[11, 0, 0]), "q 0 00010 00 00 00 15 0 0 00 00\n");
+    assert_eq!(run(&[3, 0, 0]), "o 0 00010 00 00 00 15 0 0 00 00 0\n");
+    assert_eq!(run(&[11, 0, 0]), "q 0 00010 00 00 00 15 0 0 00 00 0\n");
     // At the start the play status is 00h: 2 refuses.
     assert_eq!(
         run(&[12, 0, 4, 0, 0, 0, 1]),
-        "m 2 00000 00 00 00 00 0 0 00 00\n"
+        "m 2 00000 00 00 00 00 0 0 00 00 0\n"
     );
     for length in (0..=255).filter(|&length| length != 4) {
         let mut record = vec![12, 0, length];
@@ -153,17 +154,18 @@ fn thirteen_is_the_last_kind() {
     }
 }
 
-/// Kind 0's body is 19 bytes: K2's "play status (1 byte), position (4), end (4)"
+/// Kind 0's body is 20 bytes: K2's "play status (1 byte), position (4), end (4)"
 /// stand behind the sense, high byte first, then K4's recovery byte and retry
-/// count. Any of them may be set; 2 is for the calls.
+/// count, then K7's media event, printed as a decimal. Any of them may be set; 2 is
+/// for the calls.
 #[test]
-fn state_has_the_play_record_and_the_page() {
-    let mut stream = vec![0, 0, 19, 1, 1, 0, 0, 1, 5, 0x24, 0];
-    stream.extend([0xFE, 1, 2, 3, 4, 0xFF, 0, 0, 9, 0xC2, 0xA8]);
+fn state_has_the_record_the_page_and_the_event() {
+    let mut stream = vec![0, 0, 20, 1, 1, 0, 0, 1, 5, 0x24, 0];
+    stream.extend([0xFE, 1, 2, 3, 4, 0xFF, 0, 0, 9, 0xC2, 0xA8, 0xD9]);
     stream.extend([12, 0, 4, 0, 0, 0, 0]);
-    let line = "m 2 11001 05 24 00 FE 16909060 4278190089 C2 A8\n";
+    let line = "m 2 11001 05 24 00 FE 16909060 4278190089 C2 A8 217\n";
     assert_eq!(run(&stream), line);
-    for length in (0..=255usize).filter(|&length| length != 19) {
+    for length in (0..=255usize).filter(|&length| length != 20) {
         let mut record = vec![0, 0, length as u8];
         record.resize(3 + length, 0);
         assert_eq!(run(&record), "bad record\n");

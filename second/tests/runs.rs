@@ -77,7 +77,11 @@ impl Bench {
             Call::Lift => self.state.lift(),
             Call::MoveOn(k) => self.state.move_on(k.into()),
         };
-        self.state = moved.unwrap_or(self.state);
+        // K7: a press under refusal 5 hands back another state.
+        self.state = match call {
+            Call::Button => self.state.pressed(),
+            _ => moved.unwrap_or(self.state),
+        };
         Given::Moved(moved)
     }
 }
@@ -119,6 +123,7 @@ fn any_bench(rng: &mut Rng) -> (Bench, Marks) {
     let state = State {
         play,
         mode,
+        event: rng.below(4) as u8,
         ..rng.pick(&flags)
     };
     (Bench::new(state, table), marks)
@@ -250,8 +255,9 @@ fn told(packet: &Packet, held: Sense, reply: &Reply, power: bool, change: bool) 
     };
     match packet[0] {
         // "INQUIRY and REQUEST SENSE are performed even with an attention
-        // pending"; the latter tells with nothing held, its length may be 0.
-        0x12 => None,
+        // pending"; the latter tells with nothing held, its length may be 0. K7's
+        // 4Ah "tells none".
+        0x12 | 0x4A => None,
         0x03 => first.filter(|_| held == Sense::new(0, 0, 0)),
         _ => {
             let key = reply.next.sense.key;

@@ -99,10 +99,17 @@ fn moved_by(bits: u8, state: State) -> (State, Option<Sense>) {
     let (open, disc) = (state.tray_open, state.disc_in);
     match (bits, open) {
         (EJECT, false) if state.lock => (state, Some(Sense::new(5, 0x53, 2))),
+        // K7: 3 where the tray opens with a disc, 2 where one is loaded.
+        (EJECT, false) if disc => (tray(State { event: 3, ..state }, true), None),
         (EJECT, _) => (tray(state, true), None),
         (LOAD, true) => {
-            let change = disc;
-            (tray(State { change, ..state }, false), None)
+            let (change, event) = (disc, if disc { 2 } else { 0 });
+            let loaded = State {
+                change,
+                event,
+                ..state
+            };
+            (tray(loaded, false), None)
         }
         (1, true) => (state, Some(Sense::new(2, 0x3A, 2))),
         (1, false) if !disc => (state, Some(Sense::new(2, 0x3A, 1))),
@@ -139,6 +146,12 @@ fn button_and_power_on() {
         let next = State {
             tray_open: !tray_open,
             change: state.change || tray_open && disc_in,
+            // K7: 2 where a disc is loaded, 3 where the tray opens with one.
+            event: match (tray_open, disc_in) {
+                (true, true) => 2,
+                (false, true) => 3,
+                _ => 0,
+            },
             ..state
         };
         let due = if state.lock && !tray_open {
@@ -147,6 +160,8 @@ fn button_and_power_on() {
             Ok(next)
         };
         assert_eq!(state.button(), due);
+        // K7: refused, the press leaves event 1 behind.
+        assert_eq!(state.pressed(), due.unwrap_or(State { event: 1, ..state }));
         for held in [NONE, sense::PREVENTED, sense::CHANGED, Sense::new(1, 2, 3)] {
             let on = State {
                 sense: held,
@@ -161,6 +176,7 @@ fn button_and_power_on() {
                 sense: Sense::new(0, 0, 0),
                 play: Play::NONE,
                 mode: ModePage::DEFAULT,
+                event: 0,
             };
             assert_eq!(on.power_on_without_change(), next);
             // K3: the default form differs in the change attention alone.
@@ -197,6 +213,8 @@ fn who_needs_a_disc() {
         .chain([0, 1].map(prevent))
         // K4's two need none.
         .chain([mode_sense(0, 1, 16), mode_sense(1, 1, 0), mode_select(0)])
+        // Nor does K7's.
+        .chain([0x00, 0x08, 0x10].map(|classes| event_status(classes, 8)))
     {
         for state in [READY, State::EMPTY, State::EMPTY.opened(), READY.opened()] {
             assert_eq!(on_e(state, &packet).0.status, 0);

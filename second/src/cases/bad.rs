@@ -40,7 +40,7 @@ pub fn bad_records() -> Vec<(&'static str, Vec<u8>)> {
         }
     }
     let unsuited: [(u8, &[usize]); 11] = [
-        (replay::STATE, &[0, 1, 7, 8, 9, 16, 17, 18, 20]),
+        (replay::STATE, &[0, 1, 7, 8, 9, 16, 17, 18, 19, 21]),
         (replay::MEMORY, &[0, 1, 2, 4]),
         (replay::POWER_ON, &[1, 8]),
         (replay::BUTTON, &[1, 8]),

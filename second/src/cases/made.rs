@@ -8,8 +8,8 @@ use crate::cases::pairs::{self, Pair};
 use crate::cases::sheet::{disc_e, two_sessions, Sheet};
 use crate::cases::stream::Stream;
 use crate::cases::{
-    mode_five, picked, picked_audio, picked_codes, picked_fields, picked_mode, picked_power,
-    picked_state, picked_tables, random, several,
+    mode_five, picked, picked_audio, picked_codes, picked_event, picked_fields, picked_mode,
+    picked_power, picked_state, picked_tables, random, several,
 };
 use crate::examples;
 use crate::files::File;
@@ -50,7 +50,7 @@ macro_rules! named {
     };
 }
 
-const MAKERS: [(&str, Maker); 92] = [
+const MAKERS: [(&str, Maker); 110] = [
     named!(Start, picked_state::from_nothing),
     named!(Calls, picked_state::attentions),
     named!(Calls, picked_state::senses),
@@ -118,6 +118,23 @@ const MAKERS: [(&str, Maker); 92] = [
     named!(Calls, picked_mode::page_restored),
     named!(Calls, picked_mode::list_unused),
     named!(Calls, picked_mode::mode_while_playing),
+    named!(Calls, picked_event::marked_event),
+    named!(Calls, picked_event::every_class),
+    named!(Calls, picked_event::event_lengths),
+    named!(Calls, picked_event::event_bits),
+    named!(Calls, picked_event::not_polled),
+    named!(Calls, picked_event::events_placed),
+    named!(Calls, picked_event::every_event_held),
+    named!(Calls, picked_event::event_in_order),
+    named!(Calls, picked_event::event_while_pending),
+    named!(Calls, picked_event::event_senses),
+    named!(Calls, picked_event::event_unfit),
+    named!(Calls, picked_event::presses_under_lock),
+    named!(Calls, picked_event::eject_under_lock),
+    named!(Calls, picked_event::tray_events),
+    named!(Calls, picked_event::latest_event),
+    named!(Calls, picked_event::event_power_on),
+    named!(Calls, picked_event::event_kept),
     named!(random::fill, Calls(drawn)),
     named!(
         random::trace_scene,
@@ -134,6 +151,10 @@ const MAKERS: [(&str, Maker); 92] = [
     named!(
         random::mode_scene,
         Calls(|stream| scenes(stream, random::mode_scene))
+    ),
+    named!(
+        random::event_scene,
+        Calls(|stream| scenes(stream, random::event_scene))
     ),
     named!(
         random::broken_scene,

@@ -11,6 +11,7 @@ pub mod pairs;
 pub mod picked;
 pub mod picked_audio;
 pub mod picked_codes;
+pub mod picked_event;
 pub mod picked_fields;
 pub mod picked_mode;
 pub mod picked_power;

@@ -126,9 +126,17 @@ pub fn page_list(recovery: u8, retries: u8) -> [u8; 16] {
     list
 }
 
-/// The codes the board answers, K2's three and K4's two last.
-pub const CODES: [u8; 15] = [
-    0x00, 0x03, 0x12, 0x1B, 0x1E, 0x25, 0x28, 0x2B, 0x43, 0xA8, 0x45, 0x4B, 0x42, 0x5A, 0x55,
+/// GET EVENT STATUS NOTIFICATION of these classes, Polled (K7).
+pub fn event_status(classes: u8, length: u16) -> Packet {
+    let mut p = with_byte_4(0x4A, classes);
+    p[1] = 1;
+    p[7..9].copy_from_slice(&length.to_be_bytes());
+    p
+}
+
+/// The codes the board answers, K2's three, K4's two and K7's one last.
+pub const CODES: [u8; 16] = [
+    0x00, 0x03, 0x12, 0x1B, 0x1E, 0x25, 0x28, 0x2B, 0x43, 0xA8, 0x45, 0x4B, 0x42, 0x5A, 0x55, 0x4A,
 ];
 
 /// One packet for every command and branch, on any small disc.
@@ -162,6 +170,7 @@ pub fn one_of_each() -> Vec<Packet> {
         mode_sense(0, 1, 16),
         mode_select(0),
         mode_select(16),
+        event_status(0x18, 8),
         plain(0x47),
     ]
 }
@@ -186,6 +195,11 @@ pub fn named_bits(code: u8) -> Packet {
             bits[1] = 0x02;
             bits[2] = 0x40;
             bits[3] = 0xFF;
+            bits[7..9].fill(0xFF);
+        }
+        0x4A => {
+            bits[1] = 0x01;
+            bits[4] = 0xFF;
             bits[7..9].fill(0xFF);
         }
         0x4B => bits[8] = 0x01,
@@ -359,6 +373,25 @@ pub fn any_mode(rng: &mut Rng) -> Packet {
     }
 }
 
+/// 4Ah (K7), Polled but for a few, most often of classes that are supported and of
+/// a length next to the five that clear or the eight that there are.
+pub fn any_event_status(rng: &mut Rng) -> Packet {
+    let classes = match rng.below(8) {
+        0 => rng.byte(),
+        1 => rng.byte() & !0x18,
+        2 => 0x08,
+        3 | 4 => 0x10,
+        5 => rng.byte() | 0x10,
+        _ => 0x18,
+    };
+    let length = rng.pick(&[
+        0, 2, 3, 4, 4, 5, 5, 6, 7, 8, 8, 8, 9, 255, 256, 0x0400, 65_535,
+    ]);
+    let mut p = event_status(classes, length);
+    p[1] = u8::from(rng.below(10) > 0);
+    p
+}
+
 /// A parameter list (K4): sound, empty, of another length, or wrong in a place.
 pub fn any_list(rng: &mut Rng) -> Vec<u8> {
     let mut list = page_list(rng.pick(&SETTINGS), rng.byte()).to_vec();
@@ -391,9 +424,10 @@ pub fn any_packet(rng: &mut Rng, marks: &Marks) -> Packet {
     } else {
         length.min(255) as u8
     };
-    let packet = match rng.below(134) {
+    let packet = match rng.below(144) {
         100..=123 => any_audio(rng, marks),
         124..=133 => any_mode(rng),
+        134..=143 => any_event_status(rng),
         0..=5 => test_ready(),
         6..=13 => request_sense(short),
         14..=20 => {

@@ -1,9 +1,9 @@
 //! Pairs of a table file and a packet file for the listing program.
 
 use crate::cases::packets::{
-    any_packet, inquiry, mode_select, mode_sense, one_of_each, pause, play, position, prevent,
-    request_sense, resume, seek, start_stop, sub_channel, test_ready, toc, with_junk, Marks,
-    Packet, EJECT, LOAD,
+    any_packet, event_status, inquiry, mode_select, mode_sense, one_of_each, pause, play, position,
+    prevent, request_sense, resume, seek, start_stop, sub_channel, test_ready, toc, with_junk,
+    Marks, Packet, EJECT, LOAD,
 };
 use crate::cases::several;
 use crate::cases::sheet::{any_fit, fullest, most_sessions, three_sittings};
@@ -165,6 +165,7 @@ pub fn stored_pair(seed: u64) -> Pair {
     }
     packets.extend(audio().concat());
     packets.extend(mode().concat());
+    packets.extend(event().concat());
     packets.extend(run_of_packets(&mut rng, &marks, 700));
     packets.extend([0x12, 0, 0, 0, 36]);
     Pair { table, packets }
@@ -210,6 +211,37 @@ fn mode() -> Vec<Packet> {
     list.extend([0, 16, 8, 0, 4_096].map(mode_select));
     list.push(mode_sense(3, 0x2A, 255));
     list
+}
+
+/// K7: 4Ah with no event waiting, and with those of an eject and of a load, which
+/// are told once; short ones, other classes, and the Polled bit clear. The listing
+/// has no button, so no press under lock.
+fn event() -> Vec<Packet> {
+    let (poll, mut not_polled) = (event_status(0x18, 8), event_status(0x18, 8));
+    not_polled[1] = 0;
+    vec![
+        poll,
+        poll,
+        event_status(0x10, 8),
+        prevent(1),
+        start_stop(EJECT),
+        poll,
+        request_sense(18),
+        prevent(0),
+        start_stop(EJECT),
+        event_status(0x10, 4),
+        event_status(0x08, 8),
+        event_status(0x10, 5),
+        event_status(0x10, 8),
+        start_stop(LOAD),
+        not_polled,
+        request_sense(18),
+        event_status(0x07, 8),
+        event_status(0x00, 3),
+        poll,
+        test_ready(),
+        event_status(0xFF, 65_535),
+    ]
 }
 
 /// K6: for each rule from 1 on a table that breaks it alone, three packets that

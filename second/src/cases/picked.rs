@@ -2,8 +2,8 @@
 
 use crate::cases::stream::Stream;
 use crate::cases::{
-    picked_audio, picked_codes, picked_fields, picked_mode, picked_power, picked_state,
-    picked_tables,
+    picked_audio, picked_codes, picked_event, picked_fields, picked_mode, picked_power,
+    picked_state, picked_tables,
 };
 
 /// Every hand-picked case, from the very start of a run.
@@ -75,6 +75,23 @@ pub fn all(stream: &mut Stream) {
     picked_mode::page_restored(stream);
     picked_mode::list_unused(stream);
     picked_mode::mode_while_playing(stream);
+    picked_event::marked_event(stream);
+    picked_event::every_class(stream);
+    picked_event::event_lengths(stream);
+    picked_event::event_bits(stream);
+    picked_event::not_polled(stream);
+    picked_event::events_placed(stream);
+    picked_event::every_event_held(stream);
+    picked_event::event_in_order(stream);
+    picked_event::event_while_pending(stream);
+    picked_event::event_senses(stream);
+    picked_event::event_unfit(stream);
+    picked_event::presses_under_lock(stream);
+    picked_event::eject_under_lock(stream);
+    picked_event::tray_events(stream);
+    picked_event::latest_event(stream);
+    picked_event::event_power_on(stream);
+    picked_event::event_kept(stream);
 }
 
 /// Kinds 8 and 9 at all boundaries.

@@ -16,14 +16,15 @@ type Fields = [u8; 11];
 /// A block of the disc, which is data. READ(10) names 12 blocks and READ(12)
 /// 3,077, and PLAY may not; an eject, or the lock off; READ TOC by M:S:F, format
 /// 0, 12 bytes; a pause; 42h without SubQ; MODE SENSE of no page, MODE SELECT of a
-/// list that nobody lends; 18 of any other answer that is cut.
+/// list that nobody lends; 4Ah with the Polled bit clear; 18 of any other answer
+/// that is cut.
 const ON_THE_DISC: Fields = [
     0x02, 0x00, 0x00, 0x12, 0x34, 0x00, 0x00, 0x0C, 0x05, 0xA5, 0x5A,
 ];
 
 /// A block past the end of any disc, which SEEK, PLAY and both READs refuse. LoEj 0
-/// and Start 1, or the lock on; the field that INQUIRY refuses; READ TOC format
-/// 2, session 1.
+/// and Start 1, or the lock on; the field that INQUIRY refuses and 4Ah wants, of no
+/// class that is supported; READ TOC format 2, session 1.
 const PAST_THE_END: Fields = [
     0x01, 0x02, 0x00, 0x01, 0x01, 0x01, 0x00, 0x28, 0x00, 0x5A, 0xA5,
 ];
@@ -67,7 +68,7 @@ pub fn every_row(stream: &mut Stream) {
 
 /// With the power attention pending, the change attention and both, no sense
 /// held; then with both and a sense held. Step 2 comes before step 3, so only
-/// the rows of INQUIRY and REQUEST SENSE show here.
+/// the rows of INQUIRY, REQUEST SENSE and 4Ah show here.
 pub fn every_row_told(stream: &mut Stream) {
     stream.table(&one_long_track().bytes());
     let power = State::READY.power_on_without_change();

@@ -254,8 +254,14 @@ pub fn memories(stream: &mut Stream) {
 /// 594 descriptors, comes whole; the allocation length alone cuts it.
 pub fn longest_answer(stream: &mut Stream) {
     stream.table(&fullest().bytes());
-    for memory in [6_537, 6_538, 8_191] {
-        for length in [6_537, 6_538, 6_539, 65_535] {
+    let lengths = [6_537, 6_538, 6_539, 65_535];
+    for (memory, lengths) in [
+        (6_537, &lengths[..]),
+        (6_538, &lengths),
+        (8_191, &lengths[..1]),
+        (8_191, &lengths[3..]),
+    ] {
+        for &length in lengths {
             stream.memory(memory, 0x9B);
             stream.packet_from(State::READY, &toc(false, 2, (length % 2) as u8, length));
         }

@@ -2,15 +2,16 @@
 
 use crate::address::to_msf;
 use crate::cases::packets::{
-    any_audio, any_list, any_mode, any_packet, capacity, mode_select, mode_sense, one_of_each,
-    pause, play, position, read12, seek, start_stop, test_ready, toc, with_junk, Marks, EJECT,
-    LOAD,
+    any_audio, any_event_status, any_list, any_mode, any_packet, capacity, event_status,
+    mode_select, mode_sense, one_of_each, pause, play, position, prevent, read12, request_sense,
+    seek, start_stop, test_ready, toc, with_junk, Marks, EJECT, LOAD,
 };
 use crate::cases::picked_state::{strangers, MEMORY};
 use crate::cases::sheet::{any_fit, fit, longest, small_fit, Sheet};
 use crate::cases::spoil::{any_broken, spoil};
 use crate::cases::stream::Stream;
 use crate::drive::State;
+use crate::events::NO_EVENT;
 use crate::limits::TOP_ADDRESS;
 use crate::mode_page::{ModePage, SETTINGS};
 use crate::play::{Play, STATUSES};
@@ -26,7 +27,7 @@ pub fn fill(stream: &mut Stream, rng: &mut Rng, calls: usize) {
 }
 
 fn scene(stream: &mut Stream, rng: &mut Rng) {
-    match rng.below(76) {
+    match rng.below(82) {
         0..=11 => disc_scene(stream, rng),
         12..=18 => trace_scene(stream, rng),
         19..=27 => spoilt_scene(stream, rng),
@@ -40,6 +41,7 @@ fn scene(stream: &mut Stream, rng: &mut Rng) {
         41..=46 => power_on_scene(stream, rng),
         47..=55 => audio_scene(stream, rng),
         70..=75 => mode_scene(stream, rng),
+        76..=81 => event_scene(stream, rng),
         _ => broken_scene(stream, rng),
     }
 }
@@ -123,6 +125,22 @@ fn any_page(rng: &mut Rng) -> ModePage {
     ModePage::new(recovery, rng.byte())
 }
 
+/// A media event (K7), none in half of the cases.
+fn sound_event(rng: &mut Rng) -> u8 {
+    if rng.one_in(2) {
+        return NO_EVENT;
+    }
+    rng.below(4) as u8
+}
+
+/// Any byte in the event's place, or the first that 2 covers.
+fn any_event(rng: &mut Rng) -> u8 {
+    match rng.one_in(2) {
+        true => 4,
+        false => rng.byte(),
+    }
+}
+
 fn any_state(rng: &mut Rng, marks: &Marks) -> State {
     State {
         tray_open: rng.one_in(2),
@@ -141,11 +159,16 @@ fn any_state(rng: &mut Rng, marks: &Marks) -> State {
         } else {
             sound_page(rng)
         },
+        event: if rng.one_in(12) {
+            any_event(rng)
+        } else {
+            sound_event(rng)
+        },
     }
 }
 
 /// Loaded, mostly with nothing pending, with a sense of the thirteen, a sound
-/// play record and a sound page.
+/// play record, a sound page and an event from 0 to 3.
 fn loaded_state(rng: &mut Rng, marks: &Marks) -> State {
     State {
         lock: rng.one_in(3),
@@ -158,6 +181,7 @@ fn loaded_state(rng: &mut Rng, marks: &Marks) -> State {
         },
         play: sound_play(rng, marks),
         mode: sound_page(rng),
+        event: sound_event(rng),
         ..State::READY
     }
 }
@@ -210,12 +234,14 @@ pub fn trace_scene(stream: &mut Stream, rng: &mut Rng) {
         sense: sense::NONE,
         play: sound_play(rng, &marks),
         mode: sound_page(rng),
+        event: sound_event(rng),
         ..any_state(rng, &marks)
     });
     for _ in 0..rng.range(20, 80) {
-        match rng.below(23) {
+        match rng.below(25) {
             20 | 21 => stream.move_on(any_step(rng)),
             22 => select(stream, rng),
+            23 | 24 => stream.packet(&any_event_status(rng)),
             0 => any_power_on(stream, rng),
             1..=3 => stream.button(),
             4 => stream.lay(),
@@ -473,6 +499,57 @@ fn another_page(stream: &mut Stream, rng: &mut Rng, marks: &Marks) {
         let mode = any_page(rng);
         stream.state(State { mode, ..state });
         stream.packet(&any_mode(rng));
+        stream.button();
+    }
+    stream.state(state);
+}
+
+/// The lab's polling (K7): the tray opened and closed by button and packet, pressed
+/// under lock, with a disc and without, and 4Ah between, power-ons and tellings too.
+pub fn event_scene(stream: &mut Stream, rng: &mut Rng) {
+    let marks = lend(stream, &small_fit(rng));
+    stream.state(any_sound_state(rng, &marks));
+    for _ in 0..rng.range(12, 36) {
+        match rng.below(24) {
+            0..=3 => stream.button(),
+            4 => stream.packet(&start_stop(EJECT)),
+            5 => stream.packet(&start_stop(LOAD)),
+            6 => rng.pick(&[Stream::lay, Stream::lift])(stream),
+            7..=9 => locked_press(stream, rng),
+            10..=14 => stream.packet(&any_event_status(rng)),
+            15..=17 => stream.packet(&event_status(0x18, 8)),
+            18 => another_event(stream, rng, &marks),
+            19 => tray_or_power(stream, rng),
+            20 => stream.packet(&test_ready()),
+            21 => stream.packet(&request_sense(18)),
+            22 => stream.packet(&rng.pick(&one_of_each())),
+            _ => stream.packet(&any_packet(rng, &marks)),
+        }
+    }
+}
+
+/// The lock on, told first where something is pending, and a press; most often it
+/// is asked for what it made, and the lock taken off.
+fn locked_press(stream: &mut Stream, rng: &mut Rng) {
+    for _ in 0..rng.range(1, 2) {
+        stream.packet(&prevent(1));
+    }
+    stream.button();
+    if rng.below(4) > 0 {
+        stream.packet(&any_event_status(rng));
+    }
+    if rng.below(3) > 0 {
+        stream.packet(&prevent(0));
+    }
+}
+
+/// An event set outright; now and then one that 2 covers, until another is set.
+fn another_event(stream: &mut Stream, rng: &mut Rng, marks: &Marks) {
+    let state = any_sound_state(rng, marks);
+    if rng.one_in(3) {
+        let event = any_event(rng);
+        stream.state(State { event, ..state });
+        stream.packet(&any_event_status(rng));
         stream.button();
     }
     stream.state(state);

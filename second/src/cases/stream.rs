@@ -36,7 +36,7 @@ impl Stream {
         ];
         let numbers = [state.play.position, state.play.end].map(u32::to_be_bytes);
         let page = [state.mode.recovery, state.mode.retries];
-        let parts = [&body, numbers.as_flattened(), &page];
+        let parts = [&body, numbers.as_flattened(), &page, &[state.event]];
         self.record(replay::STATE, &parts.concat());
     }
 
