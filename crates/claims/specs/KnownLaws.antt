@@ -48,8 +48,8 @@ use Rattle.audio.specs.Audio.{started, resumed, pauseResume}
 use Rattle.audio.specs.SubChannel.{reported}
 use Rattle.mode.specs.ModeSenseLaws.{modeSense-ways}
 use Rattle.mode.specs.ModeSelectLaws.{modeSelect-ways}
-use Rattle.event.specs.Answer.{isTelling}
-use Rattle.event.specs.AnswerLaws.{getEvent-ways}
+use Rattle.event.specs.EventAnswer.{isTelling}
+use Rattle.event.specs.EventAnswerLaws.{getEvent-ways}
 use Rattle.target.specs.Perform.{L, work, perform}
 use Rattle.target.specs.Packet.{refusalOf, answer as replyTo}
 use Rattle.claims.specs.UnitLaws.{Kind, asks, frees, orders, reply, meets, nextOf}

@@ -7,7 +7,7 @@ use lib.Dec.{eqb}
 use Rattle.ground.specs.Tests.{_and_, _or_}
 use Rattle.drive.specs.declared.state.Deck.{Deck}
 use Rattle.command.specs.Command.{codeOf}
-use Rattle.event.specs.Answer.{isTelling}
+use Rattle.event.specs.EventAnswer.{isTelling}
 use Rattle.claims.specs.Telling.{isGood}
 use Rattle.claims.specs.Call.{Call, powering, pressing, laying, lifting, movingOn, packet, Happening, isPressing, movesTray, isLoading}
 

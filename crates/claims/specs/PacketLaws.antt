@@ -28,8 +28,8 @@ use Rattle.audio.specs.Audio.{started, pauseResume}
 use Rattle.mode.specs.ModeSense.{modeBytes}
 use Rattle.mode.specs.ModeSenseLaws.{modeSense-ways}
 use Rattle.mode.specs.ModeSelectLaws.{modeSelect-ways}
-use Rattle.event.specs.Answer.{isTelling, getEvent}
-use Rattle.event.specs.AnswerLaws.{getEvent-ways}
+use Rattle.event.specs.EventAnswer.{isTelling, getEvent}
+use Rattle.event.specs.EventAnswerLaws.{getEvent-ways}
 use Rattle.target.specs.Perform.{work, perform}
 use Rattle.target.specs.Packet.{steps, refusalOf, answer as replyTo}
 use Rattle.target.specs.PacketLaws.{stepsOf}

@@ -22,8 +22,8 @@ use Rattle.gate.specs.Gate.{gate}
 use Rattle.command.specs.Command.{decode}
 use Rattle.command.specs.Done.{answering}
 use Rattle.command.specs.Tray.{eject, load, startStop}
-use Rattle.event.specs.Class.{waiting, orElse, classFor}
-use Rattle.event.specs.Answer.{mediaStatus, eventOf, statusOf, eventBytes, cleared}
+use Rattle.event.specs.EventClass.{waiting, orElse, classFor}
+use Rattle.event.specs.EventAnswer.{mediaStatus, eventOf, statusOf, eventBytes, cleared}
 use Rattle.target.specs.Perform.{perform}
 use Rattle.target.specs.Packet.{refusalOf, answer}
 use Rattle.claims.specs.Marked.{loadedE, Outcome, gives, fails, refuses, sameBytes, sameOutcome}

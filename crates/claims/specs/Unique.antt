@@ -64,8 +64,8 @@ use Rattle.audio.specs.SubChannel.{subAsk, subBad, positionBytes, statusBytes, 
 use Rattle.mode.specs.declared.mode_sense.Shown.{Shown}
 use Rattle.mode.specs.ModeSense.{pageShown, modeBytes}
 use Rattle.mode.specs.ModeSelect.{modeSelect}
-use Rattle.event.specs.Class.{classFor}
-use Rattle.event.specs.Answer.{classBytes, noneBytes, eventBytes, cleared}
+use Rattle.event.specs.EventClass.{classFor}
+use Rattle.event.specs.EventAnswer.{classBytes, noneBytes, eventBytes, cleared}
 use Rattle.toc.specs.Answer.{tocBytes, tocBad}
 use Rattle.outcome.specs.declared.Outcome.{Outcome}
 use Rattle.outcome.specs.Outcome.{Answered, refused, checked, granted, finished}

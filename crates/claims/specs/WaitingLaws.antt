@@ -19,7 +19,7 @@ use Rattle.gate.specs.Gate.{Result, fails, goes, Reply, gate, pass}
 use Rattle.command.specs.declared.decode.Command.{Command}
 use Rattle.command.specs.Command.{decode, codeOf}
 use Rattle.command.specs.Class.{classOf}
-use Rattle.event.specs.Answer.{isTelling}
+use Rattle.event.specs.EventAnswer.{isTelling}
 use Rattle.target.specs.Perform.{perform}
 use Rattle.target.specs.Packet.{refusalOf, answer as replyTo}
 use Rattle.claims.specs.Telling.{Answer, answerOf, isGood}

@@ -34,7 +34,7 @@ use Rattle.tracks.specs.Track.{trackOf}
 use Rattle.audio.specs.SubChannel.{subAskIn}
 use Rattle.audio.specs.SubChannelLaws.{subBytes-length}
 use Rattle.mode.specs.ModeSenseLaws.{modeSense-ways}
-use Rattle.event.specs.AnswerLaws.{getEvent-ways}
+use Rattle.event.specs.EventAnswerLaws.{getEvent-ways}
 use Rattle.target.specs.ReadToc.{formatIn, msfIn, numberIn}
 use Rattle.target.specs.Perform.{L, work, perform}
 use Rattle.target.specs.PerformLaws.{fullOf, startStop-quiet, seek-quiet, ranged-quiet, pauseResume-quiet, modeSelect-quiet}

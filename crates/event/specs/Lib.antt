@@ -1,4 +1,4 @@
-pub mod Class
-pub mod ClassLaws
-pub mod Answer
-pub mod AnswerLaws
+pub mod EventClass
+pub mod EventClassLaws
+pub mod EventAnswer
+pub mod EventAnswerLaws

@@ -3,18 +3,18 @@ use crate::perform::answer;
 use command::done::Done;
 use command::field::bit0;
 use drive::state::Deck;
-use event::answer::class_bytes;
-use event::answer::cleared;
-use event::answer::none_bytes;
-use event::class::NO_CLASS;
-use event::class::class_for;
+use event::event_answer::class_bytes;
+use event::event_answer::cleared;
+use event::event_answer::none_bytes;
+use event::event_class::NO_CLASS;
+use event::event_class::class_for;
 use ground::number::word16;
 ghost use mathlib.Core.Path.{_≡_};
 ghost use Prim.Native.Nat.{_≤_};
 ghost use lib.ListN.{length};
 ghost use Rattle.table.specs.Layout.{bound};
 ghost use Rattle.command.specs.Command.{byte, lengthIn};
-ghost use Rattle.event.specs.Answer.{getEvent};
+ghost use Rattle.event.specs.EventAnswer.{getEvent};
 ghost use Rattle.target.specs.Perform.{Performed};
 
 // A packet that does not poll is a bad field; else the class picked is answered, cut to the allocation length.

@@ -1,6 +1,6 @@
 -- `target::get_event::get_event` meets its contract: the two forms of the answer are those that the class picks, and each is laid, cut to the
 -- allocation length.
-use Rattle.event.specs.AnswerLaws.{eventBytes-none, eventBytes-class}
+use Rattle.event.specs.EventAnswerLaws.{eventBytes-none, eventBytes-class}
 use borrow.Author.Needs.{needs}
 use Rattle.target.proofs.get_event.get_event.Statement.{statement}
 use Rattle.target.proofs.get_event.get_event.Tie as tie

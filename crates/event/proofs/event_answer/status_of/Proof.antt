@@ -1,11 +1,11 @@
--- `event::answer::status_of` meets its contract: media reports its status, any other class 0.
+-- `event::event_answer::status_of` meets its contract: media reports its status, any other class 0.
 use mathlib.Core.Path.{sym, _∙_}
 use borrow.Author.Tests.{eq-eqb, ne-eqb}
 use Rattle.ground.specs.Tests.{when, unless}
-use Rattle.event.specs.Answer.{statusOf}
+use Rattle.event.specs.EventAnswer.{statusOf}
 use borrow.Author.Needs.{needs}
-use Rattle.event.proofs.answer.status_of.Statement.{statement}
-use Rattle.event.proofs.answer.status_of.Tie as tie
+use Rattle.event.proofs.event_answer.status_of.Statement.{statement}
+use Rattle.event.proofs.event_answer.status_of.Tie as tie
 
 returns : tie.Need-returns
 unfolding statusOf

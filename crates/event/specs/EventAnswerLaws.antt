@@ -14,8 +14,8 @@ use Rattle.gate.specs.declared.fault.Fault.the-variants.{BadField}
 use Rattle.gate.specs.Gate.{Result, fails, goes}
 use Rattle.command.specs.Command.{byte, bit0}
 use Rattle.command.specs.Done.{answering}
-use Rattle.event.specs.Class.{media, noClass, classFor}
-use Rattle.event.specs.Answer.{classBytes, noneBytes, eventBytes, cleared, isTelling, getEvent}
+use Rattle.event.specs.EventClass.{media, noClass, classFor}
+use Rattle.event.specs.EventAnswer.{classBytes, noneBytes, eventBytes, cleared, isTelling, getEvent}
 
 module _ (class : ℕ) (m : Deck) where
   pub eventBytes-none : class ≡ noClass → eventBytes class m ≡ noneBytes

@@ -1,10 +1,10 @@
--- `event::answer::event_of` meets its contract: media reports the event, any other class 0.
+-- `event::event_answer::event_of` meets its contract: media reports the event, any other class 0.
 use mathlib.Core.Path.{sym}
 use borrow.Author.Tests.{eq-eqb, ne-eqb}
 use Rattle.ground.specs.Tests.{when, unless}
-use Rattle.event.specs.Answer.{eventOf}
-use Rattle.event.proofs.answer.event_of.Statement.{statement}
-use Rattle.event.proofs.answer.event_of.Tie as tie
+use Rattle.event.specs.EventAnswer.{eventOf}
+use Rattle.event.proofs.event_answer.event_of.Statement.{statement}
+use Rattle.event.proofs.event_answer.event_of.Tie as tie
 
 returns : tie.Need-returns
 unfolding eventOf

@@ -1,9 +1,9 @@
--- `event::answer::media_status` meets its contract: each bit is tested where the definition tests it.
+-- `event::event_answer::media_status` meets its contract: each bit is tested where the definition tests it.
 use mathlib.Core.Path.{sym, _∙_}
 use Rattle.ground.specs.Tests.{when, unless}
-use Rattle.event.specs.Answer.{mediaStatus}
-use Rattle.event.proofs.answer.media_status.Statement.{statement}
-use Rattle.event.proofs.answer.media_status.Tie as tie
+use Rattle.event.specs.EventAnswer.{mediaStatus}
+use Rattle.event.proofs.event_answer.media_status.Statement.{statement}
+use Rattle.event.proofs.event_answer.media_status.Tie as tie
 
 returns : tie.Need-returns
 unfolding mediaStatus

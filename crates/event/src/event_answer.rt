@@ -1,12 +1,12 @@
 // The bytes of GET EVENT STATUS NOTIFICATION's answer, and what is left waiting after it.
-use crate::class::MEDIA;
-use crate::class::SUPPORTED;
+use crate::event_class::MEDIA;
+use crate::event_class::SUPPORTED;
 use drive::state::Deck;
 use drive::state::NO_EVENT;
 ghost use mathlib.Core.Path.{_≡_};
 ghost use Prim.Native.Nat.{min};
 ghost use lib.ListN.{length};
-ghost use Rattle.event.specs.Answer.{mediaStatus, eventOf, statusOf, classBytes, noneBytes, eventBytes, cleared};
+ghost use Rattle.event.specs.EventAnswer.{mediaStatus, eventOf, statusOf, classBytes, noneBytes, eventBytes, cleared};
 
 // How many bytes of a media answer tell the event.
 const TELLING: usize = 5;

@@ -1,11 +1,11 @@
--- `event::class::class_for` meets its contract: each way out is one law of the definition.
+-- `event::event_class::class_for` meets its contract: each way out is one law of the definition.
 use mathlib.Core.Path.{sym, ap, _∙_}
 use lib.Bits.{bitAnd}
-use Rattle.event.specs.Class.{supported, lowest}
-use Rattle.event.specs.ClassLaws.{classFor-all, classFor-having}
+use Rattle.event.specs.EventClass.{supported, lowest}
+use Rattle.event.specs.EventClassLaws.{classFor-all, classFor-having}
 use borrow.Author.Needs.{needs}
-use Rattle.event.proofs.class.class_for.Statement.{statement}
-use Rattle.event.proofs.class.class_for.Tie as tie
+use Rattle.event.proofs.event_class.class_for.Statement.{statement}
+use Rattle.event.proofs.event_class.class_for.Tie as tie
 
 returns : tie.Need-returns
 returns c = c .lowest .ensures ∙ sym (classFor-all _ _ (rw (c .before .before .waiting .ensures) at (c .before .if1 .taken)))

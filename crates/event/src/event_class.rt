@@ -1,7 +1,7 @@
 // The class that GET EVENT STATUS NOTIFICATION answers; bit n of a byte is class n.
 use drive::state::NO_EVENT;
 ghost use mathlib.Core.Path.{_≡_};
-ghost use Rattle.event.specs.Class.{waiting, lowest, classFor};
+ghost use Rattle.event.specs.EventClass.{waiting, lowest, classFor};
 
 // External request and media.
 pub const SUPPORTED: u8 = 0x18;

@@ -1,10 +1,10 @@
--- `event::answer::cleared` meets its contract: each way out is one law of the definition.
+-- `event::event_answer::cleared` meets its contract: each way out is one law of the definition.
 use mathlib.Core.Path.{sym, _∙_}
 use native.Mathlib.Omega.{arith}
-use Rattle.event.specs.AnswerLaws.{cleared-media, cleared-short, cleared-other}
+use Rattle.event.specs.EventAnswerLaws.{cleared-media, cleared-short, cleared-other}
 use borrow.Author.Needs.{needs}
-use Rattle.event.proofs.answer.cleared.Statement.{statement}
-use Rattle.event.proofs.answer.cleared.Tie as tie
+use Rattle.event.proofs.event_answer.cleared.Statement.{statement}
+use Rattle.event.proofs.event_answer.cleared.Tie as tie
 
 returns : tie.Need-returns
 returns c = let h = c .if2 .taken in sym (cleared-short _ _ _ (omega arith))

@@ -10,7 +10,7 @@ use Rattle.drive.specs.State.{noEvent, withEvent}
 use Rattle.gate.specs.Gate.{Result}
 use Rattle.command.specs.Command.{byte, bit0}
 use Rattle.command.specs.Done.{answering}
-use Rattle.event.specs.Class.{media, supported, noClass, classFor}
+use Rattle.event.specs.EventClass.{media, supported, noClass, classFor}
 
 -- "status (bit 1 disc in, bit 0 tray open)"
 unfoldable pub mediaStatus : Deck → ℕ
