@@ -4,8 +4,6 @@ use mathlib.Core.Bool.{Bool, true, false, true≢false}
 use mathlib.Core.List.{List}
 use Prim.Native.Nat.{ℕ}
 use lib.Dec.{eqb}
-use borrow.Author.Tests.{eqb-true}
-use Rattle.ground.specs.Tests.{either}
 use Rattle.drive.specs.declared.state.Unit.{Unit}
 use Rattle.drive.specs.declared.state.Deck.{Deck}
 use Rattle.drive.specs.declared.state.Drive.{Drive}
@@ -16,6 +14,7 @@ use Rattle.command.specs.declared.decode.Kind.{Kind}
 use Rattle.command.specs.declared.decode.Kind.the-variants.{Asks, Passes, Gates}
 use Rattle.command.specs.Command.{decode, codeOf, kindOf}
 use Rattle.command.specs.Class.{classOf}
+use Rattle.command.specs.ClassLaws.{decode-is}
 use Rattle.target.specs.Perform.{work, perform}
 use Rattle.target.specs.Packet.{stepsBy, answer as replyTo}
 
@@ -25,18 +24,8 @@ isSelect c = eqb (classOf c) 15
 
 -- its code is 55h, and no other
 decode-select : (n : ℕ) → eqb n 0x55 ≡ isSelect (decode n)
-unfolding decode classOf
-decode-select n =
-    either P _ (at 0x00) (λ _. either P _ (at 0x03) (λ _. either P _ (at 0x12) (λ _. either P _ (at 0x1B) (λ _. either P _ (at 0x1E) (λ _.
-    either P _ (at 0x25) (λ _. either P _ (at 0x28) (λ _. either P _ (at 0x2B) (λ _. either P _ (at 0x43) (λ _. either P _ (at 0xA8) (λ _.
-    either P _ (at 0x45) (λ _. either P _ (at 0x4B) (λ _. either P _ (at 0x42) (λ _. either P _ (at 0x5A) (λ _. either P _ (at 0x55) (λ h.
-    either P _ (at 0x4A) (λ _. h))))))))))))))))
-  where
-    P : Command → Type 0
-    P c = eqb n 0x55 ≡ isSelect c
-
-    at : (k : ℕ) → eqb n k ≡ true → eqb n 0x55 ≡ eqb k 0x55
-    at k h = rw (eqb-true n k h)
+unfolding classOf
+decode-select = decode-is ModeSelect refl
 
 module _ (k l : List ℕ) where
   work-unlisted : (c : Command) (p : List ℕ) (m : Deck) (t : List ℕ) → isSelect c ≡ false → work c p m t k ≡ work c p m t l

@@ -20,6 +20,7 @@ use Rattle.command.specs.declared.decode.Command.{Command}
 use Rattle.command.specs.declared.decode.Command.the-variants.{TestUnitReady, RequestSense, Inquiry, StartStop, Prevent, ReadCapacity, Read10, Seek, ReadToc, Read12, PlayAudio, PauseResume, ReadSubChannel, ModeSense, ModeSelect, GetEvent, Unknown}
 use Rattle.command.specs.Command.{decode, byte, bit0, codeOf, lengthIn, needsDisc, loEj, start}
 use Rattle.command.specs.Class.{classOf}
+use Rattle.command.specs.ClassLaws.{decode-is}
 use Rattle.command.specs.Tray.{moving, eject, load, startStop}
 use Rattle.command.specs.Done.{done, answering}
 use Rattle.blocks.specs.Range.{ranged}
@@ -37,24 +38,9 @@ use Rattle.claims.specs.Telling.{anyPending}
 use Rattle.claims.specs.UnitLaws.{Kind, asks, frees, orders, isAsking, reply, meets, nextOf, loadingOf, Honest, gate-blind}
 use Rattle.claims.specs.Call.{closed, isRequestSense, isNeeding}
 
+-- the command is REQUEST SENSE
 abbrev isRequest : Command → Bool
-isRequest TestUnitReady = false
-isRequest RequestSense = true
-isRequest Inquiry = false
-isRequest StartStop = false
-isRequest Prevent = false
-isRequest ReadCapacity = false
-isRequest Read10 = false
-isRequest Seek = false
-isRequest ReadToc = false
-isRequest Read12 = false
-isRequest PlayAudio = false
-isRequest PauseResume = false
-isRequest ReadSubChannel = false
-isRequest ModeSense = false
-isRequest ModeSelect = false
-isRequest GetEvent = false
-isRequest Unknown = false
+isRequest c = eqb (classOf c) 2
 
 -- a command that is "performed even with an attention pending" and tells none: it needs no disc, and looks at neither table nor list
 pub record Free (c : Command) : Type 0 where
@@ -64,11 +50,11 @@ pub record Free (c : Command) : Type 0 where
   pub needs : (p : List ℕ) → needsDisc c p ≡ false
 
 inquiry-free : Free Inquiry
-unfolding perform _and_ if_then_else_
+unfolding classOf perform _and_ if_then_else_
 inquiry-free = record { other = refl; passes = λ u m p t l. refl; blind = λ p m t t′ l l′. refl; needs = λ p. refl }
 
 getEvent-free : Free GetEvent
-unfolding perform _and_ if_then_else_
+unfolding classOf perform _and_ if_then_else_
 getEvent-free = record { other = refl; passes = λ u m p t l. refl; blind = λ p m t t′ l l′. refl; needs = λ p. refl }
 
 -- REQUEST SENSE, INQUIRY or 4Ah, or a command that meets the gate
@@ -78,6 +64,7 @@ pub data Seen : Command → Type 0 where
   ordering : {c : Command} → isRequest c ≡ false → ((u : Unit) (m : Deck) (p t l : List ℕ) → steps c u m p t l ≡ gate u m (perform c p m t l)) → Seen c
 
 pub seen : (c : Command) → Seen c
+unfolding classOf
 seen TestUnitReady = ordering refl (λ u m p t l. refl)
 seen RequestSense = asking
 seen Inquiry = freeing inquiry-free
@@ -111,6 +98,7 @@ kind-steps (freeing f) u m p t l = f .passes u m p t l
 kind-steps (ordering n g) u m p t l = g u m p t l
 
 kind-request : {c : Command} (s : Seen c) (p : List ℕ) (r : Result Deck) → isAsking (kindOf s p r) ≡ isRequest c
+unfolding classOf
 kind-request asking p r = refl
 kind-request (freeing f) p r = sym (f .other)
 kind-request (ordering n g) p r = sym n
@@ -300,19 +288,8 @@ packet-fair p m t l = kind-fair (seen (decode (codeOf p))) p m t l
 
 -- REQUEST SENSE is the code 03h
 decode-request : (n : ℕ) → eqb n 0x03 ≡ isRequest (decode n)
-unfolding decode
-decode-request n =
-    either P _ (λ h. at 0x00 h) (λ h. either P _ (λ h. h) (λ h₃. either P _ (λ h. h₃) (λ h.
-    either P _ (λ h. h₃) (λ h. either P _ (λ h. h₃) (λ h. either P _ (λ h. h₃) (λ h. either P _ (λ h. h₃) (λ h.
-    either P _ (λ h. h₃) (λ h. either P _ (λ h. h₃) (λ h. either P _ (λ h. h₃) (λ h. either P _ (λ h. h₃) (λ h.
-    either P _ (λ h. h₃) (λ h. either P _ (λ h. h₃) (λ h. either P _ (λ h. h₃) (λ h. either P _ (λ h. h₃) (λ h.
-    either P _ (λ h. h₃) (λ h. h₃))))))))))))))))
-  where
-    P : Command → Type 0
-    P c = eqb n 0x03 ≡ isRequest c
-
-    at : (k : ℕ) → eqb n k ≡ true → eqb n 0x03 ≡ eqb k 0x03
-    at k h = rw (eqb-true n k h)
+unfolding classOf
+decode-request = decode-is RequestSense refl
 
 pub packet-request : (p : List ℕ) (m : Deck) (t l : List ℕ) → isAsking (kind p m t l) ≡ isRequestSense p
 packet-request p m t l = kind-request (seen (decode (codeOf p))) p _ ∙ sym (decode-request (codeOf p))

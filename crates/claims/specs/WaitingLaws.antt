@@ -5,7 +5,6 @@ use mathlib.Core.List.{List, []}
 use Prim.Native.Nat.{ℕ, zero, suc}
 use lib.ListN.{length}
 use lib.Dec.{eqb, eqb·suc-zero}
-use borrow.Author.Tests.{eqb-true}
 use Rattle.ground.specs.Tests.{_and_, _or_, if_then_else_, either, when, unless}
 use Rattle.drive.specs.declared.sense.Sense.{Sense}
 use Rattle.drive.specs.declared.state.Unit.{Unit}
@@ -17,8 +16,10 @@ use Rattle.drive.specs.StateLaws.{powerOn-with, powerOnWithoutChange-with, butt
 use Rattle.gate.specs.Unit.{pendingOf}
 use Rattle.gate.specs.Gate.{Result, fails, goes, Reply, gate, pass}
 use Rattle.command.specs.declared.decode.Command.{Command}
+use Rattle.command.specs.declared.decode.Command.the-variants.{GetEvent}
 use Rattle.command.specs.Command.{decode, codeOf}
 use Rattle.command.specs.Class.{classOf}
+use Rattle.command.specs.ClassLaws.{decode-is}
 use Rattle.event.specs.EventAnswer.{isTelling}
 use Rattle.target.specs.Perform.{perform}
 use Rattle.target.specs.Packet.{refusalOf, answer as replyTo}
@@ -129,18 +130,8 @@ module _ (memory : List ℕ) (m : Deck) (polls : Bool) where
 
 -- 4Ah is the code of one command
 decode-poll : (n : ℕ) → eqb n 0x4A ≡ isPolling (decode n)
-unfolding decode classOf
-decode-poll n =
-    either P _ (at 0x00) (λ _. either P _ (at 0x03) (λ _. either P _ (at 0x12) (λ _. either P _ (at 0x1B) (λ _. either P _ (at 0x1E) (λ _.
-    either P _ (at 0x25) (λ _. either P _ (at 0x28) (λ _. either P _ (at 0x2B) (λ _. either P _ (at 0x43) (λ _. either P _ (at 0xA8) (λ _.
-    either P _ (at 0x45) (λ _. either P _ (at 0x4B) (λ _. either P _ (at 0x42) (λ _. either P _ (at 0x5A) (λ _. either P _ (at 0x55) (λ _.
-    either P _ (at 0x4A) (λ h. h))))))))))))))))
-  where
-    P : Command → Type 0
-    P c = eqb n 0x4A ≡ isPolling c
-
-    at : (k : ℕ) → eqb n k ≡ true → eqb n 0x4A ≡ eqb k 0x4A
-    at k h = rw (eqb-true n k h)
+unfolding classOf
+decode-poll = decode-is GetEvent refl
 
 kind-tells : {c : Command} (s : Seen c) (memory p : List ℕ) (m : Deck) (t l : List ℕ) → KindTells memory m (isPolling c) (kindOf s p (perform c p m t l))
 unfolding classOf
