@@ -35,7 +35,8 @@ pub data None {E : Type 0} (is : E → Bool) : List E → Type 0 where
   end : None is []
   but : {e : E} {h : List E} → is e ≡ false → None is h → None is (e ∷ h)
 
--- an attention stands in a history: its cause happened, and later there was no power-on and no answer that told it
+-- something stands in a history: its cause happened, and later there was no power-on and nothing that took it away; an attention's telling
+-- does that
 pub record Standing {E : Type 0} (on cause tells : E → Bool) (h : List E) : Type 0 where
   pub earlier : List E
   pub origin : E

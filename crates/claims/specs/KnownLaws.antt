@@ -48,7 +48,7 @@ use Rattle.audio.specs.Audio.{started, resumed, pauseResume}
 use Rattle.audio.specs.SubChannel.{reported}
 use Rattle.mode.specs.ModeSenseLaws.{modeSense-ways}
 use Rattle.mode.specs.ModeSelectLaws.{modeSelect-ways}
-use Rattle.event.specs.EventAnswer.{isTelling}
+use Rattle.event.specs.EventAnswer.{isClearing}
 use Rattle.event.specs.EventAnswerLaws.{getEvent-ways}
 use Rattle.target.specs.Perform.{L, work, perform}
 use Rattle.target.specs.Packet.{refusalOf, answer as replyTo}
@@ -230,7 +230,7 @@ module _ (m : Deck) (s : KnownDeck m) where
   work-known ModeSelect p t l f = modeSelect-ways (Comes m) (lengthIn p) l m s s paged s
   work-known GetEvent p t l f =
       getEvent-ways (Comes m) (lengthIn p) m (byte p 1) (byte p 4) s
-      (λ full h. either KnownDeck (isTelling full (lengthIn p)) (λ k. noted refl) (λ k. s))
+      (λ full h. either KnownDeck (isClearing full (lengthIn p)) (λ k. noted refl) (λ k. s))
   work-known Unknown p t l f = s
 
   perform-known : (c : Command) (p t l : List ℕ) → (isLoaded m ≡ true → L t ≤ last) → Comes m (perform c p m t l)

@@ -7,7 +7,7 @@ use lib.Dec.{eqb}
 use Rattle.ground.specs.Tests.{_and_, _or_}
 use Rattle.drive.specs.declared.state.Deck.{Deck}
 use Rattle.command.specs.Command.{codeOf}
-use Rattle.event.specs.EventAnswer.{isTelling}
+use Rattle.event.specs.EventAnswer.{isClearing}
 use Rattle.claims.specs.Telling.{isGood}
 use Rattle.claims.specs.Call.{Call, powering, pressing, laying, lifting, movingOn, packet, Happening, isPressing, movesTray, isLoading}
 
@@ -50,7 +50,7 @@ isPoll p = eqb (codeOf p) 0x4A
 
 -- "A media answer of at least five bytes clears the event."
 abbrev pub clears : Happening → Bool
-clears e = polls (e .call) and isGood (e .answer) and isTelling (e .answer .full) (e .answer .limit)
+clears e = polls (e .call) and isGood (e .answer) and isClearing (e .answer .full) (e .answer .limit)
   where
     polls : Call → Bool
     polls (powering f) = false

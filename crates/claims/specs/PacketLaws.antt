@@ -1,4 +1,5 @@
--- A packet on the drive is one of three kinds, refused or not; none but a closing with a disc is a loading.
+-- A packet on the drive is one of three kinds, refused or not; what each command does to tray, disc and event, and so that none but a closing
+-- with a disc is a loading.
 use mathlib.Core.Path.{_≡_, refl, sym, ap, _∙_}
 use mathlib.Core.Bool.{Bool, true, false, not, false≢true}
 use mathlib.Core.List.{List}
@@ -29,7 +30,7 @@ use Rattle.audio.specs.Audio.{started, pauseResume}
 use Rattle.mode.specs.ModeSense.{modeBytes}
 use Rattle.mode.specs.ModeSenseLaws.{modeSense-ways}
 use Rattle.mode.specs.ModeSelectLaws.{modeSelect-ways}
-use Rattle.event.specs.EventAnswer.{isTelling, getEvent}
+use Rattle.event.specs.EventAnswer.{isClearing, getEvent}
 use Rattle.event.specs.EventAnswerLaws.{getEvent-ways}
 use Rattle.target.specs.Perform.{work, perform}
 use Rattle.target.specs.Packet.{steps, refusalOf, answer as replyTo}
@@ -160,18 +161,18 @@ still : (m : Deck) → Still m m
 still m = record { tray = refl; disc = refl; event = refl }
 
 -- a result of a command on the deck m, where `polls` says that it is 4Ah: it fails, keeps all three, moves the tray, or clears the event
-pub data Tells (polls : Bool) (m : Deck) : Result Deck → Type 0 where
-  failing : {f : Fault} → Tells polls m (fails f)
-  keeping : {n : Deck} {full : List ℕ} {limit start count : ℕ} → Still m n → polls and isTelling full limit ≡ false
-      → Tells polls m (goes n false full limit start count)
-  closing-it : m .«tray_open» ≡ true → Tells polls m (moving (closing m))
-  opening-it : m .«tray_open» ≡ false → Tells polls m (moving (opening m))
-  clearing : {full : List ℕ} {limit : ℕ} → polls and isTelling full limit ≡ true → Tells polls m (goes (withEvent m noEvent) false full limit 0 0)
+pub data Does (polls : Bool) (m : Deck) : Result Deck → Type 0 where
+  failing : {f : Fault} → Does polls m (fails f)
+  keeping : {n : Deck} {full : List ℕ} {limit start count : ℕ} → Still m n → polls and isClearing full limit ≡ false
+      → Does polls m (goes n false full limit start count)
+  closing-it : m .«tray_open» ≡ true → Does polls m (moving (closing m))
+  opening-it : m .«tray_open» ≡ false → Does polls m (moving (opening m))
+  clearing : {full : List ℕ} {limit : ℕ} → polls and isClearing full limit ≡ true → Does polls m (goes (withEvent m noEvent) false full limit 0 0)
 
 -- any command but 4Ah
 module _ (m : Deck) where
   abbrev Other : Result Deck → Type 0
-  Other r = Tells false m r
+  Other r = Does false m r
 
   kept : (n : Deck) {full : List ℕ} {limit start count : ℕ} → Still m n → Other (goes n false full limit start count)
   unfolding _and_
@@ -190,43 +191,43 @@ module _ (m : Deck) where
   repaged : (g : Page) → Still m (withPage m g)
   repaged g = record { tray = refl; disc = refl; event = refl }
 
-  load-tells : Other (load m)
+  load-does : Other (load m)
   unfolding load
-  load-tells = either Other _ (λ h. closing-it h) (λ h. stays)
+  load-does = either Other _ (λ h. closing-it h) (λ h. stays)
 
-  eject-tells : Other (eject m)
+  eject-does : Other (eject m)
   unfolding eject
-  eject-tells = either Other _ (λ h. stays) (λ h. either Other _ (λ k. failing) (λ k. opening-it h))
+  eject-does = either Other _ (λ h. stays) (λ h. either Other _ (λ k. failing) (λ k. opening-it h))
 
-  startStop-tells : (b : ℕ) → Other (startStop b m)
+  startStop-does : (b : ℕ) → Other (startStop b m)
   unfolding startStop
-  startStop-tells b = either Other _ (λ h. either Other _ (λ k. load-tells) (λ k. eject-tells)) (λ h. stays)
+  startStop-does b = either Other _ (λ h. either Other _ (λ k. load-does) (λ k. eject-does)) (λ h. stays)
 
-  answering-tells : (bad : Bool) (n : Deck) (full : List ℕ) (limit : ℕ) → Still m n → Other (answering bad n full limit)
+  answering-does : (bad : Bool) (n : Deck) (full : List ℕ) (limit : ℕ) → Still m n → Other (answering bad n full limit)
   unfolding answering
-  answering-tells bad n full limit s = either Other bad (λ h. failing) (λ h. kept n s)
+  answering-does bad n full limit s = either Other bad (λ h. failing) (λ h. kept n s)
 
-  ranged-tells : (all : Bool) (a n l : ℕ) (r : Result Deck) → Other r → Other (ranged all a n l r)
+  ranged-does : (all : Bool) (a n l : ℕ) (r : Result Deck) → Other r → Other (ranged all a n l r)
   unfolding ranged
-  ranged-tells all a n l r f = either Other _ (λ h. either Other all (λ k. f) (λ k. failing)) (λ h. failing)
+  ranged-does all a n l r f = either Other _ (λ h. either Other all (λ k. f) (λ k. failing)) (λ h. failing)
 
-  seek-tells : (a l : ℕ) → Other (seek a l m)
+  seek-does : (a l : ℕ) → Other (seek a l m)
   unfolding seek
-  seek-tells a l = either Other _ (λ h. failing) (λ h. kept _ (replayed _))
+  seek-does a l = either Other _ (λ h. failing) (λ h. kept _ (replayed _))
 
   started-still : (a n : ℕ) → Still m (started a n m)
   unfolding started
   started-still a n = either (Still m) _ (λ h. still m) (λ h. replayed _)
 
-  pauseResume-tells : (resume : Bool) → Other (pauseResume resume m)
+  pauseResume-does : (resume : Bool) → Other (pauseResume resume m)
   unfolding pauseResume
-  pauseResume-tells resume = either Other _ (λ h. failing) (λ h. kept _ (replayed _))
+  pauseResume-does resume = either Other _ (λ h. failing) (λ h. kept _ (replayed _))
 
-  getEvent-tells : (b1 asked limit : ℕ) → Tells true m (getEvent b1 asked limit m)
+  getEvent-does : (b1 asked limit : ℕ) → Does true m (getEvent b1 asked limit m)
   unfolding _and_
-  getEvent-tells b1 asked limit = getEvent-ways (Tells true m) limit m b1 asked failing (λ full h. by-telling full (isTelling full limit) refl)
+  getEvent-does b1 asked limit = getEvent-ways (Does true m) limit m b1 asked failing (λ full h. by-telling full (isClearing full limit) refl)
     where
-      by-telling : (full : List ℕ) (b : Bool) → isTelling full limit ≡ b → Tells true m (goes (if isTelling full limit then withEvent m noEvent else m) false full limit 0 0)
+      by-telling : (full : List ℕ) (b : Bool) → isClearing full limit ≡ b → Does true m (goes (if isClearing full limit then withEvent m noEvent else m) false full limit 0 0)
       by-telling full true h = rw (when {A = Deck} _ (withEvent m noEvent) m h) (clearing h)
       by-telling full false h = rw (unless {A = Deck} _ (withEvent m noEvent) m h) (keeping (still m) h)
 
@@ -234,33 +235,33 @@ module _ (m : Deck) where
 abbrev pub isPolling : Command → Bool
 isPolling c = eqb (classOf c) 16
 
-work-tells : (c : Command) (p : List ℕ) (m : Deck) (t l : List ℕ) → Tells (isPolling c) m (work c p m t l)
+work-does : (c : Command) (p : List ℕ) (m : Deck) (t l : List ℕ) → Does (isPolling c) m (work c p m t l)
 unfolding classOf
-work-tells TestUnitReady p m t l = stays m
-work-tells RequestSense p m t l = stays m
-work-tells Inquiry p m t l = answering-tells m _ m _ _ (still m)
-work-tells StartStop p m t l = startStop-tells m (byte p 4)
-work-tells Prevent p m t l = kept m _ (relocked m (bit0 (byte p 4)))
-work-tells ReadCapacity p m t l = answering-tells m _ m _ _ (still m)
-work-tells Read10 p m t l = ranged-tells m _ _ _ _ _ (kept m _ (replayed m _))
-work-tells Seek p m t l = seek-tells m _ _
-work-tells ReadToc p m t l = answering-tells m _ m _ _ (still m)
-work-tells Read12 p m t l = ranged-tells m _ _ _ _ _ (kept m _ (replayed m _))
-work-tells PlayAudio p m t l = ranged-tells m _ _ _ _ _ (kept m _ (started-still m _ _))
-work-tells PauseResume p m t l = pauseResume-tells m _
-work-tells ReadSubChannel p m t l = answering-tells m _ _ _ _ (replayed m _)
-work-tells ModeSense p m t l = modeSense-ways (Other m) (lengthIn p) m (byte p 2) (λ f. failing) (λ g. stays′ g)
+work-does TestUnitReady p m t l = stays m
+work-does RequestSense p m t l = stays m
+work-does Inquiry p m t l = answering-does m _ m _ _ (still m)
+work-does StartStop p m t l = startStop-does m (byte p 4)
+work-does Prevent p m t l = kept m _ (relocked m (bit0 (byte p 4)))
+work-does ReadCapacity p m t l = answering-does m _ m _ _ (still m)
+work-does Read10 p m t l = ranged-does m _ _ _ _ _ (kept m _ (replayed m _))
+work-does Seek p m t l = seek-does m _ _
+work-does ReadToc p m t l = answering-does m _ m _ _ (still m)
+work-does Read12 p m t l = ranged-does m _ _ _ _ _ (kept m _ (replayed m _))
+work-does PlayAudio p m t l = ranged-does m _ _ _ _ _ (kept m _ (started-still m _ _))
+work-does PauseResume p m t l = pauseResume-does m _
+work-does ReadSubChannel p m t l = answering-does m _ _ _ _ (replayed m _)
+work-does ModeSense p m t l = modeSense-ways (Other m) (lengthIn p) m (byte p 2) (λ f. failing) (λ g. stays′ g)
   where
     stays′ : (g : Page) → Other m (goes m false (modeBytes g) (lengthIn p) 0 0)
     stays′ g = kept m m (still m)
-work-tells ModeSelect p m t l =
+work-does ModeSelect p m t l =
     modeSelect-ways (Other m) (lengthIn p) l m failing (stays m) (λ h. kept m _ (repaged m _)) failing
-work-tells GetEvent p m t l = getEvent-tells m (byte p 1) (byte p 4) (lengthIn p)
-work-tells Unknown p m t l = failing
+work-does GetEvent p m t l = getEvent-does m (byte p 1) (byte p 4) (lengthIn p)
+work-does Unknown p m t l = failing
 
-pub perform-tells : (c : Command) (p : List ℕ) (m : Deck) (t l : List ℕ) → Tells (isPolling c) m (perform c p m t l)
+pub perform-does : (c : Command) (p : List ℕ) (m : Deck) (t l : List ℕ) → Does (isPolling c) m (perform c p m t l)
 unfolding perform
-perform-tells c p m t l = either (Tells (isPolling c) m) _ (λ h. failing) (λ h. work-tells c p m t l)
+perform-does c p m t l = either (Does (isPolling c) m) _ (λ h. failing) (λ h. work-does c p m t l)
 
 -- ---- no command but a closing is a loading
 
@@ -268,18 +269,18 @@ perform-tells c p m t l = either (Tells (isPolling c) m) _ (λ h. failing) (λ h
 abbrev Fair : Deck → Result Deck → Type 0
 Fair m r = closed m (nextOf m r) ≡ loadingOf r
 
-tells-fair : {polls : Bool} {m : Deck} {r : Result Deck} → Tells polls m r → Fair m r
+does-fair : {polls : Bool} {m : Deck} {r : Result Deck} → Does polls m r → Fair m r
 unfolding _and_
-tells-fair {m = m} failing = closed-still m
-tells-fair {m = m} (keeping s b) = rw (s .tray, s .disc) (closed-still m)
-tells-fair (closing-it h) = rw h
-tells-fair (opening-it h) = rw h
-tells-fair {m = m} (clearing b) = closed-still m
+does-fair {m = m} failing = closed-still m
+does-fair {m = m} (keeping s b) = rw (s .tray, s .disc) (closed-still m)
+does-fair (closing-it h) = rw h
+does-fair (opening-it h) = rw h
+does-fair {m = m} (clearing b) = closed-still m
 
 kind-fair : {c : Command} (s : Seen c) (p : List ℕ) (m : Deck) (t l : List ℕ) → Honest closed m (kindOf s p (perform c p m t l))
 kind-fair asking p m t l = closed-still m
-kind-fair (freeing {c} f) p m t l = (tells-fair (perform-tells c p m t l), closed-still m)
-kind-fair (ordering {c} n g) p m t l = (tells-fair (perform-tells c p m t l), closed-still m)
+kind-fair (freeing {c} f) p m t l = (does-fair (perform-does c p m t l), closed-still m)
+kind-fair (ordering {c} n g) p m t l = (does-fair (perform-does c p m t l), closed-still m)
 
 pub packet-fair : (p : List ℕ) (m : Deck) (t l : List ℕ) → Honest closed m (kind p m t l)
 packet-fair p m t l = kind-fair (seen (decode (codeOf p))) p m t l

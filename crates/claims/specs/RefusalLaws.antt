@@ -31,7 +31,8 @@ use Rattle.outcome.specs.Outcome.{stateOf}
 use Rattle.target.specs.Packet.{refusalOf, answer as replyTo}
 use Rattle.claims.specs.Telling.{Attention, Answer, answerOf, tellsTo}
 use Rattle.claims.specs.UnitLaws.{Kind, asks, frees, orders, reply, meets, only-none}
-use Rattle.claims.specs.Call.{Call, powering, pressing, laying, lifting, movingOn, packet, memoryOf, answer, next, event, isPowering, isPressing, closed, isLoading, causes, isRequestSense, tells}
+use Rattle.claims.specs.Call.{Call, powering, pressing, laying, lifting, movingOn, packet, memoryOf, answer, next, event, isPowering, closed, isLoading, causes, isRequestSense, tells}
+use Rattle.claims.specs.MediaEvent.{isPressed}
 use Rattle.claims.specs.PacketLaws.{closed-still, kind, ruleOf, reply-kind}
 use Rattle.claims.specs.DriveDevice.{causes-only}
 
@@ -77,7 +78,7 @@ meets-unchanged (suc j) rule k d m n = (refl, ap (λ (l : List ℕ). refusing (s
 
 -- what a refused call leaves of the state: a press under refusal 5 changes the event
 abbrev leaves : Call → Drive → Drive
-leaves c d = if isPressing c and eqb (answer c d .number) locked then noting d pressed else d
+leaves c d = if isPressed (event c d) then noting d pressed else d
 
 pub call-unchanged : (c : Call) (d : Drive) → (answer c d .number ≡ 0 → ⊥)
     → (next c d ≡ leaves c d) × (answer c d ≡ refusing (answer c d .number) (answer c d .rule) (memoryOf c))

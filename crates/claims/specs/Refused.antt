@@ -21,14 +21,11 @@ use Rattle.sessions.specs.Session.{inOrder}
 use Rattle.disc.specs.Rules.{rule1, rule2, eachRow, rule7, isFit}
 use Rattle.disc.specs.RulesLaws.{fault-first}
 use Rattle.disc.specs.Part.{partRefused}
-use Rattle.claims.specs.Call.{isPressing, byDefault, withoutChange, Call, powering, pressing, laying, lifting, movingOn, packet, memoryOf, answer, next}
+use Rattle.claims.specs.MediaEvent.{isPressed}
+use Rattle.claims.specs.Call.{event, byDefault, withoutChange, Call, powering, pressing, laying, lifting, movingOn, packet, memoryOf, answer, next}
 use Rattle.claims.specs.RefusalLaws.{call-unchanged, call-beside, reply-ordered, reply-broken, press-tested, press-locked, lay-tested, lift-tested, move-tested, part-parted, part-beside, part-broken, toMsf-number, toBlock-number}
 
--- K7: "A press under refusal 5"
-abbrev isRefusedPress : Call → Drive → Bool
-isRefusedPress c d = isPressing c and eqb (answer c d .number) 5
-
--- K7: it "changes that event only", to 1, "button pressed on a locked closed tray"
+-- K7: "A press under refusal 5 now changes that event only", to 1, "button pressed on a locked closed tray"
 abbrev pressedOn : Drive → Drive
 pressedOn d = record {
   unit = d .unit;
@@ -45,7 +42,7 @@ pressedOn d = record {
 -- a call with a number other than 0 leaves the state as it was, with this one exception, that a press under refusal 5 changes the event only;
 -- and it answers "status 0, 0 bytes, start 0, count 0" with the memory as it was
 pub refused-unchanged : (c : Call) (d : Drive) → (answer c d .number ≡ 0 → ⊥)
-    → (next c d ≡ (if isRefusedPress c d then pressedOn d else d))
+    → (next c d ≡ (if isPressed (event c d) then pressedOn d else d))
     × (answer c d ≡ record {
       number = answer c d .number;
       rule = answer c d .rule;

@@ -1,4 +1,4 @@
--- Over any calls: what a cause puts up, and what a power-on or an answer takes away, is up exactly when it stands in the history.
+-- Over any calls: what a cause puts up, and what a power-on or another event takes away, is up exactly when it stands in the history.
 use mathlib.Core.Path.{_≡_, refl, sym, ap, _∙_}
 use mathlib.Core.Bool.{Bool, true, false, not, true≢false}
 use mathlib.Core.List.{List, [], _∷_}
@@ -23,7 +23,7 @@ module _ {C S A : Type 0} (answer : C → S → A) (next : C → S → S) (up : 
   abbrev after : S → List C → S
   after = final answer next
 
-  -- one step: it is up after it where the step is a cause, or where it was up and neither power-on nor answer took it away
+  -- one step: it is up after it where the step is a cause, or where it was up and nothing took it away
   abbrev pub Turns : Type 0
   Turns = (c : C) (s : S) → up (next c s) ≡ cause (made c s) or (not (on (made c s)) and (not (takes (made c s)) and up s))
 

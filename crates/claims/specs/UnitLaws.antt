@@ -16,7 +16,7 @@ use Rattle.gate.specs.Unit.{hold, pendingOf, attentionSense, told, give}
 use Rattle.gate.specs.Gate.{Result, fails, goes, Reply, refuse, good, gate, pass, requestSense}
 use Rattle.claims.specs.Telling.{Attention, power, change, pending, anyPending, tripleOf, answerOf, isGood, tellsTo}
 
--- what a packet comes to, by the steps: REQUEST SENSE, INQUIRY, or any other
+-- what a packet comes to, by the steps: REQUEST SENSE, INQUIRY or 4Ah, or any other
 pub data Kind (M : Type 0) : Type 0 where
   asks : (limit : ℕ) → Kind M
   frees : Result M → Kind M

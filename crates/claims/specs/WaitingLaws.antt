@@ -1,17 +1,18 @@
--- What one call does to the media event: it is noted, cleared or left, as call and answer tell.
-use mathlib.Core.Path.{_≡_, refl, sym, ap, _∙_, subst}
+-- What one call does to the media event. It is written in four places alone, an opening, a closing, a refused press and a media answer, and
+-- each shows in call, answer or tray.
+use mathlib.Core.Path.{_≡_, refl, ap}
 use mathlib.Core.Bool.{Bool, true, false, not, true≢false}
 use mathlib.Core.List.{List, []}
 use Prim.Native.Nat.{ℕ, zero, suc}
 use lib.ListN.{length}
 use lib.Dec.{eqb, eqb·suc-zero}
-use Rattle.ground.specs.Tests.{_and_, _or_, if_then_else_, either, when, unless}
+use Rattle.ground.specs.Tests.{_and_, _or_, if_then_else_, either}
 use Rattle.drive.specs.declared.sense.Sense.{Sense}
 use Rattle.drive.specs.declared.state.Unit.{Unit}
 use Rattle.drive.specs.declared.state.Deck.{Deck}
 use Rattle.drive.specs.declared.state.Drive.{Drive}
 use Rattle.drive.specs.declared.state.Moved.{Moved}
-use Rattle.drive.specs.State.{isKnownState, loaded as loadedEvent, opened as openedEvent, opening, closing, button, lay, lift, moveOn}
+use Rattle.drive.specs.State.{isKnownState, opening, closing, button, lay, lift, moveOn}
 use Rattle.drive.specs.StateLaws.{powerOn-with, powerOnWithoutChange-with, button-unknown, button-closes, button-locked, button-opens}
 use Rattle.gate.specs.Unit.{pendingOf}
 use Rattle.gate.specs.Gate.{Result, fails, goes, Reply, gate, pass}
@@ -20,14 +21,14 @@ use Rattle.command.specs.declared.decode.Command.the-variants.{GetEvent}
 use Rattle.command.specs.Command.{decode, codeOf}
 use Rattle.command.specs.Class.{classOf}
 use Rattle.command.specs.ClassLaws.{decode-is}
-use Rattle.event.specs.EventAnswer.{isTelling}
+use Rattle.event.specs.EventAnswer.{isClearing}
 use Rattle.target.specs.Perform.{perform}
 use Rattle.target.specs.Packet.{refusalOf, answer as replyTo}
-use Rattle.claims.specs.Telling.{Answer, answerOf, isGood}
-use Rattle.claims.specs.UnitLaws.{Kind, asks, frees, orders, meets, or-none}
+use Rattle.claims.specs.Telling.{answerOf, isGood}
+use Rattle.claims.specs.UnitLaws.{Kind, asks, frees, orders, meets}
 use Rattle.claims.specs.Call.{Form, byDefault, withoutChange, Call, powering, pressing, laying, lifting, movingOn, packet, answer, next, event, isPowering, isPowerOn, closed, isLoading}
-use Rattle.claims.specs.PacketLaws.{Tells, failing, keeping, closing-it, opening-it, clearing, isPolling, perform-tells, Seen, asking, freeing, ordering, seen, kindOf, kind, ruleOf, reply-kind, closed-still}
-use Rattle.claims.specs.MediaEvent.{Media, pressed, loaded, opened, numberOf, isPressed, opensOn, isOpening, isPoll, happens, happensAny, clears, replaces}
+use Rattle.claims.specs.PacketLaws.{Does, keeping, closing-it, opening-it, clearing, isPolling, perform-does, Seen, asking, freeing, ordering, seen, kindOf, kind, ruleOf, reply-kind, closed-still}
+use Rattle.claims.specs.MediaEvent.{Media, pressed, loaded, opened, numberOf, isPressed, opensOn, isOpening, isPoll, happens, clears, replaces}
 
 -- what a call did to the event, where it was a press under refusal 5, a loading, an opening with a disc, or an answer that clears
 pub data Noted : (press load out clear : Bool) (old new : ℕ) → Type 0 where
@@ -74,10 +75,10 @@ opening-noted m h = go (m .«disc_in») refl
 
 -- the answer r of a packet to the deck m, where `polls` says that it is 4Ah
 abbrev NotedBy : Bool → List ℕ → Deck → Reply Deck → Type 0
-NotedBy polls memory m r = NotedOn (polls and isGood (answerOf memory r) and isTelling (r .full) (r .limit)) m (r .deck)
+NotedBy polls memory m r = NotedOn (polls and isGood (answerOf memory r) and isClearing (r .full) (r .limit)) m (r .deck)
 
 -- no bytes tell nothing
-telling-none : isTelling [] 0 ≡ false
+telling-none : isClearing [] 0 ≡ false
 unfolding _and_
 telling-none = refl
 
@@ -87,9 +88,9 @@ unfolding _and_
 uncleared true b m n h w = rw h w
 uncleared false b m n h w = w
 
--- GOOD, of what a command tells
-goes-noted : {polls : Bool} {m n : Deck} {loading : Bool} {full : List ℕ} {limit start count : ℕ} → Tells polls m (goes n loading full limit start count)
-    → NotedOn (polls and isTelling full limit) m n
+-- GOOD, of what a command does
+goes-noted : {polls : Bool} {m n : Deck} {loading : Bool} {full : List ℕ} {limit start count : ℕ} → Does polls m (goes n loading full limit start count)
+    → NotedOn (polls and isClearing full limit) m n
 goes-noted {m = m} (keeping s b) = rw (s .tray, s .disc, s .event, b) (still-noted m)
 goes-noted {polls} {m} (closing-it h) = uncleared polls _ m (closing m .deck) telling-none (closing-noted m h)
 goes-noted {polls} {m} (opening-it h) = uncleared polls _ m (opening m .deck) telling-none (opening-noted m h)
@@ -101,12 +102,12 @@ module _ (memory : List ℕ) (m : Deck) (polls : Bool) where
   unfolding _and_
   stays-noted good b h = uncleared polls (good and b) m m (rw h) (still-noted m)
 
-  pass-noted : (u : Unit) (r : Result Deck) → Tells polls m r → NotedBy polls memory m (pass u m r)
+  pass-noted : (u : Unit) (r : Result Deck) → Does polls m r → NotedBy polls memory m (pass u m r)
   unfolding _and_
   pass-noted u (fails f) w = stays-noted false false refl
   pass-noted u (goes n loading full limit start count) w = goes-noted w
 
-  gate-noted : (p c : Bool) (h : Sense) (r : Result Deck) → Tells polls m r →
+  gate-noted : (p c : Bool) (h : Sense) (r : Result Deck) → Does polls m r →
       let u : Unit = record { power = p; change = c; sense = h } in
       NotedBy polls memory m (gate u m r)
   unfolding gate pendingOf if_then_else_ _and_
@@ -115,13 +116,13 @@ module _ (memory : List ℕ) (m : Deck) (polls : Bool) where
   gate-noted false false h (fails f) w = stays-noted false false refl
   gate-noted false false h (goes n loading full limit start count) w = goes-noted w
 
-  -- what a packet comes to tells what it does: REQUEST SENSE, which is not 4Ah, leaves the deck
-  abbrev KindTells : Kind Deck → Type 0
-  KindTells (asks limit) = polls ≡ false
-  KindTells (frees r) = Tells polls m r
-  KindTells (orders r) = Tells polls m r
+  -- what a packet does: REQUEST SENSE, which is not 4Ah, leaves the deck
+  abbrev KindDoes : Kind Deck → Type 0
+  KindDoes (asks limit) = polls ≡ false
+  KindDoes (frees r) = Does polls m r
+  KindDoes (orders r) = Does polls m r
 
-  meets-noted : (j rule : ℕ) (k : Kind Deck) (u : Unit) → KindTells k → NotedBy polls memory m (meets j rule k u m)
+  meets-noted : (j rule : ℕ) (k : Kind Deck) (u : Unit) → KindDoes k → NotedBy polls memory m (meets j rule k u m)
   unfolding _and_
   meets-noted zero rule (asks limit) u w = rw w (still-noted m)
   meets-noted zero rule (frees r) u w = pass-noted u r w
@@ -133,11 +134,11 @@ decode-poll : (n : ℕ) → eqb n 0x4A ≡ isPolling (decode n)
 unfolding classOf
 decode-poll = decode-is GetEvent refl
 
-kind-tells : {c : Command} (s : Seen c) (memory p : List ℕ) (m : Deck) (t l : List ℕ) → KindTells memory m (isPolling c) (kindOf s p (perform c p m t l))
+kind-does : {c : Command} (s : Seen c) (memory p : List ℕ) (m : Deck) (t l : List ℕ) → KindDoes memory m (isPolling c) (kindOf s p (perform c p m t l))
 unfolding classOf
-kind-tells asking memory p m t l = refl
-kind-tells (freeing {c} f) memory p m t l = perform-tells c p m t l
-kind-tells (ordering {c} n g) memory p m t l = perform-tells c p m t l
+kind-does asking memory p m t l = refl
+kind-does (freeing {c} f) memory p m t l = perform-does c p m t l
+kind-does (ordering {c} n g) memory p m t l = perform-does c p m t l
 
 packet-noted : (p t l memory : List ℕ) (d : Drive) → NotedBy (isPoll p) memory (d .deck) (replyTo d p t l (length memory))
 packet-noted p t l memory d =
@@ -145,7 +146,7 @@ packet-noted p t l memory d =
     let c = decode (codeOf p) in
     rw (decode-poll (codeOf p), reply-kind d p t l n)
     (meets-noted memory (d .deck) (isPolling c) (refusalOf d p t n) (ruleOf d p t n) (kind p (d .deck) t l) (d .unit)
-    (kind-tells (seen c) memory p (d .deck) t l))
+    (kind-does (seen c) memory p (d .deck) t l))
 
 -- ---- the other calls
 
@@ -194,14 +195,14 @@ call-noted (packet p t l m) d h = packet-noted p t l m d
 
 -- ---- one step
 
--- the one of three
-abbrev of : Media → Bool → Bool → Bool → Bool
-of pressed p l o = p
-of loaded p l o = l
-of opened p l o = o
+-- the test of that one, of the three's
+abbrev testOf : Media → Bool → Bool → Bool → Bool
+testOf pressed p l o = p
+testOf loaded p l o = l
+testOf opened p l o = o
 
 noted-turns : (k : Media) {p l o c : Bool} {old new : ℕ} → Noted p l o c old new
-    → eqb new (numberOf k) ≡ of k p l o or (not ((p or l or o) or c) and eqb old (numberOf k))
+    → eqb new (numberOf k) ≡ testOf k p l o or (not ((p or l or o) or c) and eqb old (numberOf k))
 unfolding _or_ _and_
 noted-turns pressed by-press = refl
 noted-turns pressed by-load = refl

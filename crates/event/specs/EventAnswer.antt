@@ -41,8 +41,8 @@ unfoldable pub cleared : ℕ → ℕ → Deck → Deck
 cleared class given m = if eqb class media and leb 5 given then withEvent m noEvent else m
 
 -- the same, read off a full answer, `limit` bytes of it being asked for: it shows the class media, and at least five are given
-abbrev pub isTelling : List ℕ → ℕ → Bool
-isTelling full limit = eqb (byte full 2) media and leb 5 (min limit (length full))
+abbrev pub isClearing : List ℕ → ℕ → Bool
+isClearing full limit = eqb (byte full 2) media and leb 5 (min limit (length full))
 
 -- "Polled bit clear is 05/24/00": b1 is the packet's byte 1, asked its byte 4, limit its allocation length
 abbrev pub getEvent : ℕ → ℕ → ℕ → Deck → Result Deck

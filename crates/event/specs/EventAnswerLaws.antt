@@ -5,9 +5,9 @@ use mathlib.Core.List.{List}
 use Prim.Native.Nat.{ℕ, _≤_, _<_, min}
 use native.Mathlib.Omega.{arith}
 use lib.ListN.{length}
-use lib.Dec.{eqb, leb}
+use lib.Dec.{eqb}
 use borrow.Author.Tests.{eq-eqb, ne-eqb, eqb-true, eqb-false, le-leb, lt-leb}
-use Rattle.ground.specs.Tests.{_and_, if_then_else_, when, unless, either, and-off, and-late, and-both}
+use Rattle.ground.specs.Tests.{if_then_else_, when, unless, either, and-off, and-late, and-both}
 use Rattle.drive.specs.declared.state.Deck.{Deck}
 use Rattle.drive.specs.State.{noEvent, withEvent}
 use Rattle.gate.specs.declared.fault.Fault.the-variants.{BadField}
@@ -15,7 +15,7 @@ use Rattle.gate.specs.Gate.{Result, fails, goes}
 use Rattle.command.specs.Command.{byte, bit0}
 use Rattle.command.specs.Done.{answering}
 use Rattle.event.specs.EventClass.{media, noClass, classFor}
-use Rattle.event.specs.EventAnswer.{classBytes, noneBytes, eventBytes, cleared, isTelling, getEvent}
+use Rattle.event.specs.EventAnswer.{classBytes, noneBytes, eventBytes, cleared, isClearing, getEvent}
 
 module _ (class : ℕ) (m : Deck) where
   pub eventBytes-none : class ≡ noClass → eventBytes class m ≡ noneBytes
@@ -63,7 +63,7 @@ module _ (class : ℕ) (m : Deck) where
 
   -- so the answer tells whether it cleared the event: it shows the class media, and at least five bytes of it are given
   pub cleared-told : (limit : ℕ) → let full = eventBytes class m in
-      cleared class (min limit (length full)) m ≡ (if isTelling full limit then withEvent m noEvent else m)
+      cleared class (min limit (length full)) m ≡ (if isClearing full limit then withEvent m noEvent else m)
   unfolding cleared
   cleared-told limit = rw eventBytes-shown
 
@@ -72,7 +72,7 @@ module _ (class : ℕ) (m : Deck) where
 -- a fault, or an answer of at most eight bytes that leaves the deck, or its event cleared
 module _ (P : Result Deck → Type 0) (limit : ℕ) (m : Deck) where
   pub getEvent-ways : (b1 asked : ℕ) → P (fails BadField)
-      → ((full : List ℕ) → length full ≤ 8 → P (goes (if isTelling full limit then withEvent m noEvent else m) false full limit 0 0))
+      → ((full : List ℕ) → length full ≤ 8 → P (goes (if isClearing full limit then withEvent m noEvent else m) false full limit 0 0))
       → P (getEvent b1 asked limit m)
   unfolding answering
   getEvent-ways b1 asked f g =

@@ -8,8 +8,8 @@ ghost use Prim.Native.Nat.{min};
 ghost use lib.ListN.{length};
 ghost use Rattle.event.specs.EventAnswer.{mediaStatus, eventOf, statusOf, classBytes, noneBytes, eventBytes, cleared};
 
-// How many bytes of a media answer tell the event.
-const TELLING: usize = 5;
+// How many bytes of a media answer clear the event: the fifth shows it.
+const CLEARING: usize = 5;
 
 // The media status: a disc in is bit 1, an open tray bit 0.
 fn media_status(m: Deck) -> u8
@@ -75,7 +75,7 @@ pub fn cleared(class: u8, limit: usize, m: Deck) -> Deck
     ensures { λ r. ⌜ r ≡ cleared class (min limit (length (eventBytes class m))) m ⌝ }
 {
     if class == MEDIA {
-        if limit < TELLING {
+        if limit < CLEARING {
             return m;
         }
         return m.with_event(NO_EVENT);

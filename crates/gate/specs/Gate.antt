@@ -53,7 +53,7 @@ module _ {M : Type 0} where
   settle u m (fails f) = check (senseOf f) u m
   settle u m (goes next loading full limit start count) = good full limit start count (attend loading (clear u)) next
 
-  -- step 1: "performed even with an attention pending"; "but INQUIRY leaves it", the sense
+  -- step 1: "performed even with an attention pending"; "but INQUIRY leaves it", the sense; K7: 4Ah "leaves the sense when GOOD" too
   abbrev pub pass : Unit → M → Result M → Reply M
   pass u m (fails f) = check (senseOf f) u m
   pass u m (goes next loading full limit start count) = good full limit start count (attend loading u) next

@@ -1,7 +1,5 @@
 -- `event::event_class::class_for` meets its contract: each way out is one law of the definition.
-use mathlib.Core.Path.{sym, ap, _∙_}
-use lib.Bits.{bitAnd}
-use Rattle.event.specs.EventClass.{supported, lowest}
+use mathlib.Core.Path.{sym, _∙_}
 use Rattle.event.specs.EventClassLaws.{classFor-all, classFor-having}
 use borrow.Author.Needs.{needs}
 use Rattle.event.proofs.event_class.class_for.Statement.{statement}
