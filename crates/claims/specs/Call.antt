@@ -107,6 +107,15 @@ isPressing lifting = false
 isPressing (movingOn k) = false
 isPressing (packet p t l m) = false
 
+-- a packet whose bytes are such
+abbrev pub isPacket : (List ℕ → Bool) → Call → Bool
+isPacket such (powering f) = false
+isPacket such pressing = false
+isPacket such laying = false
+isPacket such lifting = false
+isPacket such (movingOn k) = false
+isPacket such (packet p t l m) = such p
+
 -- "Power-on (also reset)", in either form
 abbrev pub isPowerOn : Happening → Bool
 isPowerOn e = isPowering (e .call)
@@ -160,15 +169,7 @@ isRequestSense p = eqb (codeOf p) 0x03
 
 -- "no later answer told it": a packet's answer alone can tell an attention
 abbrev pub tells : Attention → Happening → Bool
-tells k e = toldBy (e .call)
-  where
-    toldBy : Call → Bool
-    toldBy (powering f) = false
-    toldBy pressing = false
-    toldBy laying = false
-    toldBy lifting = false
-    toldBy (movingOn j) = false
-    toldBy (packet p t l m) = tellsTo k (isRequestSense p) (e .old .unit) (e .answer) (e .new .unit)
+tells k e = isPacket (λ p. tellsTo k (isRequestSense p) (e .old .unit) (e .answer) (e .new .unit)) (e .call)
 
 -- ---- successes
 
@@ -188,15 +189,7 @@ isNeeding p =
 
 -- a packet that needs a disc was answered GOOD
 abbrev pub isSuccess : Happening → Bool
-isSuccess e = ofNeeding (e .call) and isGood (e .answer)
-  where
-    ofNeeding : Call → Bool
-    ofNeeding (powering f) = false
-    ofNeeding pressing = false
-    ofNeeding laying = false
-    ofNeeding lifting = false
-    ofNeeding (movingOn k) = false
-    ofNeeding (packet p t l m) = isNeeding p
+isSuccess e = isPacket isNeeding (e .call) and isGood (e .answer)
 
 -- ---- runs
 

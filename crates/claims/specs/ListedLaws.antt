@@ -17,10 +17,10 @@ use Rattle.command.specs.Class.{classOf}
 use Rattle.command.specs.ClassLaws.{decode-is}
 use Rattle.target.specs.Perform.{work, perform}
 use Rattle.target.specs.Packet.{stepsBy, answer as replyTo}
+use Rattle.claims.specs.PacketLaws.{isThe}
 
--- the command is MODE SELECT
 abbrev isSelect : Command → Bool
-isSelect c = eqb (classOf c) 15
+isSelect c = isThe ModeSelect c
 
 -- its code is 55h, and no other
 decode-select : (n : ℕ) → eqb n 0x55 ≡ isSelect (decode n)

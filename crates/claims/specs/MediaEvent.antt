@@ -1,7 +1,7 @@
 -- K7: "one media event, the latest of: 1 button pressed on a locked closed tray, 2 loading, 3 opening with a disc". What happened and what
 -- cleared it are read off calls, answers and the tray, never off the event itself.
 use Prim.Native.Nat.{ℕ}
-use mathlib.Core.Bool.{Bool, false, not}
+use mathlib.Core.Bool.{Bool, not}
 use mathlib.Core.List.{List}
 use lib.Dec.{eqb}
 use Rattle.ground.specs.Tests.{_and_, _or_}
@@ -9,7 +9,7 @@ use Rattle.drive.specs.declared.state.Deck.{Deck}
 use Rattle.command.specs.Command.{codeOf}
 use Rattle.event.specs.EventAnswer.{isClearing}
 use Rattle.claims.specs.Telling.{isGood}
-use Rattle.claims.specs.Call.{Call, powering, pressing, laying, lifting, movingOn, packet, Happening, isPressing, movesTray, isLoading}
+use Rattle.claims.specs.Call.{Happening, isPressing, isPacket, movesTray, isLoading}
 
 -- the three, and their numbers
 pub data Media : Type 0 where
@@ -50,15 +50,7 @@ isPoll p = eqb (codeOf p) 0x4A
 
 -- "A media answer of at least five bytes clears the event."
 abbrev pub clears : Happening → Bool
-clears e = polls (e .call) and isGood (e .answer) and isClearing (e .answer .full) (e .answer .limit)
-  where
-    polls : Call → Bool
-    polls (powering f) = false
-    polls pressing = false
-    polls laying = false
-    polls lifting = false
-    polls (movingOn k) = false
-    polls (packet p t l m) = isPoll p
+clears e = isPacket isPoll (e .call) and isGood (e .answer) and isClearing (e .answer .full) (e .answer .limit)
 
 -- one of the three happens, or an answer clears: what was waiting then waits no longer
 abbrev pub replaces : Happening → Bool

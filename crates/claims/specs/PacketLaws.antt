@@ -21,13 +21,12 @@ use Rattle.command.specs.declared.decode.Command.{Command}
 use Rattle.command.specs.declared.decode.Command.the-variants.{TestUnitReady, RequestSense, Inquiry, StartStop, Prevent, ReadCapacity, Read10, Seek, ReadToc, Read12, PlayAudio, PauseResume, ReadSubChannel, ModeSense, ModeSelect, GetEvent, Unknown}
 use Rattle.command.specs.Command.{decode, byte, bit0, codeOf, lengthIn, needsDisc, loEj, start}
 use Rattle.command.specs.Class.{classOf}
-use Rattle.command.specs.ClassLaws.{decode-is}
+use Rattle.command.specs.ClassLaws.{codeFor, decode-is}
 use Rattle.command.specs.Tray.{moving, eject, load, startStop}
 use Rattle.command.specs.Done.{done, answering}
 use Rattle.blocks.specs.Range.{ranged}
 use Rattle.blocks.specs.Blocks.{seek}
 use Rattle.audio.specs.Audio.{started, pauseResume}
-use Rattle.mode.specs.ModeSense.{modeBytes}
 use Rattle.mode.specs.ModeSenseLaws.{modeSense-ways}
 use Rattle.mode.specs.ModeSelectLaws.{modeSelect-ways}
 use Rattle.event.specs.EventAnswer.{isClearing, getEvent}
@@ -39,9 +38,12 @@ use Rattle.claims.specs.Telling.{anyPending}
 use Rattle.claims.specs.UnitLaws.{Kind, asks, frees, orders, isAsking, reply, meets, nextOf, loadingOf, Honest, gate-blind}
 use Rattle.claims.specs.Call.{closed, isRequestSense, isNeeding}
 
--- the command is REQUEST SENSE
+-- the command c is k
+abbrev pub isThe : Command → Command → Bool
+isThe k c = eqb (classOf c) (classOf k)
+
 abbrev isRequest : Command → Bool
-isRequest c = eqb (classOf c) 2
+isRequest c = isThe RequestSense c
 
 -- a command that is "performed even with an attention pending" and tells none: it needs no disc, and looks at neither table nor list
 pub record Free (c : Command) : Type 0 where
@@ -225,15 +227,14 @@ module _ (m : Deck) where
 
   getEvent-does : (b1 asked limit : ℕ) → Does true m (getEvent b1 asked limit m)
   unfolding _and_
-  getEvent-does b1 asked limit = getEvent-ways (Does true m) limit m b1 asked failing (λ full h. by-telling full (isClearing full limit) refl)
+  getEvent-does b1 asked limit = getEvent-ways (Does true m) limit m b1 asked failing (λ full h. by-clearing full (isClearing full limit) refl)
     where
-      by-telling : (full : List ℕ) (b : Bool) → isClearing full limit ≡ b → Does true m (goes (if isClearing full limit then withEvent m noEvent else m) false full limit 0 0)
-      by-telling full true h = rw (when {A = Deck} _ (withEvent m noEvent) m h) (clearing h)
-      by-telling full false h = rw (unless {A = Deck} _ (withEvent m noEvent) m h) (keeping (still m) h)
+      by-clearing : (full : List ℕ) (b : Bool) → isClearing full limit ≡ b → Does true m (goes (if isClearing full limit then withEvent m noEvent else m) false full limit 0 0)
+      by-clearing full true h = rw (when {A = Deck} _ (withEvent m noEvent) m h) (clearing h)
+      by-clearing full false h = rw (unless {A = Deck} _ (withEvent m noEvent) m h) (keeping (still m) h)
 
--- the command is 4Ah
 abbrev pub isPolling : Command → Bool
-isPolling c = eqb (classOf c) 16
+isPolling c = isThe GetEvent c
 
 work-does : (c : Command) (p : List ℕ) (m : Deck) (t l : List ℕ) → Does (isPolling c) m (work c p m t l)
 unfolding classOf
@@ -250,10 +251,7 @@ work-does Read12 p m t l = ranged-does m _ _ _ _ _ (kept m _ (replayed m _))
 work-does PlayAudio p m t l = ranged-does m _ _ _ _ _ (kept m _ (started-still m _ _))
 work-does PauseResume p m t l = pauseResume-does m _
 work-does ReadSubChannel p m t l = answering-does m _ _ _ _ (replayed m _)
-work-does ModeSense p m t l = modeSense-ways (Other m) (lengthIn p) m (byte p 2) (λ f. failing) (λ g. stays′ g)
-  where
-    stays′ : (g : Page) → Other m (goes m false (modeBytes g) (lengthIn p) 0 0)
-    stays′ g = kept m m (still m)
+work-does ModeSense p m t l = modeSense-ways (Other m) (lengthIn p) m (byte p 2) (λ f. failing) (λ g. kept m m (still m))
 work-does ModeSelect p m t l =
     modeSelect-ways (Other m) (lengthIn p) l m failing (stays m) (λ h. kept m _ (repaged m _)) failing
 work-does GetEvent p m t l = getEvent-does m (byte p 1) (byte p 4) (lengthIn p)
@@ -295,23 +293,42 @@ decode-request = decode-is RequestSense refl
 pub packet-request : (p : List ℕ) (m : Deck) (t l : List ℕ) → isAsking (kind p m t l) ≡ isRequestSense p
 packet-request p m t l = kind-request (seen (decode (codeOf p))) p _ ∙ sym (decode-request (codeOf p))
 
-decode-needs : (n : ℕ) (b : Bool) (p : List ℕ) → b ≡ not (loEj p) and start p
-    → eqb n 0x00 or eqb n 0x25 or eqb n 0x28 or eqb n 0x2B or eqb n 0x43 or eqb n 0xA8 or eqb n 0x45 or eqb n 0x4B or eqb n 0x42 or eqb n 0x1B and b ≡ needsDisc (decode n) p
-unfolding decode _or_ _and_
-decode-needs n b p e =
-    either P _ (λ h. rw h) (λ h0. either P _ (λ h. rw (eqb-true n _ h)) (λ h3. either P _ (λ h. rw (eqb-true n _ h)) (λ h12.
-    either P _ (λ h. rw (eqb-true n _ h) e) (λ h1B. either P _ (λ h. rw (eqb-true n _ h)) (λ h1E. either P _ (λ h. rw (eqb-true n _ h)) (λ h25.
-    either P _ (λ h. rw (eqb-true n _ h)) (λ h28. either P _ (λ h. rw (eqb-true n _ h)) (λ h2B. either P _ (λ h. rw (eqb-true n _ h)) (λ h43.
-    either P _ (λ h. rw (eqb-true n _ h)) (λ hA8. either P _ (λ h. rw (eqb-true n _ h)) (λ h45. either P _ (λ h. rw (eqb-true n _ h)) (λ h4B.
-    either P _ (λ h. rw (eqb-true n _ h)) (λ h42. either P _ (λ h. rw (eqb-true n _ h)) (λ h5A. either P _ (λ h. rw (eqb-true n _ h)) (λ h55.
-    either P _ (λ h. rw (eqb-true n _ h)) (λ h4A. rw (h0, h1B, h25, h28, h2B, h43, hA8, h45, h4B, h42)))))))))))))))))
+-- those that need a disc, by name
+class-needs : (c : Command) (p : List ℕ)
+    → isThe TestUnitReady c or isThe ReadCapacity c or isThe Read10 c or isThe Seek c or isThe ReadToc c or isThe Read12 c or isThe PlayAudio c or isThe PauseResume c or isThe ReadSubChannel c or isThe StartStop c and not (loEj p) and start p
+    ≡ needsDisc c p
+unfolding classOf _or_ _and_
+class-needs TestUnitReady p = refl
+class-needs RequestSense p = refl
+class-needs Inquiry p = refl
+class-needs StartStop p = refl
+class-needs Prevent p = refl
+class-needs ReadCapacity p = refl
+class-needs Read10 p = refl
+class-needs Seek p = refl
+class-needs ReadToc p = refl
+class-needs Read12 p = refl
+class-needs PlayAudio p = refl
+class-needs PauseResume p = refl
+class-needs ReadSubChannel p = refl
+class-needs ModeSense p = refl
+class-needs ModeSelect p = refl
+class-needs GetEvent p = refl
+class-needs Unknown p = refl
+
+-- and by code
+code-needs : (n : ℕ) (p : List ℕ)
+    → eqb n 0x00 or eqb n 0x25 or eqb n 0x28 or eqb n 0x2B or eqb n 0x43 or eqb n 0xA8 or eqb n 0x45 or eqb n 0x4B or eqb n 0x42 or eqb n 0x1B and not (loEj p) and start p
+    ≡ needsDisc (decode n) p
+unfolding classOf
+code-needs n p = rw (by TestUnitReady refl, by ReadCapacity refl, by Read10 refl, by Seek refl, by ReadToc refl, by Read12 refl, by PlayAudio refl, by PauseResume refl, by ReadSubChannel refl, by StartStop refl) (class-needs (decode n) p)
   where
-    P : Command → Type 0
-    P c = eqb n 0x00 or eqb n 0x25 or eqb n 0x28 or eqb n 0x2B or eqb n 0x43 or eqb n 0xA8 or eqb n 0x45 or eqb n 0x4B or eqb n 0x42 or eqb n 0x1B and b ≡ needsDisc c p
+    by : (c : Command) → eqb (classOf c) 0 ≡ false → eqb n (codeFor c) ≡ isThe c (decode n)
+    by c u = decode-is c u n
 
 pub packet-needs : (p : List ℕ) → isNeeding p ≡ needsDisc (decode (codeOf p)) p
 unfolding isNeeding
-packet-needs p = decode-needs (codeOf p) _ p refl
+packet-needs p = code-needs (codeOf p) p
 
 pub packet-orders : (p : List ℕ) (m : Deck) (t l : List ℕ) → isNeeding p ≡ true → (r : Result Deck) × (kind p m t l ≡ orders r)
 packet-orders p m t l h = (_, kind-needs (seen (decode (codeOf p))) p _ (sym (packet-needs p) ∙ h))

@@ -26,7 +26,7 @@ use Rattle.target.specs.Perform.{perform}
 use Rattle.target.specs.Packet.{refusalOf, answer as replyTo}
 use Rattle.claims.specs.Telling.{answerOf, isGood}
 use Rattle.claims.specs.UnitLaws.{Kind, asks, frees, orders, meets}
-use Rattle.claims.specs.Call.{Form, byDefault, withoutChange, Call, powering, pressing, laying, lifting, movingOn, packet, answer, next, event, isPowering, isPowerOn, closed, isLoading}
+use Rattle.claims.specs.Call.{Form, byDefault, withoutChange, Call, powering, pressing, laying, lifting, movingOn, packet, next, event, isPowering, isPowerOn, closed, isLoading}
 use Rattle.claims.specs.PacketLaws.{Does, keeping, closing-it, opening-it, clearing, isPolling, perform-does, Seen, asking, freeing, ordering, seen, kindOf, kind, ruleOf, reply-kind, closed-still}
 use Rattle.claims.specs.MediaEvent.{Media, pressed, loaded, opened, numberOf, isPressed, opensOn, isOpening, isPoll, happens, clears, replaces}
 

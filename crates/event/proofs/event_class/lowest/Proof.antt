@@ -1,5 +1,4 @@
 -- `event::event_class::lowest` meets its contract: a byte has at most eight trailing zeros, which fit.
-use native.Mathlib.Omega.{arith}
 use Rattle.event.specs.EventClassLaws.{lowest-small}
 use borrow.Author.Needs.{needs}
 use Rattle.event.proofs.event_class.lowest.Statement.{statement}

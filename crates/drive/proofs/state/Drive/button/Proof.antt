@@ -1,6 +1,6 @@
 -- `drive::state::Drive::button` meets its contract: each way out is one case of the button's laws.
 use mathlib.Core.Path.{sym, ap, _∙_}
-use Rattle.drive.specs.State.{locked, opening, closing, shift, withDeck, moves, refuse}
+use Rattle.drive.specs.State.{locked, shift, withDeck, moves, refuse}
 use Rattle.drive.specs.StateLaws.{button-closes, button-locked, button-opens, button-unknown}
 use borrow.Author.Needs.{needs}
 use Rattle.drive.proofs.state.Drive.button.Statement.{statement}
