@@ -52,7 +52,7 @@ use Rattle.event.specs.EventAnswer.{isClearing}
 use Rattle.event.specs.EventAnswerLaws.{getEvent-ways}
 use Rattle.target.specs.Perform.{L, work, perform}
 use Rattle.target.specs.Packet.{refusalOf, answer as replyTo}
-use Rattle.claims.specs.UnitLaws.{Kind, asks, frees, orders, reply, meets, nextOf}
+use Rattle.claims.specs.UnitLaws.{Kind, asks, frees, orders, reply, meets, nextOf, comesTo, reply-keeps}
 use Rattle.claims.specs.Call.{Form, byDefault, withoutChange, Call, powering, pressing, laying, lifting, movingOn, packet, answer, next, final}
 use Rattle.claims.specs.PacketLaws.{Seen, asking, freeing, ordering, seen, kindOf, kind, ruleOf, reply-kind}
 use Rattle.claims.specs.RefusalLaws.{refusal-ordered, reply-ordered, press-tested, lay-tested, lift-tested, move-tested}
@@ -103,29 +103,6 @@ module _ {M : Type 0} where
   meets-known : (j rule : ℕ) (k : Kind M) (u : Unit) (m : M) → isKnown (u .sense) ≡ true → isKnown (meets j rule k u m .unit .sense) ≡ true
   meets-known zero rule k u m h = reply-known k u m h
   meets-known (suc j) rule k u m h = h
-
-  -- ---- the deck: what holds of it and of what a packet comes to holds of the answer's
-
-  gate-keeps : (P : M → Type 0) (p c : Bool) (h : Sense) (m : M) (r : Result M) → P m → P (nextOf m r) →
-      let u : Unit = record { power = p; change = c; sense = h } in
-      P (gate u m r .deck)
-  unfolding gate pendingOf if_then_else_
-  gate-keeps P true c h m r a b = a
-  gate-keeps P false true h m r a b = a
-  gate-keeps P false false h m (fails f) a b = a
-  gate-keeps P false false h m (goes next loading full limit start count) a b = b
-
-  -- what a packet comes to, of the deck alone
-  abbrev comesTo : M → Kind M → M
-  comesTo m (asks limit) = m
-  comesTo m (frees r) = nextOf m r
-  comesTo m (orders r) = nextOf m r
-
-  reply-keeps : (P : M → Type 0) (k : Kind M) (u : Unit) (m : M) → P m → P (comesTo m k) → P (reply k u m .deck)
-  reply-keeps P (asks limit) u m a b = a
-  reply-keeps P (frees (fails f)) u m a b = a
-  reply-keeps P (frees (goes next loading full limit start count)) u m a b = b
-  reply-keeps P (orders r) u m a b = gate-keeps P (u .power) (u .change) (u .sense) m r a b
 
 -- ---- the deck
 

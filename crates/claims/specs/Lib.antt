@@ -7,6 +7,7 @@ pub mod Whole
 pub mod Known
 pub mod Listed
 pub mod Waiting
+pub mod Cancel
 pub mod Marked
 pub mod Played
 pub mod Paged
@@ -21,6 +22,7 @@ pub mod Telling
 pub mod History
 pub mod MediaEvent
 pub mod Stepped
+pub mod Differing
 -- their proofs: over any device, over any deck, for the drive
 pub mod Runs
 pub mod Stands
@@ -34,4 +36,5 @@ pub mod WholeLaws
 pub mod KnownLaws
 pub mod ListedLaws
 pub mod WaitingLaws
+pub mod CancelLaws
 pub mod AddressLaws

@@ -19,7 +19,7 @@ use Rattle.gate.specs.declared.fault.Fault.{Fault}
 use Rattle.gate.specs.Gate.{Result, fails, goes, refuse, gate, pass}
 use Rattle.command.specs.declared.decode.Command.{Command}
 use Rattle.command.specs.declared.decode.Command.the-variants.{TestUnitReady, RequestSense, Inquiry, StartStop, Prevent, ReadCapacity, Read10, Seek, ReadToc, Read12, PlayAudio, PauseResume, ReadSubChannel, ModeSense, ModeSelect, GetEvent, Unknown}
-use Rattle.command.specs.Command.{decode, byte, bit0, codeOf, lengthIn, needsDisc, loEj, start}
+use Rattle.command.specs.Command.{decode, byte, bit0, bit1, codeOf, lengthIn, needsDisc, loEj, start}
 use Rattle.command.specs.Class.{classOf}
 use Rattle.command.specs.ClassLaws.{codeFor, decode-is}
 use Rattle.command.specs.Tray.{moving, eject, load, startStop}
@@ -162,25 +162,23 @@ pub record Still (m n : Deck) : Type 0 where
 still : (m : Deck) → Still m m
 still m = record { tray = refl; disc = refl; event = refl }
 
--- a result of a command on the deck m, where `polls` says that it is 4Ah: it fails, keeps all three, moves the tray, or clears the event
-pub data Does (polls : Bool) (m : Deck) : Result Deck → Type 0 where
-  failing : {f : Fault} → Does polls m (fails f)
+-- a result of a command on the deck m, where `trays` says that it is 1Bh with LoEj 1, and `polls` that it is 4Ah: it fails, keeps all three,
+-- moves the tray, or clears the event
+pub data Does (trays polls : Bool) (m : Deck) : Result Deck → Type 0 where
+  failing : {f : Fault} → Does trays polls m (fails f)
   keeping : {n : Deck} {full : List ℕ} {limit start count : ℕ} → Still m n → polls and isClearing full limit ≡ false
-      → Does polls m (goes n false full limit start count)
-  closing-it : m .«tray_open» ≡ true → Does polls m (moving (closing m))
-  opening-it : m .«tray_open» ≡ false → Does polls m (moving (opening m))
-  clearing : {full : List ℕ} {limit : ℕ} → polls and isClearing full limit ≡ true → Does polls m (goes (withEvent m noEvent) false full limit 0 0)
+      → Does trays polls m (goes n false full limit start count)
+  closing-it : trays ≡ true → m .«tray_open» ≡ true → Does trays polls m (moving (closing m))
+  opening-it : trays ≡ true → m .«tray_open» ≡ false → Does trays polls m (moving (opening m))
+  clearing : {full : List ℕ} {limit : ℕ} → polls and isClearing full limit ≡ true → Does trays polls m (goes (withEvent m noEvent) false full limit 0 0)
 
 -- any command but 4Ah
 module _ (m : Deck) where
-  abbrev Other : Result Deck → Type 0
-  Other r = Does false m r
-
-  kept : (n : Deck) {full : List ℕ} {limit start count : ℕ} → Still m n → Other (goes n false full limit start count)
+  kept : {trays : Bool} (n : Deck) {full : List ℕ} {limit start count : ℕ} → Still m n → Does trays false m (goes n false full limit start count)
   unfolding _and_
   kept n s = keeping s refl
 
-  stays : Other (done m)
+  stays : {trays : Bool} → Does trays false m (done m)
   stays = kept m (still m)
 
   -- another lock, play record or page
@@ -193,17 +191,27 @@ module _ (m : Deck) where
   repaged : (g : Page) → Still m (withPage m g)
   repaged g = record { tray = refl; disc = refl; event = refl }
 
-  load-does : Other (load m)
-  unfolding load
-  load-does = either Other _ (λ h. closing-it h) (λ h. stays)
+  module _ (trays : Bool) where
+    abbrev Traying : Result Deck → Type 0
+    Traying r = Does trays false m r
 
-  eject-does : Other (eject m)
-  unfolding eject
-  eject-does = either Other _ (λ h. stays) (λ h. either Other _ (λ k. failing) (λ k. opening-it h))
+    load-does : trays ≡ true → Traying (load m)
+    unfolding load
+    load-does w = either Traying _ (λ h. closing-it w h) (λ h. stays)
 
-  startStop-does : (b : ℕ) → Other (startStop b m)
+    eject-does : trays ≡ true → Traying (eject m)
+    unfolding eject
+    eject-does w = either Traying _ (λ h. stays) (λ h. either Traying _ (λ k. failing) (λ k. opening-it w h))
+
+  startStop-does : (b : ℕ) → Traying (bit1 b) (startStop b m)
   unfolding startStop
-  startStop-does b = either Other _ (λ h. either Other _ (λ k. load-does) (λ k. eject-does)) (λ h. stays)
+  startStop-does b =
+      let t = bit1 b in
+      either (Traying t) _ (λ h. either (Traying t) _ (λ k. load-does t h) (λ k. eject-does t h)) (λ h. stays)
+
+  -- and any but 1Bh with LoEj 1
+  abbrev Other : Result Deck → Type 0
+  Other r = Does false false m r
 
   answering-does : (bad : Bool) (n : Deck) (full : List ℕ) (limit : ℕ) → Still m n → Other (answering bad n full limit)
   unfolding answering
@@ -225,19 +233,23 @@ module _ (m : Deck) where
   unfolding pauseResume
   pauseResume-does resume = either Other _ (λ h. failing) (λ h. kept _ (replayed _))
 
-  getEvent-does : (b1 asked limit : ℕ) → Does true m (getEvent b1 asked limit m)
+  getEvent-does : (b1 asked limit : ℕ) → Does false true m (getEvent b1 asked limit m)
   unfolding _and_
-  getEvent-does b1 asked limit = getEvent-ways (Does true m) limit m b1 asked failing (λ full h. by-clearing full (isClearing full limit) refl)
+  getEvent-does b1 asked limit = getEvent-ways (Does false true m) limit m b1 asked failing (λ full h. by-clearing full (isClearing full limit) refl)
     where
-      by-clearing : (full : List ℕ) (b : Bool) → isClearing full limit ≡ b → Does true m (goes (if isClearing full limit then withEvent m noEvent else m) false full limit 0 0)
+      by-clearing : (full : List ℕ) (b : Bool) → isClearing full limit ≡ b → Does false true m (goes (if isClearing full limit then withEvent m noEvent else m) false full limit 0 0)
       by-clearing full true h = rw (when {A = Deck} _ (withEvent m noEvent) m h) (clearing h)
       by-clearing full false h = rw (unless {A = Deck} _ (withEvent m noEvent) m h) (keeping (still m) h)
 
 abbrev pub isPolling : Command → Bool
 isPolling c = isThe GetEvent c
 
-work-does : (c : Command) (p : List ℕ) (m : Deck) (t l : List ℕ) → Does (isPolling c) m (work c p m t l)
-unfolding classOf
+-- 1Bh, "byte 4 bit 1 LoEj": eject or load
+abbrev pub isTraying : Command → List ℕ → Bool
+isTraying c p = isThe StartStop c and loEj p
+
+work-does : (c : Command) (p : List ℕ) (m : Deck) (t l : List ℕ) → Does (isTraying c p) (isPolling c) m (work c p m t l)
+unfolding classOf _and_
 work-does TestUnitReady p m t l = stays m
 work-does RequestSense p m t l = stays m
 work-does Inquiry p m t l = answering-does m _ m _ _ (still m)
@@ -257,9 +269,9 @@ work-does ModeSelect p m t l =
 work-does GetEvent p m t l = getEvent-does m (byte p 1) (byte p 4) (lengthIn p)
 work-does Unknown p m t l = failing
 
-pub perform-does : (c : Command) (p : List ℕ) (m : Deck) (t l : List ℕ) → Does (isPolling c) m (perform c p m t l)
+pub perform-does : (c : Command) (p : List ℕ) (m : Deck) (t l : List ℕ) → Does (isTraying c p) (isPolling c) m (perform c p m t l)
 unfolding perform
-perform-does c p m t l = either (Does (isPolling c) m) _ (λ h. failing) (λ h. work-does c p m t l)
+perform-does c p m t l = either (Does (isTraying c p) (isPolling c) m) _ (λ h. failing) (λ h. work-does c p m t l)
 
 -- ---- no command but a closing is a loading
 
@@ -267,12 +279,12 @@ perform-does c p m t l = either (Does (isPolling c) m) _ (λ h. failing) (λ h. 
 abbrev Fair : Deck → Result Deck → Type 0
 Fair m r = closed m (nextOf m r) ≡ loadingOf r
 
-does-fair : {polls : Bool} {m : Deck} {r : Result Deck} → Does polls m r → Fair m r
+does-fair : {trays polls : Bool} {m : Deck} {r : Result Deck} → Does trays polls m r → Fair m r
 unfolding _and_
 does-fair {m = m} failing = closed-still m
 does-fair {m = m} (keeping s b) = rw (s .tray, s .disc) (closed-still m)
-does-fair (closing-it h) = rw h
-does-fair (opening-it h) = rw h
+does-fair (closing-it w h) = rw h
+does-fair (opening-it w h) = rw h
 does-fair {m = m} (clearing b) = closed-still m
 
 kind-fair : {c : Command} (s : Seen c) (p : List ℕ) (m : Deck) (t l : List ℕ) → Honest closed m (kindOf s p (perform c p m t l))

@@ -211,3 +211,32 @@ any-pending change u h = either-way (u .power)
     either-way : (b : Bool) → b or u .change ≡ true
     either-way true = refl
     either-way false = h
+
+-- ---- the deck: what holds of it and of what a packet comes to holds of the answer's
+
+module _ {M : Type 0} where
+  gate-keeps : (P : M → Type 0) (p c : Bool) (h : Sense) (m : M) (r : Result M) → P m → P (nextOf m r) →
+      let u : Unit = record { power = p; change = c; sense = h } in
+      P (gate u m r .deck)
+  unfolding gate pendingOf if_then_else_
+  gate-keeps P true c h m r a b = a
+  gate-keeps P false true h m r a b = a
+  gate-keeps P false false h m (fails f) a b = a
+  gate-keeps P false false h m (goes next loading full limit start count) a b = b
+
+  -- what a packet comes to, of the deck alone
+  abbrev pub comesTo : M → Kind M → M
+  comesTo m (asks limit) = m
+  comesTo m (frees r) = nextOf m r
+  comesTo m (orders r) = nextOf m r
+
+  pub reply-keeps : (P : M → Type 0) (k : Kind M) (u : Unit) (m : M) → P m → P (comesTo m k) → P (reply k u m .deck)
+  reply-keeps P (asks limit) u m a b = a
+  reply-keeps P (frees (fails f)) u m a b = a
+  reply-keeps P (frees (goes next loading full limit start count)) u m a b = b
+  reply-keeps P (orders r) u m a b = gate-keeps P (u .power) (u .change) (u .sense) m r a b
+
+  -- refused or not
+  pub meets-keeps : (P : M → Type 0) (n rule : ℕ) (k : Kind M) (u : Unit) (m : M) → P m → P (comesTo m k) → P (meets n rule k u m .deck)
+  meets-keeps P zero rule k u m a b = reply-keeps P k u m a b
+  meets-keeps P (suc n) rule k u m a b = a

@@ -27,7 +27,7 @@ use Rattle.target.specs.Packet.{refusalOf, answer as replyTo}
 use Rattle.claims.specs.Telling.{answerOf, isGood}
 use Rattle.claims.specs.UnitLaws.{Kind, asks, frees, orders, meets}
 use Rattle.claims.specs.Call.{Form, byDefault, withoutChange, Call, powering, pressing, laying, lifting, movingOn, packet, next, event, isPowering, isPowerOn, closed, isLoading}
-use Rattle.claims.specs.PacketLaws.{Does, keeping, closing-it, opening-it, clearing, isPolling, perform-does, Seen, asking, freeing, ordering, seen, kindOf, kind, ruleOf, reply-kind, closed-still}
+use Rattle.claims.specs.PacketLaws.{Does, keeping, closing-it, opening-it, clearing, isTraying, isPolling, perform-does, Seen, asking, freeing, ordering, seen, kindOf, kind, ruleOf, reply-kind, closed-still}
 use Rattle.claims.specs.MediaEvent.{Media, pressed, loaded, opened, numberOf, isPressed, opensOn, isOpening, isPoll, happens, clears, replaces}
 
 -- what a call did to the event, where it was a press under refusal 5, a loading, an opening with a disc, or an answer that clears
@@ -89,25 +89,26 @@ uncleared true b m n h w = rw h w
 uncleared false b m n h w = w
 
 -- GOOD, of what a command does
-goes-noted : {polls : Bool} {m n : Deck} {loading : Bool} {full : List ℕ} {limit start count : ℕ} → Does polls m (goes n loading full limit start count)
+goes-noted : {trays polls : Bool} {m n : Deck} {loading : Bool} {full : List ℕ} {limit start count : ℕ}
+    → Does trays polls m (goes n loading full limit start count)
     → NotedOn (polls and isClearing full limit) m n
 goes-noted {m = m} (keeping s b) = rw (s .tray, s .disc, s .event, b) (still-noted m)
-goes-noted {polls} {m} (closing-it h) = uncleared polls _ m (closing m .deck) telling-none (closing-noted m h)
-goes-noted {polls} {m} (opening-it h) = uncleared polls _ m (opening m .deck) telling-none (opening-noted m h)
+goes-noted {polls = polls} {m = m} (closing-it w h) = uncleared polls _ m (closing m .deck) telling-none (closing-noted m h)
+goes-noted {polls = polls} {m = m} (opening-it w h) = uncleared polls _ m (opening m .deck) telling-none (opening-noted m h)
 goes-noted {m = m} (clearing b) = rw (closed-still m, opens-still m, b) by-answer
 
-module _ (memory : List ℕ) (m : Deck) (polls : Bool) where
+module _ (memory : List ℕ) (m : Deck) (trays polls : Bool) where
   -- CHECK CONDITION or a refusal
   stays-noted : (good b : Bool) → good ≡ false → NotedOn (polls and good and b) m m
   unfolding _and_
   stays-noted good b h = uncleared polls (good and b) m m (rw h) (still-noted m)
 
-  pass-noted : (u : Unit) (r : Result Deck) → Does polls m r → NotedBy polls memory m (pass u m r)
+  pass-noted : (u : Unit) (r : Result Deck) → Does trays polls m r → NotedBy polls memory m (pass u m r)
   unfolding _and_
   pass-noted u (fails f) w = stays-noted false false refl
   pass-noted u (goes n loading full limit start count) w = goes-noted w
 
-  gate-noted : (p c : Bool) (h : Sense) (r : Result Deck) → Does polls m r →
+  gate-noted : (p c : Bool) (h : Sense) (r : Result Deck) → Does trays polls m r →
       let u : Unit = record { power = p; change = c; sense = h } in
       NotedBy polls memory m (gate u m r)
   unfolding gate pendingOf if_then_else_ _and_
@@ -119,8 +120,8 @@ module _ (memory : List ℕ) (m : Deck) (polls : Bool) where
   -- what a packet does: REQUEST SENSE, which is not 4Ah, leaves the deck
   abbrev KindDoes : Kind Deck → Type 0
   KindDoes (asks limit) = polls ≡ false
-  KindDoes (frees r) = Does polls m r
-  KindDoes (orders r) = Does polls m r
+  KindDoes (frees r) = Does trays polls m r
+  KindDoes (orders r) = Does trays polls m r
 
   meets-noted : (j rule : ℕ) (k : Kind Deck) (u : Unit) → KindDoes k → NotedBy polls memory m (meets j rule k u m)
   unfolding _and_
@@ -134,7 +135,7 @@ decode-poll : (n : ℕ) → eqb n 0x4A ≡ isPolling (decode n)
 unfolding classOf
 decode-poll = decode-is GetEvent refl
 
-kind-does : {c : Command} (s : Seen c) (memory p : List ℕ) (m : Deck) (t l : List ℕ) → KindDoes memory m (isPolling c) (kindOf s p (perform c p m t l))
+kind-does : {c : Command} (s : Seen c) (memory p : List ℕ) (m : Deck) (t l : List ℕ) → KindDoes memory m (isTraying c p) (isPolling c) (kindOf s p (perform c p m t l))
 unfolding classOf
 kind-does asking memory p m t l = refl
 kind-does (freeing {c} f) memory p m t l = perform-does c p m t l
@@ -145,7 +146,7 @@ packet-noted p t l memory d =
     let n = length memory in
     let c = decode (codeOf p) in
     rw (decode-poll (codeOf p), reply-kind d p t l n)
-    (meets-noted memory (d .deck) (isPolling c) (refusalOf d p t n) (ruleOf d p t n) (kind p (d .deck) t l) (d .unit)
+    (meets-noted memory (d .deck) (isTraying c p) (isPolling c) (refusalOf d p t n) (ruleOf d p t n) (kind p (d .deck) t l) (d .unit)
     (kind-does (seen c) memory p (d .deck) t l))
 
 -- ---- the other calls

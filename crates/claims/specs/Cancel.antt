@@ -1,0 +1,183 @@
+-- For Exercise 14, "which calls cancel": the laws, each of this drive and of its whole state, and then, computed on Disc E, the pairs that are
+-- no law, with the parts of the state that they leave changed.
+use mathlib.Core.Path.{_≡_, refl}
+use mathlib.Core.Bool.{Bool, true, false}
+use mathlib.Core.List.{List, [], _∷_, map}
+use mathlib.Core.Logic.{_↔_}
+use Prim.Native.Nat.{ℕ}
+use lib.ListN.{replicate}
+use Rattle.ground.specs.Tests.{_and_, _or_, if_then_else_, every}
+use Rattle.address.specs.Address.{isMsf}
+use Rattle.drive.specs.declared.state.Drive.{Drive}
+use Rattle.drive.specs.Sense.{triple, senseAt, sameSense, among, isKnown}
+use Rattle.play.specs.Play.{isStatus, isPlay}
+use Rattle.page.specs.Page.{among as amongBytes, isSetting}
+use Rattle.drive.specs.Unit.{attend}
+use Rattle.drive.specs.State.{isKnownState, isLoaded, withLock, withDeck, holding, showing, opening, powerOn, powerOnWithoutChange, button, lay, lift}
+use Rattle.table.specs.Layout.{bound, isTrack, isExtra}
+use Rattle.table.specs.Row.{startOf, names, simple, free, plain, headA0, headA1, headed, addressed, rowTest}
+use Rattle.sessions.specs.Session.{one, size, listed, numbered, isSession, starts, before, follows, inPlace, inOrder}
+use Rattle.disc.specs.Rules.{rule1, rule2, eachRow, rises, outBefore, beginsAfter, rising, rule7, firstBroken, lateRules, rowRules, fault, isFit}
+use Rattle.tracks.specs.Track.{nextOut, outAt, covers, wanted, nextFound, found, trackOf, isMode, inMode, allIn}
+use Rattle.gate.specs.Unit.{pendingOf}
+use Rattle.gate.specs.Gate.{gate}
+use Rattle.command.specs.Command.{decode}
+use Rattle.command.specs.Done.{answering}
+use Rattle.command.specs.Tray.{eject as ejects, load, startStop}
+use Rattle.blocks.specs.Range.{over, inRange, ranged}
+use Rattle.audio.specs.Audio.{started, isOver, pauseResume}
+use Rattle.target.specs.Perform.{perform}
+use Rattle.target.specs.Packet.{refusalOf, answer as replyTo}
+use Rattle.claims.specs.Call.{Form, byDefault, withoutChange, Call, powering, pressing, laying, lifting, packet, next, final}
+use Rattle.claims.specs.Marked.{tableE, loadedE}
+use Rattle.claims.specs.Differing.{Part, change, sense, tray, disc, lock, play, event, sameFlag, samePlay, samePage, add, differing, differing-none}
+use Rattle.claims.specs.CancelLaws.{Granted, Kept, isTray, reloaded, lay-lift, lift-lay, packet-kept, power-kept, kept-power, power-told, forms-same, forms-apart, press-press-loaded}
+
+-- ---- what cancels
+
+module _ (d : Drive) where
+  -- K8: "Laying a disc, where it isn't refused, and lifting it gives back the same state"; and the lifting is not refused
+  pub laying-lifting : Granted laying d → Granted lifting (next laying d) × (next lifting (next laying d) ≡ d)
+  laying-lifting = lay-lift d
+
+  -- the other way round too: lifting, where it isn't refused, and laying
+  pub lifting-laying : Granted lifting d → Granted laying (next lifting d) × (next laying (next lifting d) ≡ d)
+  lifting-laying = lift-lay d
+
+  -- K8: "Power-on after a packet that leaves tray and disc as they were equals power-on alone, in the same form of K3": refused or not, with
+  -- any table, list and memory
+  pub packet-powering : (f : Form) (p t l m : List ℕ) → Kept (d .deck) (next (packet p t l m) d .deck)
+      → next (powering f) (next (packet p t l m) d) ≡ next (powering f) d
+  packet-powering f p t l m = kept-power f d (next (packet p t l m) d)
+
+  -- every packet leaves them, but 1Bh with LoEj 1
+  pub packet-keeps : (p t l m : List ℕ) → isTray p ≡ false → Kept (d .deck) (next (packet p t l m) d .deck)
+  packet-keeps p t l m = packet-kept p t l m d
+
+  -- the same after any other call, and after no call that moves tray or disc
+  pub call-powering : (f : Form) (c : Call) → (next (powering f) (next c d) ≡ next (powering f) d) ↔ Kept (d .deck) (next c d .deck)
+  call-powering f c = (power-told f d (next c d), kept-power f d (next c d))
+
+  -- so of two power-ons, in any forms, the later counts alone
+  pub powering-powering : (f g : Form) → next (powering g) (next (powering f) d) ≡ next (powering g) d
+  powering-powering f g = kept-power g d (next (powering f) d) (power-kept f d)
+
+  -- and the two forms are one exactly where the drive is not loaded
+  pub powering-forms : (next (powering byDefault) d ≡ next (powering withoutChange) d) ↔ (isLoaded (d .deck) ≡ false)
+  powering-forms = (forms-apart d, forms-same d)
+
+  -- the button twice, loaded and unlocked: a loading, and all that it changes
+  pub pressing-pressing : isKnownState d ≡ true → d .deck .«tray_open» ≡ false → d .deck .lock ≡ false → d .deck .«disc_in» ≡ true
+      → next pressing (next pressing d) ≡ reloaded d
+  pressing-pressing = press-press-loaded d
+
+-- ---- what does not
+
+-- a packet with Table E, no parameter list and 6,538 bytes of response memory
+abbrev pub sent : List ℕ → Call
+sent p = packet p tableE [] (replicate bound 0x00)
+
+abbrev pub ready : Call
+ready = sent (0x00 ∷ 0x00 ∷ 0x00 ∷ 0x00 ∷ 0x00 ∷ 0x00 ∷ 0x00 ∷ 0x00 ∷ 0x00 ∷ 0x00 ∷ 0x00 ∷ 0x00 ∷ [])
+
+abbrev pub eject : Call
+eject = sent (0x1B ∷ 0x00 ∷ 0x00 ∷ 0x00 ∷ 0x02 ∷ 0x00 ∷ 0x00 ∷ 0x00 ∷ 0x00 ∷ 0x00 ∷ 0x00 ∷ 0x00 ∷ [])
+
+abbrev pub prevent : Call
+prevent = sent (0x1E ∷ 0x00 ∷ 0x00 ∷ 0x00 ∷ 0x01 ∷ 0x00 ∷ 0x00 ∷ 0x00 ∷ 0x00 ∷ 0x00 ∷ 0x00 ∷ 0x00 ∷ [])
+
+abbrev pub allow : Call
+allow = sent (0x1E ∷ 0x00 ∷ 0x00 ∷ 0x00 ∷ 0x00 ∷ 0x00 ∷ 0x00 ∷ 0x00 ∷ 0x00 ∷ 0x00 ∷ 0x00 ∷ 0x00 ∷ [])
+
+-- READ(10) 0 for 1, and PLAY 150 for 150
+abbrev pub read : Call
+read = sent (0x28 ∷ 0x00 ∷ 0x00 ∷ 0x00 ∷ 0x00 ∷ 0x00 ∷ 0x00 ∷ 0x00 ∷ 0x01 ∷ 0x00 ∷ 0x00 ∷ 0x00 ∷ [])
+
+abbrev pub playAudio : Call
+playAudio = sent (0x45 ∷ 0x00 ∷ 0x00 ∷ 0x00 ∷ 0x00 ∷ 0x96 ∷ 0x00 ∷ 0x00 ∷ 0x96 ∷ 0x00 ∷ 0x00 ∷ 0x00 ∷ [])
+
+abbrev pub pause : Call
+pause = sent (0x4B ∷ 0x00 ∷ 0x00 ∷ 0x00 ∷ 0x00 ∷ 0x00 ∷ 0x00 ∷ 0x00 ∷ 0x00 ∷ 0x00 ∷ 0x00 ∷ 0x00 ∷ [])
+
+abbrev pub resume : Call
+resume = sent (0x4B ∷ 0x00 ∷ 0x00 ∷ 0x00 ∷ 0x00 ∷ 0x00 ∷ 0x00 ∷ 0x00 ∷ 0x01 ∷ 0x00 ∷ 0x00 ∷ 0x00 ∷ [])
+
+-- "Loaded, nothing pending", and with 05/24/00 held, locked, playing, paused
+abbrev pub heldE : Drive
+heldE = record { unit = record { power = false; change = false; sense = triple 0x05 0x24 0x00 }; deck = loadedE .deck }
+
+abbrev pub lockedE : Drive
+lockedE = withDeck loadedE (withLock (loadedE .deck) true)
+
+abbrev pub playingE : Drive
+playingE = showing loadedE (record { status = 0x11; position = 160; end = 300 })
+
+abbrev pub pausedE : Drive
+pausedE = showing loadedE (record { status = 0x12; position = 160; end = 300 })
+
+-- the tray open, with the disc and without
+abbrev pub openE : Drive
+openE = withDeck loadedE (opening (loadedE .deck) .deck)
+
+abbrev pub emptyE : Drive
+emptyE = holding openE false
+
+-- from one state two runs of calls, and the parts in which the states after them differ
+pub record Instance : Type 0 where
+  pub from : Drive
+  pub calls : List Call
+  pub others : List Call
+  pub parts : List Part
+
+-- the calls, and none
+abbrev pub cancel : Drive → List Call → List Part → Instance
+cancel d cs ps = record { from = d; calls = cs; others = []; parts = ps }
+
+-- the calls, and the last of them alone
+abbrev pub only : Drive → List Call → Call → List Part → Instance
+only d cs c ps = record { from = d; calls = cs; others = c ∷ []; parts = ps }
+
+abbrev pub instances : List Instance
+instances =
+    -- 1, 2: a laying that is refused, then a lifting; a lifting that is refused, then a laying
+    cancel openE (laying ∷ lifting ∷ []) (disc ∷ [])
+    ∷ cancel emptyE (lifting ∷ laying ∷ []) (disc ∷ [])
+    -- 3 to 5, the button twice: the change attention and the event; the play record too; nothing, where all three are as after a loading
+    ∷ cancel loadedE (pressing ∷ pressing ∷ []) (change ∷ event ∷ [])
+    ∷ cancel playingE (pressing ∷ pressing ∷ []) (change ∷ play ∷ event ∷ [])
+    ∷ cancel (reloaded loadedE) (pressing ∷ pressing ∷ []) []
+    -- 6 to 8, PREVENT, then ALLOW: the held sense; the lock; nothing, where there was neither
+    ∷ cancel heldE (prevent ∷ allow ∷ []) (sense ∷ [])
+    ∷ cancel lockedE (prevent ∷ allow ∷ []) (lock ∷ [])
+    ∷ cancel loadedE (prevent ∷ allow ∷ []) []
+    -- 9, PLAY, then READ: position and end stay
+    ∷ cancel loadedE (playAudio ∷ read ∷ []) (play ∷ [])
+    -- 10, 11, pause, then resume: what was paused plays; nothing, where it was playing
+    ∷ cancel pausedE (pause ∷ resume ∷ []) (play ∷ [])
+    ∷ cancel playingE (pause ∷ resume ∷ []) []
+    -- 12, 13, two power-ons of different form, beside the first alone
+    ∷ only loadedE (powering byDefault ∷ powering withoutChange ∷ []) (powering byDefault) (change ∷ [])
+    ∷ only loadedE (powering withoutChange ∷ powering byDefault ∷ []) (powering withoutChange) (change ∷ [])
+    -- 14, 00h, then a power-on, beside a power-on in the other form
+    ∷ only loadedE (ready ∷ powering byDefault ∷ []) (powering withoutChange) (change ∷ [])
+    -- 15 to 17, an eject, in each form, and a lifting, then a power-on, beside the power-on alone
+    ∷ only loadedE (eject ∷ powering byDefault ∷ []) (powering byDefault) (change ∷ tray ∷ [])
+    ∷ only loadedE (eject ∷ powering withoutChange ∷ []) (powering withoutChange) (tray ∷ [])
+    ∷ only openE (lifting ∷ powering byDefault ∷ []) (powering byDefault) (disc ∷ [])
+    ∷ []
+
+-- the parts in which they do
+abbrev pub foundIn : Instance → List Part
+foundIn i = differing (final (i .from) (i .calls)) (final (i .from) (i .others))
+
+abbrev pub saidOf : Instance → List Part
+saidOf i = i .parts
+
+-- there are none exactly where the two states are the same
+pub found-none : (i : Instance) → (foundIn i ≡ []) ↔ (final (i .from) (i .calls) ≡ final (i .from) (i .others))
+found-none i = differing-none (final (i .from) (i .calls)) (final (i .from) (i .others))
+
+-- each instance is as it says
+pub compared : map foundIn instances ≡ map saidOf instances
+unfolding differing add sameFlag samePlay samePage _and_ _or_ if_then_else_ every isMsf senseAt sameSense among isKnown isStatus isPlay amongBytes isSetting isKnownState powerOn powerOnWithoutChange button lay lift attend isTrack isExtra startOf names simple free plain headA0 headA1 headed addressed rowTest one size listed numbered isSession starts before follows inPlace inOrder rule1 rule2 eachRow rises outBefore beginsAfter rising rule7 firstBroken lateRules rowRules fault isFit nextOut outAt covers wanted nextFound found trackOf isMode inMode allIn pendingOf gate decode answering ejects load startStop over inRange ranged started isOver pauseResume perform refusalOf replyTo
+compared = refl
