@@ -1,19 +1,20 @@
 -- For Exercise 14, "which calls cancel": the laws, each of this drive and of its whole state, and then, computed on Disc E, the pairs that are
 -- no law, with the parts of the state that they leave changed.
-use mathlib.Core.Path.{_≡_, refl}
+use mathlib.Core.Path.{_≡_, refl, _∙_}
 use mathlib.Core.Bool.{Bool, true, false}
 use mathlib.Core.List.{List, [], _∷_, map}
 use mathlib.Core.Logic.{_↔_}
 use Prim.Native.Nat.{ℕ}
 use lib.ListN.{replicate}
+use lib.Dec.{eqb}
 use Rattle.ground.specs.Tests.{_and_, _or_, if_then_else_, every}
 use Rattle.address.specs.Address.{isMsf}
 use Rattle.drive.specs.declared.state.Drive.{Drive}
 use Rattle.drive.specs.Sense.{triple, senseAt, sameSense, among, isKnown}
-use Rattle.play.specs.Play.{isStatus, isPlay}
+use Rattle.play.specs.Play.{noPlay, isStatus, isPlay}
 use Rattle.page.specs.Page.{among as amongBytes, isSetting}
 use Rattle.drive.specs.Unit.{attend}
-use Rattle.drive.specs.State.{isKnownState, isLoaded, withLock, withDeck, holding, showing, opening, powerOn, powerOnWithoutChange, button, lay, lift}
+use Rattle.drive.specs.State.{loaded, isKnownState, isLoaded, withLock, withDeck, holding, showing, opening, powerOn, powerOnWithoutChange, button, lay, lift}
 use Rattle.table.specs.Layout.{bound, isTrack, isExtra}
 use Rattle.table.specs.Row.{startOf, names, simple, free, plain, headA0, headA1, headed, addressed, rowTest}
 use Rattle.sessions.specs.Session.{one, size, listed, numbered, isSession, starts, before, follows, inPlace, inOrder}
@@ -21,17 +22,36 @@ use Rattle.disc.specs.Rules.{rule1, rule2, eachRow, rises, outBefore, beginsAft
 use Rattle.tracks.specs.Track.{nextOut, outAt, covers, wanted, nextFound, found, trackOf, isMode, inMode, allIn}
 use Rattle.gate.specs.Unit.{pendingOf}
 use Rattle.gate.specs.Gate.{gate}
-use Rattle.command.specs.Command.{decode}
+use Rattle.command.specs.Command.{decode, codeOf, loEj}
 use Rattle.command.specs.Done.{answering}
 use Rattle.command.specs.Tray.{eject as ejects, load, startStop}
 use Rattle.blocks.specs.Range.{over, inRange, ranged}
 use Rattle.audio.specs.Audio.{started, isOver, pauseResume}
 use Rattle.target.specs.Perform.{perform}
 use Rattle.target.specs.Packet.{refusalOf, answer as replyTo}
-use Rattle.claims.specs.Call.{Form, byDefault, withoutChange, Call, powering, pressing, laying, lifting, packet, next, final}
+use Rattle.claims.specs.Call.{Form, byDefault, withoutChange, Call, powering, pressing, laying, lifting, packet, answer, next, final}
 use Rattle.claims.specs.Marked.{tableE, loadedE}
 use Rattle.claims.specs.Differing.{Part, change, sense, tray, disc, lock, play, event, sameFlag, samePlay, samePage, add, differing, differing-none}
-use Rattle.claims.specs.CancelLaws.{Granted, Kept, isTray, reloaded, lay-lift, lift-lay, packet-kept, power-kept, kept-power, power-told, forms-same, forms-apart, press-press-loaded}
+use Rattle.claims.specs.CancelLaws.{lay-lift, lift-lay, packet-same, power-same, same-power, power-tells, forms-same, forms-apart, press-press}
+
+-- the call is not refused
+abbrev pub Granted : Call → Drive → Type 0
+Granted c d = answer c d .number ≡ 0
+
+-- K8: "leaves tray and disc as they were"
+abbrev pub Keeps : Call → Drive → Type 0
+Keeps c d = (next c d .deck .«tray_open» ≡ d .deck .«tray_open») × (next c d .deck .«disc_in» ≡ d .deck .«disc_in»)
+
+-- 1Bh, START/STOP UNIT, with LoEj 1: eject or load
+abbrev pub isTray : List ℕ → Bool
+isTray p = eqb (codeOf p) 0x1B and loEj p
+
+-- the drive as after a loading: the change attention pending, no play record, event 2
+abbrev pub reloaded : Drive → Drive
+reloaded d = record {
+  unit = record { power = d .unit .power; change = true; sense = d .unit .sense };
+  deck = record { «tray_open» = false; «disc_in» = true; lock = d .deck .lock; play = noPlay; page = d .deck .page; event = loaded };
+}
 
 -- ---- what cancels
 
@@ -46,30 +66,31 @@ module _ (d : Drive) where
 
   -- K8: "Power-on after a packet that leaves tray and disc as they were equals power-on alone, in the same form of K3": refused or not, with
   -- any table, list and memory
-  pub packet-powering : (f : Form) (p t l m : List ℕ) → Kept (d .deck) (next (packet p t l m) d .deck)
+  pub packet-powering : (f : Form) (p t l m : List ℕ) → Keeps (packet p t l m) d
       → next (powering f) (next (packet p t l m) d) ≡ next (powering f) d
-  packet-powering f p t l m = kept-power f d (next (packet p t l m) d)
+  packet-powering f p t l m = same-power f d (next (packet p t l m) d)
 
-  -- every packet leaves them, but 1Bh with LoEj 1
-  pub packet-keeps : (p t l m : List ℕ) → isTray p ≡ false → Kept (d .deck) (next (packet p t l m) d .deck)
-  packet-keeps p t l m = packet-kept p t l m d
+  -- every packet leaves them so, but 1Bh with LoEj 1
+  pub packet-keeps : (p t l m : List ℕ) → isTray p ≡ false → Keeps (packet p t l m) d
+  packet-keeps p t l m = packet-same p t l m d
 
-  -- the same after any other call, and after no call that moves tray or disc
-  pub call-powering : (f : Form) (c : Call) → (next (powering f) (next c d) ≡ next (powering f) d) ↔ Kept (d .deck) (next c d .deck)
-  call-powering f c = (power-told f d (next c d), kept-power f d (next c d))
+  -- and after any call: power-on equals power-on alone exactly where the call left tray and disc as they were
+  pub call-powering : (f : Form) (c : Call) → (next (powering f) (next c d) ≡ next (powering f) d) ↔ Keeps c d
+  call-powering f c = (power-tells f d (next c d), same-power f d (next c d))
 
   -- so of two power-ons, in any forms, the later counts alone
   pub powering-powering : (f g : Form) → next (powering g) (next (powering f) d) ≡ next (powering g) d
-  powering-powering f g = kept-power g d (next (powering f) d) (power-kept f d)
+  powering-powering f g = same-power g d (next (powering f) d) (power-same f d)
 
-  -- and the two forms are one exactly where the drive is not loaded
+  -- and the two forms give one state exactly where the drive is not loaded
   pub powering-forms : (next (powering byDefault) d ≡ next (powering withoutChange) d) ↔ (isLoaded (d .deck) ≡ false)
   powering-forms = (forms-apart d, forms-same d)
 
-  -- the button twice, loaded and unlocked: a loading, and all that it changes
+  -- the button twice, on a loaded drive that is not locked: a loading, and so what it changes and nothing else
   pub pressing-pressing : isKnownState d ≡ true → d .deck .«tray_open» ≡ false → d .deck .lock ≡ false → d .deck .«disc_in» ≡ true
       → next pressing (next pressing d) ≡ reloaded d
-  pressing-pressing = press-press-loaded d
+  unfolding attend if_then_else_
+  pressing-pressing k t l i = press-press d k t l ∙ rw i
 
 -- ---- what does not
 

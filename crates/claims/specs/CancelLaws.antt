@@ -1,19 +1,19 @@
--- Laying and lifting write the disc alone, and power-on reads tray and disc alone.
+-- Laying and lifting write the disc alone; power-on reads tray and disc alone; of the packets 1Bh with LoEj 1 alone moves the tray.
 use mathlib.Core.Path.{_≡_, refl, sym, ap, subst, _∙_}
 use mathlib.Core.Bool.{Bool, true, false, not, false≢true}
-use mathlib.Core.List.{List, [], _∷_}
+use mathlib.Core.List.{List}
 use Prim.Native.Nat.{ℕ}
 use lib.ListN.{length}
 use lib.Dec.{eqb}
 use borrow.Author.Tests.{eq-eqb, not-true}
-use Rattle.ground.specs.Tests.{_and_, if_then_else_, and-head, and-tail}
+use Rattle.ground.specs.Tests.{_and_, and-head, and-tail}
 use Rattle.drive.specs.declared.state.Deck.{Deck}
 use Rattle.drive.specs.declared.state.Drive.{Drive}
 use Rattle.drive.specs.declared.state.Moved.{Moved}
 use Rattle.play.specs.Play.{noPlay}
 use Rattle.page.specs.Page.{defaults}
-use Rattle.drive.specs.Unit.{poweredOn, attend}
-use Rattle.drive.specs.State.{noEvent, loaded, isKnownState, isLoaded, opening, closing, shift, holding, powerOnWith, moves, button, lay, lift}
+use Rattle.drive.specs.Unit.{poweredOn}
+use Rattle.drive.specs.State.{noEvent, isKnownState, isLoaded, opening, closing, shift, holding, powerOnWith, moves, button, lay, lift}
 use Rattle.drive.specs.StateLaws.{powerOn-with, powerOnWithoutChange-with, button-opens, button-closes, lay-lays, lift-lifts}
 use Rattle.gate.specs.Gate.{Result}
 use Rattle.command.specs.declared.decode.Command.{Command}
@@ -23,42 +23,19 @@ use Rattle.command.specs.Class.{classOf}
 use Rattle.command.specs.ClassLaws.{decode-is}
 use Rattle.target.specs.Perform.{perform}
 use Rattle.target.specs.Packet.{refusalOf}
-use Rattle.claims.specs.Call.{Form, byDefault, withoutChange, Call, powering, pressing, laying, lifting, packet, answer, next}
+use Rattle.claims.specs.Call.{Form, byDefault, withoutChange, powering, pressing, packet, next}
 use Rattle.claims.specs.UnitLaws.{nextOf, comesTo, meets-keeps}
 use Rattle.claims.specs.PacketLaws.{Does, failing, keeping, closing-it, opening-it, clearing, isTraying, isPolling, perform-does, Seen, asking, freeing, ordering, seen, kindOf, kind, ruleOf, reply-kind}
 use Rattle.claims.specs.RefusalLaws.{lay-tested, lift-tested}
 use Rattle.claims.specs.KnownLaws.{call-state}
 
--- the call is not refused
-abbrev pub Granted : Call → Drive → Type 0
-Granted c d = answer c d .number ≡ 0
-
--- K8: "leaves tray and disc as they were": the deck n has those of m
-pub record Kept (m n : Deck) : Type 0 where
-  pub tray : n .«tray_open» ≡ m .«tray_open»
-  pub disc : n .«disc_in» ≡ m .«disc_in»
-
--- 1Bh, START/STOP UNIT, with LoEj 1: eject or load
-abbrev pub isTray : List ℕ → Bool
-isTray p = eqb (codeOf p) 0x1B and loEj p
-
--- the state with the tray closed and the disc loaded anew: the change attention pending, no play record, event 2
-abbrev pub reloaded : Drive → Drive
-reloaded d = record {
-  unit = record { power = d .unit .power; change = true; sense = d .unit .sense };
-  deck = record {
-    «tray_open» = false;
-    «disc_in» = true;
-    lock = d .deck .lock;
-    play = noPlay;
-    page = d .deck .page;
-    event = loaded;
-  };
-}
+-- the deck n has the tray and the disc of m
+abbrev Same : Deck → Deck → Type 0
+Same m n = (n .«tray_open» ≡ m .«tray_open») × (n .«disc_in» ≡ m .«disc_in»)
 
 -- ---- laying and lifting
 
--- what the disc was told last is what counts
+-- what was laid or lifted last counts
 holding-last : (d : Drive) (b c : Bool) → d .deck .«disc_in» ≡ c → holding (holding d b) c ≡ d
 holding-last d b c h = λ i. holding d (sym h i)
 
@@ -66,34 +43,31 @@ holding-known : (d : Drive) (b : Bool) → isKnownState d ≡ true → isKnownSt
 unfolding isKnownState
 holding-known d b k = k
 
--- of a call that answers r, the other call undoes it: it is not refused, and gives back d
+-- where a call answered r the other one then is not refused and gives back d
 abbrev Undoes : (Drive → Moved) → Drive → Moved → Type 0
 Undoes other d r = (other (r .state) .number ≡ 0) × (other (r .state) .state ≡ d)
 
--- where it moves to a state that d stands behind
 undoes-by : (other : Drive → Moved) (d e : Drive) → other e ≡ moves d → Undoes other d (moves e)
 undoes-by other d e h = (ap (λ (r : Moved). r .number) h, ap (λ (r : Moved). r .state) h)
 
 module _ (d : Drive) where
-  pub lay-lift : Granted laying d → Granted lifting (next laying d) × (next lifting (next laying d) ≡ d)
+  pub lay-lift : lay d .number ≡ 0 → Undoes lift d (lay d)
   lay-lift n =
       let g = sym (lay-tested d .zero) ∙ eq-eqb _ _ n in
       let k = and-head _ _ g in
       let t = and-head _ _ (and-tail _ _ g) in
       let i = not-true _ (and-tail _ _ (and-tail _ _ g)) in
       let b = lift-lifts (holding d true) (holding-known d true k) t refl ∙ ap moves (holding-last d true false i) in
-      let u : Undoes lift d (lay d) = rw (lay-lays d k t i) (undoes-by lift d (holding d true) b) in
-      u
+      rw (lay-lays d k t i) (undoes-by lift d (holding d true) b)
 
-  pub lift-lay : Granted lifting d → Granted laying (next lifting d) × (next laying (next lifting d) ≡ d)
+  pub lift-lay : lift d .number ≡ 0 → Undoes lay d (lift d)
   lift-lay n =
       let g = sym (lift-tested d .zero) ∙ eq-eqb _ _ n in
       let k = and-head _ _ g in
       let t = and-head _ _ (and-tail _ _ g) in
       let i = and-tail _ _ (and-tail _ _ g) in
       let b = lay-lays (holding d false) (holding-known d false k) t refl ∙ ap moves (holding-last d false true i) in
-      let u : Undoes lay d (lift d) = rw (lift-lifts d k t i) (undoes-by lay d (holding d false) b) in
-      u
+      rw (lift-lifts d k t i) (undoes-by lay d (holding d false) b)
 
 -- ---- power-on
 
@@ -115,20 +89,18 @@ power-fresh byDefault d = powerOn-with d
 power-fresh withoutChange d = powerOnWithoutChange-with d
 
 -- equal states have one tray and disc
-same-kept : (d e : Drive) → e ≡ d → Kept (d .deck) (e .deck)
-same-kept d e h = record { tray = ap (λ (x : Drive). x .deck .«tray_open») h; disc = ap (λ (x : Drive). x .deck .«disc_in») h }
+equal-same : (d e : Drive) → e ≡ d → Same (d .deck) (e .deck)
+equal-same d e h = (ap (λ (x : Drive). x .deck .«tray_open») h, ap (λ (x : Drive). x .deck .«disc_in») h)
 
-pub power-kept : (f : Form) (d : Drive) → Kept (d .deck) (next (powering f) d .deck)
-power-kept f d = let k = same-kept (fresh f _ _) _ (power-fresh f d) in record { tray = k .tray; disc = k .disc }
+pub power-same : (f : Form) (d : Drive) → Same (d .deck) (next (powering f) d .deck)
+power-same f d = equal-same (fresh f _ _) _ (power-fresh f d)
 
 module _ (f : Form) (d e : Drive) where
-  pub kept-power : Kept (d .deck) (e .deck) → next (powering f) e ≡ next (powering f) d
-  kept-power k = power-fresh f e ∙ (λ i. fresh f (k .tray i) (k .disc i)) ∙ sym (power-fresh f d)
+  pub same-power : Same (d .deck) (e .deck) → next (powering f) e ≡ next (powering f) d
+  same-power s = power-fresh f e ∙ (λ i. fresh f (s .0 i) (s .1 i)) ∙ sym (power-fresh f d)
 
-  pub power-told : next (powering f) e ≡ next (powering f) d → Kept (d .deck) (e .deck)
-  power-told h =
-      let k = same-kept (fresh f _ _) (fresh f _ _) (sym (power-fresh f e) ∙ h ∙ power-fresh f d) in
-      record { tray = k .tray; disc = k .disc }
+  pub power-tells : next (powering f) e ≡ next (powering f) d → Same (d .deck) (e .deck)
+  power-tells h = equal-same (fresh f _ _) (fresh f _ _) (sym (power-fresh f e) ∙ h ∙ power-fresh f d)
 
 module _ (d : Drive) where
   -- the two forms differ in the change attention of a loaded drive
@@ -145,40 +117,38 @@ module _ (d : Drive) (k : isKnownState d ≡ true) (t : d .deck .«tray_open» �
   abbrev out : Drive
   out = shift d (opening (d .deck))
 
-  press-press : next pressing (next pressing d) ≡ shift out (closing (out .deck))
+  pub press-press : next pressing (next pressing d) ≡ shift out (closing (out .deck))
   press-press =
       let o = ap (λ (r : Moved). r .state) (button-opens d k t l) in
       ap (λ (x : Drive). button x .state) o
       ∙ ap (λ (r : Moved). r .state) (button-closes out (subst (λ (x : Drive). isKnownState x ≡ true) o (call-state pressing d k)) refl)
 
-  -- with a disc: a loading
-  pub press-press-loaded : d .deck .«disc_in» ≡ true → next pressing (next pressing d) ≡ reloaded d
-  unfolding attend if_then_else_
-  press-press-loaded i = press-press ∙ rw i refl
-
 -- ---- packets
 
-does-kept : {polls : Bool} {m : Deck} {r : Result Deck} → Does false polls m r → Kept m (nextOf m r)
-does-kept failing = record { tray = refl; disc = refl }
-does-kept (keeping s b) = record { tray = s .tray; disc = s .disc }
-does-kept (closing-it w h) = absurd (false≢true w)
-does-kept (opening-it w h) = absurd (false≢true w)
-does-kept (clearing b) = record { tray = refl; disc = refl }
+does-same : {polls : Bool} {m : Deck} {r : Result Deck} → Does false polls m r → Same m (nextOf m r)
+does-same failing = (refl, refl)
+does-same (keeping s b) = (s .tray, s .disc)
+does-same (closing-it w h) = absurd (false≢true w)
+does-same (opening-it w h) = absurd (false≢true w)
+does-same (clearing b) = (refl, refl)
 
 -- 1Bh is the code of one command
-decode-traying : (p : List ℕ) → isTray p ≡ isTraying (decode (codeOf p)) p
+code-traying : (p : List ℕ) → eqb (codeOf p) 0x1B and loEj p ≡ isTraying (decode (codeOf p)) p
 unfolding classOf
-decode-traying p = ap (λ (b : Bool). b and loEj p) (decode-is StartStop refl (codeOf p))
+code-traying p = ap (λ (b : Bool). b and loEj p) (decode-is StartStop refl (codeOf p))
 
-kind-kept : {c : Command} (s : Seen c) (p : List ℕ) (m : Deck) (t l : List ℕ) → isTraying c p ≡ false
-    → Kept m (comesTo m (kindOf s p (perform c p m t l)))
-kind-kept asking p m t l h = record { tray = refl; disc = refl }
-kind-kept (freeing {c} f) p m t l h = does-kept (subst (λ (b : Bool). Does b (isPolling c) m (perform c p m t l)) h (perform-does c p m t l))
-kind-kept (ordering {c} n g) p m t l h = does-kept (subst (λ (b : Bool). Does b (isPolling c) m (perform c p m t l)) h (perform-does c p m t l))
+perform-same : (c : Command) (p : List ℕ) (m : Deck) (t l : List ℕ) → isTraying c p ≡ false → Same m (nextOf m (perform c p m t l))
+perform-same c p m t l h = does-same (subst (λ (b : Bool). Does b (isPolling c) m (perform c p m t l)) h (perform-does c p m t l))
 
-pub packet-kept : (p t l m : List ℕ) (d : Drive) → isTray p ≡ false → Kept (d .deck) (next (packet p t l m) d .deck)
-packet-kept p t l m d h =
+kind-same : {c : Command} (s : Seen c) (p : List ℕ) (m : Deck) (t l : List ℕ) → isTraying c p ≡ false
+    → Same m (comesTo m (kindOf s p (perform c p m t l)))
+kind-same asking p m t l h = (refl, refl)
+kind-same (freeing {c} f) p m t l h = perform-same c p m t l h
+kind-same (ordering {c} n g) p m t l h = perform-same c p m t l h
+
+pub packet-same : (p t l m : List ℕ) (d : Drive) → eqb (codeOf p) 0x1B and loEj p ≡ false → Same (d .deck) (next (packet p t l m) d .deck)
+packet-same p t l m d h =
     let n = length m in
-    let still : Kept (d .deck) (d .deck) = record { tray = refl; disc = refl } in
-    let k = kind-kept (seen (decode (codeOf p))) p (d .deck) t l (sym (decode-traying p) ∙ h) in
-    rw (reply-kind d p t l n) (meets-keeps (Kept (d .deck)) (refusalOf d p t n) (ruleOf d p t n) (kind p (d .deck) t l) (d .unit) (d .deck) still k)
+    let k = kind-same (seen (decode (codeOf p))) p (d .deck) t l (sym (code-traying p) ∙ h) in
+    rw (reply-kind d p t l n)
+    (meets-keeps (Same (d .deck)) (refusalOf d p t n) (ruleOf d p t n) (kind p (d .deck) t l) (d .unit) (d .deck) (refl, refl) k)
