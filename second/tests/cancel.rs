@@ -1,6 +1,6 @@
 //! K8: "Exercise 14 asks which calls cancel." Laws over drawn states, packets,
 //! tables, lists and memories and over every setting of what matters; what does not
-//! cancel by exact states. Two states are the same where all of them is: attentions,
+//! cancel by exact states. Two states are the same where every part is: attentions,
 //! held sense, tray, disc, lock, play record, mode page and media event.
 
 mod common;
@@ -1055,7 +1055,7 @@ fn stored_stream_has_every_pair() {
             for number in ["1", "2", "3", "4"] {
                 assert!(has("01", number), "{code:02X} {number}");
             }
-            // REQUEST SENSE, PREVENT and READ CAPACITY have no failure of their own here.
+            // 00h, 03h, 1Eh and 25h have no failure of their own on a loaded drive.
             let fails = ![0x00, 0x03, 0x1E, 0x25].contains(&code);
             assert!(has("01", "0 02") || !fails, "{code:02X}");
             assert!(has("01", "0 00") || code == 0x47, "{code:02X}");

@@ -50,7 +50,7 @@ fn full(place: State) -> State {
     }
 }
 
-/// Records that nothing resets, and the one that a reset leaves.
+/// The record that a reset leaves, and others.
 fn records() -> [Play; 5] {
     [
         Play::NONE,
