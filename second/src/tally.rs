@@ -1,8 +1,8 @@
 //! How many broken tables a stream meets, by the rule that refusal 4 carries
 //! (K6), how many power-ons it has, by form and by what they meet (K3), how many
 //! plays, 42h and outside calls, by status (K2), how many 5Ah, by page control,
-//! and 55h, by outcome (K4), and how many 4Ah, by class and by outcome, and presses
-//! under lock (K7).
+//! and 55h, by outcome (K4), how many 4Ah, by class and by outcome, and presses
+//! under lock (K7), and how many pairs of calls that may cancel (K8).
 
 use std::fmt::Write;
 
@@ -304,9 +304,108 @@ impl Events {
     }
 }
 
+/// What a stream has of K8: calls at once behind one another, with no state set
+/// between.
+#[derive(Clone, Copy, Debug, Default, PartialEq, Eq)]
+pub struct Pairs {
+    /// Layings that go, each with a lifting behind it, and the twin.
+    pub laid_and_lifted: usize,
+    pub lifted_and_laid: usize,
+    /// Presses with another behind them, whatever becomes of them.
+    pub pressed_twice: usize,
+    /// The power-ons of the default form, then those of the second.
+    pub power_ons: [Behind; 2],
+}
+
+/// Power-ons of one form, by what they come behind: a packet, refused or not, that
+/// leaves tray and disc, one that moves the tray, or another power-on.
+#[derive(Clone, Copy, Debug, Default, PartialEq, Eq)]
+pub struct Behind {
+    pub still: usize,
+    pub moved: usize,
+    pub power_on: usize,
+}
+
+/// A call on the drive, as the next one finds it.
+struct Before {
+    kind: u8,
+    refused: bool,
+    moved: bool,
+}
+
+/// Tray and disc stand in each line, and in what sets a state.
+pub fn pairs(stream: &[u8]) -> Pairs {
+    let lines = replay::run(stream);
+    let mut lines = lines.lines();
+    let (mut rest, mut pairs) = (stream, Pairs::default());
+    let (mut before, mut place): (Option<Before>, _) = (None, "00".to_string());
+    while let Ok((kind, body, after)) = take_record(rest) {
+        rest = after;
+        if !replay::is_call(kind) {
+            if let (replay::STATE, [tray, disc, ..]) = (kind, body) {
+                (before, place) = (None, format!("{tray}{disc}"));
+            }
+            continue;
+        }
+        let Some(line) = lines.next().filter(|&line| line != "bad record") else {
+            break;
+        };
+        let words: Vec<&str> = line.split(' ').collect();
+        let Some(state) = state_in(&words) else {
+            before = None;
+            continue;
+        };
+        if let Some(before) = before {
+            pairs.count(&before, kind);
+        }
+        before = Some(Before {
+            kind,
+            refused: words[1] != "0",
+            moved: state[..2] != place,
+        });
+        place = state[..2].to_string();
+    }
+    pairs
+}
+
+/// The flags in the line of a call on the drive.
+fn state_in<'a>(words: &[&'a str]) -> Option<&'a str> {
+    match words[0] {
+        "o" | "q" | "b" | "d" | "u" | "m" => Some(words[2]),
+        "p" => Some(words[6]),
+        _ => None,
+    }
+}
+
+impl Pairs {
+    /// Counts a call of this kind behind another.
+    fn count(&mut self, before: &Before, kind: u8) {
+        let [default, second] = &mut self.power_ons;
+        match (before.kind, kind) {
+            (replay::LAY, replay::LIFT) if !before.refused => self.laid_and_lifted += 1,
+            (replay::LIFT, replay::LAY) if !before.refused => self.lifted_and_laid += 1,
+            (replay::BUTTON, replay::BUTTON) => self.pressed_twice += 1,
+            (_, replay::POWER_ON) => default.count(before),
+            (_, replay::POWER_ON_WITHOUT_CHANGE) => second.count(before),
+            _ => {}
+        }
+    }
+}
+
+impl Behind {
+    fn count(&mut self, before: &Before) {
+        match before.kind {
+            replay::PACKET if before.moved => self.moved += 1,
+            replay::PACKET => self.still += 1,
+            replay::POWER_ON | replay::POWER_ON_WITHOUT_CHANGE => self.power_on += 1,
+            _ => {}
+        }
+    }
+}
+
 /// A header and a line for each rule, then one and a line for each form, then
 /// K2's: plays and pauses, then a line for each status; then K4's two packets and
-/// K7's one, with the presses under lock.
+/// K7's one, with the presses under lock; last K8's pairs.
 pub fn print(stream: &[u8]) -> String {
     let mut out = "rule tables packets parts\n".to_string();
     for (met, rule) in of(stream).iter().zip(1..) {
@@ -331,6 +430,7 @@ pub fn print(stream: &[u8]) -> String {
     print_audio(&mut out, &audio(stream));
     print_modes(&mut out, &modes(stream));
     print_events(&mut out, &events(stream));
+    print_pairs(&mut out, &pairs(stream));
     out
 }
 
@@ -396,4 +496,26 @@ fn print_events(out: &mut String, events: &Events) {
     out.push_str(&line);
     out.push_str("press with-disc without\n");
     out.push_str(&format!("press {with_disc} {without}\n"));
+}
+
+fn print_pairs(out: &mut String, pairs: &Pairs) {
+    let Pairs {
+        laid_and_lifted,
+        lifted_and_laid,
+        pressed_twice,
+        power_ons,
+    } = pairs;
+    out.push_str("pair laid-lifted lifted-laid pressed-twice\n");
+    let line = format!("pair {laid_and_lifted} {lifted_and_laid} {pressed_twice}\n");
+    out.push_str(&line);
+    out.push_str("behind packet packet-that-moved power-on\n");
+    for (behind, letter) in power_ons.iter().zip(['o', 'q']) {
+        let Behind {
+            still,
+            moved,
+            power_on,
+        } = behind;
+        let line = format!("behind-{letter} {still} {moved} {power_on}\n");
+        out.push_str(&line);
+    }
 }

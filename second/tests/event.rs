@@ -937,5 +937,5 @@ event 2 2 1 2 2
 press with-disc without
 press 1 2
 ";
-    assert!(tally::print(&stream.bytes).ends_with(tail));
+    assert!(tally::print(&stream.bytes).contains(tail));
 }

@@ -8,8 +8,8 @@ use crate::cases::pairs::{self, Pair};
 use crate::cases::sheet::{disc_e, two_sessions, Sheet};
 use crate::cases::stream::Stream;
 use crate::cases::{
-    mode_five, picked, picked_audio, picked_codes, picked_event, picked_fields, picked_mode,
-    picked_power, picked_state, picked_tables, random, several,
+    mode_five, picked, picked_audio, picked_cancel, picked_codes, picked_event, picked_fields,
+    picked_mode, picked_power, picked_state, picked_tables, random, several,
 };
 use crate::examples;
 use crate::files::File;
@@ -50,7 +50,7 @@ macro_rules! named {
     };
 }
 
-const MAKERS: [(&str, Maker); 110] = [
+const MAKERS: [(&str, Maker); 124] = [
     named!(Start, picked_state::from_nothing),
     named!(Calls, picked_state::attentions),
     named!(Calls, picked_state::senses),
@@ -135,6 +135,19 @@ const MAKERS: [(&str, Maker); 110] = [
     named!(Calls, picked_event::latest_event),
     named!(Calls, picked_event::event_power_on),
     named!(Calls, picked_event::event_kept),
+    named!(Calls, picked_cancel::laid_and_lifted),
+    named!(Calls, picked_cancel::lifted_and_laid),
+    named!(Calls, picked_cancel::one_refused),
+    named!(Calls, picked_cancel::both_refused),
+    named!(Calls, picked_cancel::packet_and_power_on),
+    named!(Calls, picked_cancel::told_and_power_on),
+    named!(Calls, picked_cancel::refused_and_power_on),
+    named!(Calls, picked_cancel::tray_and_power_on),
+    named!(Calls, picked_cancel::two_power_ons),
+    named!(Calls, picked_cancel::button_twice),
+    named!(Calls, picked_cancel::prevent_and_allow),
+    named!(Calls, picked_cancel::play_and_read),
+    named!(Calls, picked_cancel::pause_and_resume),
     named!(random::fill, Calls(drawn)),
     named!(
         random::trace_scene,
@@ -155,6 +168,10 @@ const MAKERS: [(&str, Maker); 110] = [
     named!(
         random::event_scene,
         Calls(|stream| scenes(stream, random::event_scene))
+    ),
+    named!(
+        random::cancel_scene,
+        Calls(|stream| scenes(stream, random::cancel_scene))
     ),
     named!(
         random::broken_scene,

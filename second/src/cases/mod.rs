@@ -10,6 +10,7 @@ pub mod packets;
 pub mod pairs;
 pub mod picked;
 pub mod picked_audio;
+pub mod picked_cancel;
 pub mod picked_codes;
 pub mod picked_event;
 pub mod picked_fields;

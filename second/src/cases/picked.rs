@@ -2,8 +2,8 @@
 
 use crate::cases::stream::Stream;
 use crate::cases::{
-    picked_audio, picked_codes, picked_event, picked_fields, picked_mode, picked_power,
-    picked_state, picked_tables,
+    picked_audio, picked_cancel, picked_codes, picked_event, picked_fields, picked_mode,
+    picked_power, picked_state, picked_tables,
 };
 
 /// Every hand-picked case, from the very start of a run.
@@ -92,6 +92,19 @@ pub fn all(stream: &mut Stream) {
     picked_event::latest_event(stream);
     picked_event::event_power_on(stream);
     picked_event::event_kept(stream);
+    picked_cancel::laid_and_lifted(stream);
+    picked_cancel::lifted_and_laid(stream);
+    picked_cancel::one_refused(stream);
+    picked_cancel::both_refused(stream);
+    picked_cancel::packet_and_power_on(stream);
+    picked_cancel::told_and_power_on(stream);
+    picked_cancel::refused_and_power_on(stream);
+    picked_cancel::tray_and_power_on(stream);
+    picked_cancel::two_power_ons(stream);
+    picked_cancel::button_twice(stream);
+    picked_cancel::prevent_and_allow(stream);
+    picked_cancel::play_and_read(stream);
+    picked_cancel::pause_and_resume(stream);
 }
 
 /// Kinds 8 and 9 at all boundaries.

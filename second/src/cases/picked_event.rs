@@ -33,7 +33,7 @@ fn with(state: State, event: u8) -> State {
 }
 
 /// The four ways for tray and disc to stand, no event waiting.
-fn places() -> [State; 4] {
+pub fn places() -> [State; 4] {
     [
         State::READY,
         State::EMPTY,
@@ -42,7 +42,7 @@ fn places() -> [State; 4] {
     ]
 }
 
-fn locked(state: State) -> State {
+pub fn locked(state: State) -> State {
     State {
         lock: true,
         ..state

@@ -4,8 +4,9 @@ use crate::address::to_msf;
 use crate::cases::packets::{
     any_audio, any_event_status, any_list, any_mode, any_packet, capacity, event_status,
     mode_select, mode_sense, one_of_each, pause, play, position, prevent, read12, request_sense,
-    seek, start_stop, test_ready, toc, with_junk, Marks, EJECT, LOAD,
+    resume, seek, start_stop, test_ready, toc, with_junk, Marks, EJECT, LOAD,
 };
+use crate::cases::picked_power::FORMS;
 use crate::cases::picked_state::{strangers, MEMORY};
 use crate::cases::sheet::{any_fit, fit, longest, small_fit, Sheet};
 use crate::cases::spoil::{any_broken, spoil};
@@ -27,7 +28,7 @@ pub fn fill(stream: &mut Stream, rng: &mut Rng, calls: usize) {
 }
 
 fn scene(stream: &mut Stream, rng: &mut Rng) {
-    match rng.below(82) {
+    match rng.below(91) {
         0..=11 => disc_scene(stream, rng),
         12..=18 => trace_scene(stream, rng),
         19..=27 => spoilt_scene(stream, rng),
@@ -42,6 +43,7 @@ fn scene(stream: &mut Stream, rng: &mut Rng) {
         47..=55 => audio_scene(stream, rng),
         70..=75 => mode_scene(stream, rng),
         76..=81 => event_scene(stream, rng),
+        82..=88 => cancel_scene(stream, rng),
         _ => broken_scene(stream, rng),
     }
 }
@@ -141,7 +143,8 @@ fn any_event(rng: &mut Rng) -> u8 {
     }
 }
 
-fn any_state(rng: &mut Rng, marks: &Marks) -> State {
+/// Any state, now and then one that 2 covers.
+pub fn any_state(rng: &mut Rng, marks: &Marks) -> State {
     State {
         tray_open: rng.one_in(2),
         disc_in: rng.below(4) > 0,
@@ -555,6 +558,113 @@ fn another_event(stream: &mut Stream, rng: &mut Rng, marks: &Marks) {
     stream.state(state);
 }
 
+/// Pairs of calls on a state set outright (K8): a call and what may take it back; two
+/// power-ons; a packet and a power-on, beside the same power-on alone. The table is
+/// unfit or the memory short now and then.
+pub fn cancel_scene(stream: &mut Stream, rng: &mut Rng) {
+    let marks = lend(stream, &with_audio(rng));
+    let short = rng.one_in(8);
+    match rng.below(8) {
+        0 => stream.table(&any_broken(rng)),
+        1 | 2 => stream.list(&any_list(rng)),
+        _ if short => stream.memory(MEMORY - 1, 0),
+        _ => {}
+    }
+    for _ in 0..rng.range(3, 9) {
+        let state = match rng.below(3) {
+            0 => any_state(rng, &marks),
+            1 => loaded_state(rng, &marks),
+            _ => any_sound_state(rng, &marks),
+        };
+        match rng.below(10) {
+            0..=2 => disc_and_back(stream, rng, state),
+            3 => undone(stream, rng, state, &marks),
+            4 => later_power_on(stream, rng, state),
+            _ => packet_and_power_on(stream, rng, state, &marks),
+        }
+    }
+    if short {
+        lend_memory(stream, rng);
+    }
+}
+
+/// A disc laid and lifted, or lifted and laid, most often with the tray open.
+fn disc_and_back(stream: &mut Stream, rng: &mut Rng, state: State) {
+    let lays = rng.one_in(2);
+    stream.state(State {
+        tray_open: state.tray_open || rng.below(4) > 0,
+        disc_in: lays == rng.one_in(6),
+        ..state
+    });
+    let [first, second] = match lays {
+        true => [Stream::lay, Stream::lift],
+        false => [Stream::lift, Stream::lay],
+    };
+    first(stream);
+    second(stream);
+}
+
+/// Another call and the one that seems to undo it, from a state in which nothing may
+/// be left to reset.
+fn undone(stream: &mut Stream, rng: &mut Rng, state: State, marks: &Marks) {
+    stream.state(State {
+        sense: if rng.one_in(3) {
+            state.sense
+        } else {
+            sense::NONE
+        },
+        play: if rng.one_in(3) {
+            Play::NONE
+        } else {
+            state.play
+        },
+        ..state
+    });
+    let (address, count) = marks.audio_run(rng);
+    let pairs = [
+        [prevent(1), prevent(0)],
+        [pause(), resume()],
+        [play(address, count), read12(marks.address(rng), 0)],
+        [start_stop(EJECT), start_stop(LOAD)],
+    ];
+    match rng.below(pairs.len() + 3) {
+        n if n < pairs.len() => pairs[n].iter().for_each(|packet| stream.packet(packet)),
+        _ => {
+            stream.button();
+            stream.button();
+        }
+    }
+}
+
+/// Two power-ons of any forms, and the later one alone.
+fn later_power_on(stream: &mut Stream, rng: &mut Rng, state: State) {
+    let later = rng.pick(&FORMS);
+    stream.state(state);
+    any_power_on(stream, rng);
+    later(stream);
+    stream.state(state);
+    later(stream);
+}
+
+/// A packet and a power-on, and that power-on alone, in either order.
+fn packet_and_power_on(stream: &mut Stream, rng: &mut Rng, state: State, marks: &Marks) {
+    let form = rng.pick(&FORMS);
+    let packet = match rng.below(4) {
+        0 => rng.pick(&one_of_each()),
+        1 => start_stop(rng.pick(&[EJECT, LOAD])),
+        _ => any_packet(rng, marks),
+    };
+    let length = if rng.one_in(12) { 11 } else { 12 };
+    let before = rng.one_in(2);
+    for alone in [before, !before] {
+        stream.state(state);
+        if !alone {
+            stream.packet(&packet[..length]);
+        }
+        form(stream);
+    }
+}
+
 /// A small fit table with an audio track, but for a few.
 fn with_audio(rng: &mut Rng) -> Sheet {
     loop {
@@ -637,7 +747,7 @@ fn part_scene(stream: &mut Stream, rng: &mut Rng) {
 /// The largest tables: full answers, cut answers, and one byte or bit wrong.
 fn full_scene(stream: &mut Stream, rng: &mut Rng) {
     let (sessions, tracks) = rng.pick(&[(99, 99), (1, 99), (50, 99), (98, 99), (98, 98)]);
-    let sheet = if rng.one_in(2) {
+    let sheet = if rng.below(3) > 0 {
         longest(rng)
     } else {
         fit(rng, sessions, tracks)
