@@ -101,8 +101,12 @@ sent p = packet p tableE [] (replicate bound 0x00)
 abbrev pub ready : Call
 ready = sent (0x00 ∷ 0x00 ∷ 0x00 ∷ 0x00 ∷ 0x00 ∷ 0x00 ∷ 0x00 ∷ 0x00 ∷ 0x00 ∷ 0x00 ∷ 0x00 ∷ 0x00 ∷ [])
 
+-- 1Bh, Eject and Load
 abbrev pub eject : Call
 eject = sent (0x1B ∷ 0x00 ∷ 0x00 ∷ 0x00 ∷ 0x02 ∷ 0x00 ∷ 0x00 ∷ 0x00 ∷ 0x00 ∷ 0x00 ∷ 0x00 ∷ 0x00 ∷ [])
+
+abbrev pub shut : Call
+shut = sent (0x1B ∷ 0x00 ∷ 0x00 ∷ 0x00 ∷ 0x03 ∷ 0x00 ∷ 0x00 ∷ 0x00 ∷ 0x00 ∷ 0x00 ∷ 0x00 ∷ 0x00 ∷ [])
 
 abbrev pub prevent : Call
 prevent = sent (0x1E ∷ 0x00 ∷ 0x00 ∷ 0x00 ∷ 0x01 ∷ 0x00 ∷ 0x00 ∷ 0x00 ∷ 0x00 ∷ 0x00 ∷ 0x00 ∷ 0x00 ∷ [])
@@ -136,12 +140,18 @@ playingE = showing loadedE (record { status = 0x11; position = 160; end = 300 })
 abbrev pub pausedE : Drive
 pausedE = showing loadedE (record { status = 0x12; position = 160; end = 300 })
 
--- the tray open, with the disc and without
+-- the tray open, with the disc and without; open with the disc and locked; closed without the disc
 abbrev pub openE : Drive
 openE = withDeck loadedE (opening (loadedE .deck) .deck)
 
 abbrev pub emptyE : Drive
 emptyE = holding openE false
+
+abbrev pub openLockedE : Drive
+openLockedE = withDeck openE (withLock (openE .deck) true)
+
+abbrev pub closedE : Drive
+closedE = holding loadedE false
 
 -- from one state two runs of calls, and the parts in which the states after them differ
 pub record Instance : Type 0 where
@@ -163,27 +173,34 @@ instances =
     -- 1, 2: a laying that is refused, then a lifting; a lifting that is refused, then a laying
     cancel openE (laying ∷ lifting ∷ []) (disc ∷ [])
     ∷ cancel emptyE (lifting ∷ laying ∷ []) (disc ∷ [])
-    -- 3 to 5, the button twice: the change attention and the event; the play record too; nothing, where all three are as after a loading
+    -- 3 to 5, the button twice, loaded: the change attention and the event; the play record too; nothing, where all three are as after a loading
     ∷ cancel loadedE (pressing ∷ pressing ∷ []) (change ∷ event ∷ [])
     ∷ cancel playingE (pressing ∷ pressing ∷ []) (change ∷ play ∷ event ∷ [])
     ∷ cancel (reloaded loadedE) (pressing ∷ pressing ∷ []) []
-    -- 6 to 8, PREVENT, then ALLOW: the held sense; the lock; nothing, where there was neither
+    -- 6 to 10, the button twice, else: open with the disc; locked, closed and open, where a press is refused; without the disc, closed and open
+    ∷ cancel openE (pressing ∷ pressing ∷ []) (change ∷ [])
+    ∷ cancel lockedE (pressing ∷ pressing ∷ []) (event ∷ [])
+    ∷ cancel openLockedE (pressing ∷ pressing ∷ []) (change ∷ tray ∷ event ∷ [])
+    ∷ cancel closedE (pressing ∷ pressing ∷ []) []
+    ∷ cancel emptyE (pressing ∷ pressing ∷ []) []
+    -- 11 to 13, PREVENT, then ALLOW: the held sense; the lock; nothing, where there was neither
     ∷ cancel heldE (prevent ∷ allow ∷ []) (sense ∷ [])
     ∷ cancel lockedE (prevent ∷ allow ∷ []) (lock ∷ [])
     ∷ cancel loadedE (prevent ∷ allow ∷ []) []
-    -- 9, PLAY, then READ: position and end stay
+    -- 14, PLAY, then READ: position and end stay
     ∷ cancel loadedE (playAudio ∷ read ∷ []) (play ∷ [])
-    -- 10, 11, pause, then resume: what was paused plays; nothing, where it was playing
+    -- 15, 16, pause, then resume: what was paused plays; nothing, where it was playing
     ∷ cancel pausedE (pause ∷ resume ∷ []) (play ∷ [])
     ∷ cancel playingE (pause ∷ resume ∷ []) []
-    -- 12, 13, two power-ons of different form, beside the first alone
+    -- 17, 18, two power-ons of different form, beside the first alone
     ∷ only loadedE (powering byDefault ∷ powering withoutChange ∷ []) (powering byDefault) (change ∷ [])
     ∷ only loadedE (powering withoutChange ∷ powering byDefault ∷ []) (powering withoutChange) (change ∷ [])
-    -- 14, 00h, then a power-on, beside a power-on in the other form
+    -- 19, 00h, then a power-on, beside a power-on in the other form
     ∷ only loadedE (ready ∷ powering byDefault ∷ []) (powering withoutChange) (change ∷ [])
-    -- 15 to 17, an eject, in each form, and a lifting, then a power-on, beside the power-on alone
+    -- 20 to 23, an eject, with each form, a load and a lifting, then a power-on, beside the power-on alone
     ∷ only loadedE (eject ∷ powering byDefault ∷ []) (powering byDefault) (change ∷ tray ∷ [])
     ∷ only loadedE (eject ∷ powering withoutChange ∷ []) (powering withoutChange) (tray ∷ [])
+    ∷ only openE (shut ∷ powering byDefault ∷ []) (powering byDefault) (change ∷ tray ∷ [])
     ∷ only openE (lifting ∷ powering byDefault ∷ []) (powering byDefault) (disc ∷ [])
     ∷ []
 
