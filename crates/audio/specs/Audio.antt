@@ -3,9 +3,9 @@ use Prim.Native.Nat.{ℕ, _+_}
 use mathlib.Core.Bool.{Bool}
 use lib.Dec.{eqb}
 use Rattle.ground.specs.Tests.{_or_, if_then_else_}
-use Rattle.drive.specs.declared.state.Deck.{Deck}
+use Rattle.deck.specs.declared.Deck.{Deck}
 use Rattle.play.specs.Play.{playing, paused, completed, none, playOf, withStatus}
-use Rattle.drive.specs.State.{withPlay}
+use Rattle.deck.specs.Deck.{withPlay}
 use Rattle.gate.specs.declared.fault.Fault.the-variants.{BadField}
 use Rattle.gate.specs.Gate.{Result, fails}
 use Rattle.command.specs.Done.{done}

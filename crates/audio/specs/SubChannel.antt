@@ -7,9 +7,9 @@ use Rattle.ground.specs.Tests.{_and_, if_then_else_}
 use Rattle.ground.specs.Number.{bytes32}
 use Rattle.address.specs.Address.{shownAddress}
 use Rattle.play.specs.declared.Play.{Play}
-use Rattle.drive.specs.declared.state.Deck.{Deck}
+use Rattle.deck.specs.declared.Deck.{Deck}
 use Rattle.play.specs.Play.{completed, none, withStatus}
-use Rattle.drive.specs.State.{withPlay}
+use Rattle.deck.specs.Deck.{withPlay}
 use Rattle.gate.specs.Gate.{Result}
 use Rattle.table.specs.Layout.{isTrack}
 use Rattle.tracks.specs.declared.track.Track.{Track}

@@ -2,7 +2,7 @@
 use blocks::range::in_range;
 use command::done::Done;
 use command::done::done_with;
-use drive::state::Deck;
+use deck::Deck;
 use gate::fault::Fault;
 use play::COMPLETED;
 use play::NONE;

@@ -4,9 +4,9 @@ use mathlib.Core.Bool.{Bool, false}
 use mathlib.Core.List.{List, [], _++_}
 use Rattle.ground.specs.Tests.{if_then_else_}
 use Rattle.ground.specs.Number.{bytes32}
-use Rattle.drive.specs.declared.state.Deck.{Deck}
+use Rattle.deck.specs.declared.Deck.{Deck}
 use Rattle.play.specs.Play.{none, withStatus}
-use Rattle.drive.specs.State.{withPlay}
+use Rattle.deck.specs.Deck.{withPlay}
 use Rattle.gate.specs.declared.fault.Fault.the-variants.{OutOfRange}
 use Rattle.gate.specs.Gate.{Result, fails, goes}
 use Rattle.command.specs.Done.{done, answering}

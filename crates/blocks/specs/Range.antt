@@ -3,7 +3,7 @@ use Prim.Native.Nat.{ℕ, _+_, _-_}
 use mathlib.Core.Bool.{Bool, not}
 use lib.Dec.{ltb}
 use Rattle.ground.specs.Tests.{_or_, if_then_else_}
-use Rattle.drive.specs.declared.state.Deck.{Deck}
+use Rattle.deck.specs.declared.Deck.{Deck}
 use Rattle.gate.specs.declared.fault.Fault.the-variants.{OutOfRange, IllegalMode}
 use Rattle.gate.specs.Gate.{Result, fails}
 

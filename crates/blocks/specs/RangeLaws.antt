@@ -8,7 +8,7 @@ use native.Mathlib.Decide.{decLe}
 use borrow.Author.Tests.{le-leb, lt-leb, lt-ltb, le-ltb, ltb-false, not-true}
 use lib.Dec.{leb, ltb}
 use Rattle.ground.specs.Tests.{_and_, _or_, if_then_else_, when, unless, or-left, or-right, or-else}
-use Rattle.drive.specs.declared.state.Deck.{Deck}
+use Rattle.deck.specs.declared.Deck.{Deck}
 use Rattle.gate.specs.declared.fault.Fault.the-variants.{OutOfRange, IllegalMode}
 use Rattle.gate.specs.Gate.{Result, fails}
 use Rattle.blocks.specs.Range.{over, inRange, ranged}

@@ -5,7 +5,7 @@ use crate::range::over;
 use command::done::Done;
 use command::done::Went;
 use command::done::done_with;
-use drive::state::Deck;
+use deck::Deck;
 use gate::fault::Fault;
 use ground::number::bytes32;
 use play::NONE;

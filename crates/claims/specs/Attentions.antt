@@ -6,7 +6,7 @@ use mathlib.Core.List.{List, [], _∷_, _++_}
 use mathlib.Core.Logic.{_↔_}
 use Rattle.ground.specs.Tests.{or-left}
 use Rattle.drive.specs.declared.state.Drive.{Drive}
-use Rattle.drive.specs.State.{isLoaded}
+use Rattle.deck.specs.Deck.{isLoaded}
 use Rattle.claims.specs.Telling.{Attention}
 use Rattle.claims.specs.History.{Standing}
 use Rattle.claims.specs.Call.{Form, byDefault, Call, powering, answer, next, event, history, final, isPending, isPowerOn, causes, tells}

@@ -6,9 +6,10 @@ use mathlib.Core.List.{List, []}
 use lib.ListN.{length}
 use lib.Dec.{eqb}
 use Rattle.ground.specs.Tests.{_and_, _or_}
-use Rattle.drive.specs.declared.state.Deck.{Deck}
+use Rattle.deck.specs.declared.Deck.{Deck}
 use Rattle.drive.specs.declared.state.Drive.{Drive}
-use Rattle.drive.specs.State.{isLoaded, powerOn, powerOnWithoutChange, button, lay, lift, moveOn}
+use Rattle.deck.specs.Deck.{isLoaded}
+use Rattle.drive.specs.State.{powerOn, powerOnWithoutChange, button, lay, lift, moveOn}
 use Rattle.disc.specs.Rules.{isFit}
 use Rattle.command.specs.Command.{codeOf, loEj, start}
 use Rattle.outcome.specs.Outcome.{stateOf}

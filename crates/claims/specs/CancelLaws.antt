@@ -7,13 +7,14 @@ use lib.ListN.{length}
 use lib.Dec.{eqb}
 use borrow.Author.Tests.{eq-eqb, not-true}
 use Rattle.ground.specs.Tests.{_and_, and-head, and-tail}
-use Rattle.drive.specs.declared.state.Deck.{Deck}
+use Rattle.deck.specs.declared.Deck.{Deck}
 use Rattle.drive.specs.declared.state.Drive.{Drive}
 use Rattle.drive.specs.declared.state.Moved.{Moved}
 use Rattle.play.specs.Play.{noPlay}
 use Rattle.page.specs.Page.{defaults}
 use Rattle.drive.specs.Unit.{poweredOn}
-use Rattle.drive.specs.State.{noEvent, isKnownState, isLoaded, opening, closing, shift, holding, powerOnWith, moves, button, lay, lift}
+use Rattle.deck.specs.Deck.{noEvent, isLoaded, opening, closing}
+use Rattle.drive.specs.State.{isKnownState, shift, holding, powerOnWith, moves, button, lay, lift}
 use Rattle.drive.specs.StateLaws.{powerOn-with, powerOnWithoutChange-with, button-opens, button-closes, lay-lays, lift-lifts}
 use Rattle.gate.specs.Gate.{Result}
 use Rattle.command.specs.declared.decode.Command.{Command}

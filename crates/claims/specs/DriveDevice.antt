@@ -8,10 +8,11 @@ use lib.ListN.{length}
 use Rattle.ground.specs.Tests.{_and_, _or_, or-left, either}
 use Rattle.drive.specs.declared.state.Drive.{Drive}
 use Rattle.drive.specs.declared.state.Moved.{Moved}
-use Rattle.drive.specs.State.{isLoaded, button, lay, lift, moveOn}
+use Rattle.deck.specs.Deck.{isLoaded}
+use Rattle.drive.specs.State.{button, lay, lift, moveOn}
 use Rattle.drive.specs.StateLaws.{powerOn-with, powerOnWithoutChange-with}
 use Rattle.gate.specs.Gate.{Reply}
-use Rattle.drive.specs.declared.state.Deck.{Deck}
+use Rattle.deck.specs.declared.Deck.{Deck}
 use Rattle.outcome.specs.Outcome.{stateOf}
 use Rattle.target.specs.Packet.{refusalOf}
 use Rattle.claims.specs.Telling.{Attention, power, change, Answer, answerOf, isGood, tellsTo}

@@ -6,14 +6,15 @@ use mathlib.Core.List.{List, [], _∷_}
 use lib.Dec.{eqb}
 use Rattle.ground.specs.Tests.{_and_, _or_, if_then_else_, every}
 use Rattle.address.specs.Address.{isMsf, toMsf, toBlock, shownAddress}
-use Rattle.drive.specs.declared.sense.Sense.{Sense}
-use Rattle.drive.specs.declared.state.Deck.{Deck}
+use Rattle.sense.specs.declared.Sense.{Sense}
+use Rattle.deck.specs.declared.Deck.{Deck}
 use Rattle.drive.specs.declared.state.Drive.{Drive}
-use Rattle.drive.specs.Sense.{triple, senseAt, sameSense, among, isKnown}
+use Rattle.sense.specs.Sense.{triple, senseAt, sameSense, among, isKnown}
 use Rattle.play.specs.Play.{noPlay, isStatus, isPlay}
 use Rattle.page.specs.Page.{defaults, among as amongBytes, isSetting}
 use Rattle.drive.specs.Unit.{attend}
-use Rattle.drive.specs.State.{noEvent, isKnownState}
+use Rattle.deck.specs.Deck.{noEvent}
+use Rattle.drive.specs.State.{isKnownState}
 use Rattle.table.specs.Layout.{bound, isTrack, isExtra}
 use Rattle.table.specs.Row.{startOf, names, simple, free, plain, headA0, headA1, headed, addressed, rowTest}
 use Rattle.sessions.specs.Session.{one, size, listed, numbered, isSession, starts, before, follows, inPlace, inOrder}

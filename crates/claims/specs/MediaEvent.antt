@@ -5,7 +5,7 @@ use mathlib.Core.Bool.{Bool, not}
 use mathlib.Core.List.{List}
 use lib.Dec.{eqb}
 use Rattle.ground.specs.Tests.{_and_, _or_}
-use Rattle.drive.specs.declared.state.Deck.{Deck}
+use Rattle.deck.specs.declared.Deck.{Deck}
 use Rattle.command.specs.Command.{codeOf}
 use Rattle.event.specs.EventAnswer.{isClearing}
 use Rattle.claims.specs.Telling.{isGood}

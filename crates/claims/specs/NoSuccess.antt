@@ -4,7 +4,7 @@ use mathlib.Core.Bool.{true, false}
 use mathlib.Core.List.{List, _∷_}
 use Prim.Native.Nat.{ℕ}
 use Rattle.drive.specs.declared.state.Drive.{Drive}
-use Rattle.drive.specs.State.{isLoaded}
+use Rattle.deck.specs.Deck.{isLoaded}
 use Rattle.command.specs.Command.{decode, codeOf, needsDisc}
 use Rattle.claims.specs.Telling.{Attention, isGood}
 use Rattle.claims.specs.History.{None, standing-here}

@@ -8,11 +8,11 @@ use lib.Dec.{eqb, eqb·suc-zero}
 use borrow.Author.Tests.{eqb-true}
 use Rattle.ground.specs.Tests.{_and_, _or_, if_then_else_, when, unless, either}
 use Rattle.drive.specs.declared.state.Unit.{Unit}
-use Rattle.drive.specs.declared.state.Deck.{Deck}
+use Rattle.deck.specs.declared.Deck.{Deck}
 use Rattle.drive.specs.declared.state.Drive.{Drive}
 use Rattle.play.specs.declared.Play.{Play}
 use Rattle.page.specs.declared.Page.{Page}
-use Rattle.drive.specs.State.{noEvent, opening, closing, withLock, withPlay, withPage, withEvent}
+use Rattle.deck.specs.Deck.{noEvent, opening, closing, withLock, withPlay, withPage, withEvent}
 use Rattle.disc.specs.Rules.{isFit}
 use Rattle.disc.specs.Part.{unfit, ruleWith}
 use Rattle.gate.specs.declared.fault.Fault.{Fault}

@@ -6,8 +6,8 @@ use mathlib.Core.List.{List, [], _∷_}
 use lib.Dec.{eqb}
 use Rattle.ground.specs.Tests.{_and_, _or_, if_then_else_, every}
 use Rattle.address.specs.Address.{isMsf, toMsf, shownAddress}
-use Rattle.drive.specs.declared.state.Deck.{Deck}
-use Rattle.drive.specs.Sense.{senseAt, sameSense, among, isKnown}
+use Rattle.deck.specs.declared.Deck.{Deck}
+use Rattle.sense.specs.Sense.{senseAt, sameSense, among, isKnown}
 use Rattle.play.specs.Play.{isStatus, isPlay, movedOn}
 use Rattle.page.specs.Page.{among as amongBytes, isSetting}
 use Rattle.drive.specs.Unit.{attend}

@@ -11,10 +11,11 @@ use lib.Dec.{eqb, ltb, leb}
 use Rattle.ground.specs.Tests.{_and_, _or_, if_then_else_}
 use Rattle.address.specs.Address.{toMsf, toBlock, isMsf}
 use Rattle.drive.specs.declared.state.Drive.{Drive}
-use Rattle.drive.specs.Sense.{triple, senseAt, isKnown}
+use Rattle.sense.specs.Sense.{triple, senseAt, isKnown}
 use Rattle.play.specs.Play.{isStatus, isPlay}
 use Rattle.page.specs.Page.{settings, among, isSetting}
-use Rattle.drive.specs.State.{isKnownState, isLoaded}
+use Rattle.deck.specs.Deck.{isLoaded}
+use Rattle.drive.specs.State.{isKnownState}
 use Rattle.drive.specs.StateLaws.{powerOn-with, powerOnWithoutChange-with}
 use Rattle.table.specs.Layout.{bound, lastSession, descriptors}
 use Rattle.sessions.specs.Session.{inOrder}

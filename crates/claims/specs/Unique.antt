@@ -15,19 +15,20 @@ use Rattle.address.specs.declared.Msf.the-variants as msf
 use Rattle.address.specs.declared.Block.{Block}
 use Rattle.address.specs.declared.Block.the-variants as block
 use Rattle.address.specs.Address.{shownAddress, MsfAnswer, BlockAnswer, msfMeaning, blockMeaning, toMsf, toBlock, addressOf, isMsf}
-use Rattle.drive.specs.declared.sense.Sense.{Sense}
+use Rattle.sense.specs.declared.Sense.{Sense}
 use Rattle.drive.specs.declared.state.Unit.{Unit}
-use Rattle.drive.specs.declared.state.Deck.{Deck}
+use Rattle.deck.specs.declared.Deck.{Deck}
 use Rattle.drive.specs.declared.state.Drive.{Drive}
-use Rattle.drive.specs.declared.state.Shifted.{Shifted}
+use Rattle.deck.specs.declared.Shifted.{Shifted}
 use Rattle.drive.specs.declared.state.Moved.{Moved}
-use Rattle.drive.specs.Sense.{senseAt, sameSense, isKnown}
+use Rattle.sense.specs.Sense.{senseAt, sameSense, isKnown}
 use Rattle.play.specs.declared.Play.{Play}
 use Rattle.play.specs.Play.{noPlay, withStatus, isPlay, movedOn}
 use Rattle.page.specs.declared.Page.{Page}
 use Rattle.page.specs.Page.{defaults, isSetting}
 use Rattle.drive.specs.Unit.{poweredOn, attend}
-use Rattle.drive.specs.State.{isKnownState, isLoaded, opening, closing, withDisc, withLock, withPlay, withPage, withEvent, shift, powerOn, powerOnWithoutChange, button, lay, lift, moveOn}
+use Rattle.deck.specs.Deck.{isEvent, isLoaded, opening, closing, restarted, withDisc, withLock, withPlay, withPage, withEvent}
+use Rattle.drive.specs.State.{isKnownState, shift, powerOn, powerOnWithoutChange, button, lay, lift, moveOn}
 use Rattle.gate.specs.declared.fault.Fault.{Fault}
 use Rattle.gate.specs.declared.unit.Pending.{Pending}
 use Rattle.gate.specs.declared.unit.Giving.{Giving}
@@ -209,6 +210,12 @@ unique-with-play m a r s = value-once
 
 pub unique-with-page : (m : Deck) (a : Page) (r s : Deck) → r ≡ withPage m a → s ≡ withPage m a → r ≡ s
 unique-with-page m a r s = value-once
+
+pub unique-is-event : (e : ℕ) (r s : Bool) → r ≡ isEvent e → s ≡ isEvent e → r ≡ s
+unique-is-event e r s = value-once
+
+pub unique-restarted : (m : Deck) (r s : Deck) → r ≡ restarted m → s ≡ restarted m → r ≡ s
+unique-restarted m r s = value-once
 
 pub unique-with-event : (m : Deck) (e : ℕ) (r s : Deck) → r ≡ withEvent m e → s ≡ withEvent m e → r ≡ s
 unique-with-event m e r s = value-once

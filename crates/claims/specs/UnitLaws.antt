@@ -5,9 +5,9 @@ use mathlib.Core.List.{List}
 use Prim.Native.Nat.{ℕ, zero, suc}
 use lib.Dec.{eqb, eqb·suc-zero}
 use Rattle.ground.specs.Tests.{_and_, _or_, if_then_else_}
-use Rattle.drive.specs.declared.sense.Sense.{Sense}
+use Rattle.sense.specs.declared.Sense.{Sense}
 use Rattle.drive.specs.declared.state.Unit.{Unit}
-use Rattle.drive.specs.Sense.{senseAt, noSense, changed, powered, sameSense}
+use Rattle.sense.specs.Sense.{senseAt, noSense, changed, powered, sameSense}
 use Rattle.drive.specs.Unit.{attend}
 use Rattle.gate.specs.declared.fault.Fault.{Fault}
 use Rattle.gate.specs.declared.fault.Fault.the-variants.{NoMediumClosed, NoMediumOpen, UnknownCode, OutOfRange, BadField, RemovalPrevented, IllegalMode, ListLength, ListField, NoSaving}

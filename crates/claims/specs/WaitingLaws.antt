@@ -7,12 +7,13 @@ use Prim.Native.Nat.{ℕ, zero, suc}
 use lib.ListN.{length}
 use lib.Dec.{eqb, eqb·suc-zero}
 use Rattle.ground.specs.Tests.{_and_, _or_, if_then_else_, either}
-use Rattle.drive.specs.declared.sense.Sense.{Sense}
+use Rattle.sense.specs.declared.Sense.{Sense}
 use Rattle.drive.specs.declared.state.Unit.{Unit}
-use Rattle.drive.specs.declared.state.Deck.{Deck}
+use Rattle.deck.specs.declared.Deck.{Deck}
 use Rattle.drive.specs.declared.state.Drive.{Drive}
 use Rattle.drive.specs.declared.state.Moved.{Moved}
-use Rattle.drive.specs.State.{isKnownState, opening, closing, button, lay, lift, moveOn}
+use Rattle.deck.specs.Deck.{opening, closing}
+use Rattle.drive.specs.State.{isKnownState, button, lay, lift, moveOn}
 use Rattle.drive.specs.StateLaws.{powerOn-with, powerOnWithoutChange-with, button-unknown, button-closes, button-locked, button-opens}
 use Rattle.gate.specs.Unit.{pendingOf}
 use Rattle.gate.specs.Gate.{Result, fails, goes, Reply, gate, pass}

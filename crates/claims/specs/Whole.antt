@@ -8,11 +8,12 @@ use lib.ListN.{length, take, drop, length-take}
 use borrow.Author.Tests.{le-ltb}
 use Rattle.ground.specs.Tests.{_and_, _or_, if_then_else_}
 use Rattle.ground.specs.Memory.{fill-fits}
-use Rattle.drive.specs.declared.state.Deck.{Deck}
+use Rattle.deck.specs.declared.Deck.{Deck}
 use Rattle.drive.specs.declared.state.Drive.{Drive}
-use Rattle.drive.specs.Sense.{senseAt}
-use Rattle.drive.specs.SenseLaws.{isKnown-at}
-use Rattle.drive.specs.State.{isKnownState, isLoaded}
+use Rattle.sense.specs.Sense.{senseAt}
+use Rattle.sense.specs.SenseLaws.{isKnown-at}
+use Rattle.deck.specs.Deck.{isLoaded}
+use Rattle.drive.specs.State.{isKnownState}
 use Rattle.drive.specs.StateLaws.{known-isKnownState}
 use Rattle.table.specs.Layout.{bound, lastSession, descriptors}
 use Rattle.disc.specs.Rules.{isFit}

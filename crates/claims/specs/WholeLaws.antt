@@ -9,9 +9,10 @@ use lib.Dec.{eqb, ltb}
 use borrow.Author.Tests.{ltb-false, not-true}
 use Rattle.ground.specs.Tests.{_and_, _or_, either, and-head, and-tail}
 use Rattle.drive.specs.declared.state.Unit.{Unit}
-use Rattle.drive.specs.declared.state.Deck.{Deck}
+use Rattle.deck.specs.declared.Deck.{Deck}
 use Rattle.drive.specs.declared.state.Drive.{Drive}
-use Rattle.drive.specs.State.{isKnownState, isLoaded}
+use Rattle.deck.specs.Deck.{isLoaded}
+use Rattle.drive.specs.State.{isKnownState}
 use Rattle.table.specs.Layout.{bound, header, descriptors, lastSession}
 use Rattle.sessions.specs.Session.{session}
 use Rattle.disc.specs.Rules.{isFit}

@@ -5,7 +5,7 @@ use mathlib.Core.Bool.{Bool, true, false}
 use mathlib.Core.List.{List, []}
 use lib.ListN.{length}
 use Rattle.ground.specs.Tests.{if_then_else_, when, unless}
-use Rattle.drive.specs.declared.state.Deck.{Deck}
+use Rattle.deck.specs.declared.Deck.{Deck}
 use Rattle.gate.specs.declared.fault.Fault.the-variants.{BadField}
 use Rattle.gate.specs.Gate.{Result, fails, goes}
 use Rattle.command.specs.declared.done.Done.{Done}

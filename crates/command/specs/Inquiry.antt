@@ -1,7 +1,7 @@
 -- 12h, INQUIRY.
 use Prim.Native.Nat.{ℕ}
 use mathlib.Core.List.{List, [], _∷_}
-use Rattle.drive.specs.declared.state.Deck.{Deck}
+use Rattle.deck.specs.declared.Deck.{Deck}
 use Rattle.gate.specs.Gate.{Result}
 use Rattle.command.specs.Command.{byte, bit0}
 use Rattle.command.specs.Done.{answering}

@@ -2,9 +2,9 @@
 use Prim.Native.Nat.{ℕ}
 use mathlib.Core.List.{[]}
 use Rattle.ground.specs.Tests.{if_then_else_}
-use Rattle.drive.specs.declared.state.Deck.{Deck}
-use Rattle.drive.specs.declared.state.Shifted.{Shifted}
-use Rattle.drive.specs.State.{opening, closing, withLock}
+use Rattle.deck.specs.declared.Deck.{Deck}
+use Rattle.deck.specs.declared.Shifted.{Shifted}
+use Rattle.deck.specs.Deck.{opening, closing, withLock}
 use Rattle.gate.specs.declared.fault.Fault.{Fault}
 use Rattle.gate.specs.declared.fault.Fault.the-variants.{RemovalPrevented, NoMediumClosed, NoMediumOpen}
 use Rattle.gate.specs.Gate.{Result, fails, goes}

@@ -1,5 +1,5 @@
 // What a command comes to.
-use drive::state::Deck;
+use deck::Deck;
 use gate::fault::Fault;
 ghost use mathlib.Core.Path.{_≡_};
 ghost use Rattle.command.specs.Done.{done, doneOf};

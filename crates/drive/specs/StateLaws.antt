@@ -5,14 +5,15 @@ use mathlib.Core.Bool.{Bool, true, false}
 use Prim.Native.Nat.{ℕ}
 use lib.Dec.{eqb}
 use Rattle.ground.specs.Tests.{_and_, if_then_else_, and-head, and-tail, and-both, when, unless, either}
-use Rattle.drive.specs.declared.state.Deck.{Deck}
+use Rattle.deck.specs.declared.Deck.{Deck}
 use Rattle.drive.specs.declared.state.Drive.{Drive}
 use Rattle.drive.specs.declared.state.Moved.{Moved}
-use Rattle.drive.specs.Sense.{isKnown}
+use Rattle.sense.specs.Sense.{isKnown}
 use Rattle.play.specs.Play.{movedOn}
 use Rattle.play.specs.PlayLaws.{Known, isPlay-known, known-isPlay}
 use Rattle.page.specs.Page.{isSetting}
-use Rattle.drive.specs.State.{unknownState, locked, cannotLay, cannotLift, pressed, isEvent, isKnownState, isLoaded, opening, closing, shift, holding, showing, noting, powerOnWith, powerOn, powerOnWithoutChange, refuse, moves, button, lay, lift, moveOn}
+use Rattle.deck.specs.Deck.{pressed, isEvent, isLoaded, opening, closing}
+use Rattle.drive.specs.State.{unknownState, locked, cannotLay, cannotLift, isKnownState, shift, holding, showing, noting, powerOnWith, powerOn, powerOnWithoutChange, refuse, moves, button, lay, lift, moveOn}
 
 -- a call with a number other than 0 hands back the state as it came
 abbrev pub Unmoved : Drive → Moved → Type 0

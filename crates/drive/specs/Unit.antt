@@ -2,7 +2,7 @@
 use mathlib.Core.Bool.{Bool, true}
 use Rattle.ground.specs.Tests.{if_then_else_}
 use Rattle.drive.specs.declared.state.Unit.{Unit}
-use Rattle.drive.specs.Sense.{noSense}
+use Rattle.sense.specs.Sense.{noSense}
 
 -- "Power-on ..: .. sense 00/00/00, power attention pending"; the form of power-on (K3) says whether the change attention is pending too
 abbrev pub poweredOn : Bool → Unit

@@ -1,3 +1,2 @@
 // The drive state and the calls on it that are no packets: power-on, button, laying, lifting, and a playing position moved on.
-pub mod sense;
 pub mod state;

@@ -1,16 +1,16 @@
 // The state: an attention unit beside the deck. Each call takes it by value and hands back the next one.
-use crate::sense::NO_SENSE;
-use crate::sense::Sense;
-use crate::sense::is_known;
-use crate::sense::sense_at;
-use page::Page;
-use page::defaults;
+use deck::Deck;
+use deck::PRESSED;
+use deck::Shifted;
+use deck::is_event;
 use page::is_setting;
-use play::Play;
-use play::no_play;
+use sense::NO_SENSE;
+use sense::Sense;
+use sense::is_known;
+use sense::sense_at;
 ghost use mathlib.Core.Path.{_≡_};
 ghost use Rattle.drive.specs.Unit.{poweredOn, attend};
-ghost use Rattle.drive.specs.State.{isEvent, isKnownState, eventMoved, opening, closedPlay, closing, restarted, withDisc, withLock, withPlay, withPage, withEvent, withDeck, isLoaded, shift, powerOnWith, powerOn, powerOnWithoutChange, moves, refuse, button, lay, lift, moveOn};
+ghost use Rattle.drive.specs.State.{isKnownState, withDeck, shift, powerOnWith, powerOn, powerOnWithoutChange, moves, refuse, button, lay, lift, moveOn};
 
 // What is pending and what is held: this is the same for every device that stands behind the gate.
 pub struct Unit {
@@ -19,25 +19,9 @@ pub struct Unit {
     pub sense: Sense,
 }
 
-// Tray open or closed; disc in or not; lock; the play record; the mode page; the media event.
-pub struct Deck {
-    pub tray_open: bool,
-    pub disc_in: bool,
-    pub lock: bool,
-    pub play: Play,
-    pub page: Page,
-    pub event: u8,
-}
-
 pub struct Drive {
     pub unit: Unit,
     pub deck: Deck,
-}
-
-// The deck after the tray moved, and whether that was a loading.
-pub struct Shifted {
-    pub deck: Deck,
-    pub loading: bool,
 }
 
 // A call's answer: the refusal's number or 0, and the next state.
@@ -54,22 +38,6 @@ pub const LOCKED: u8 = 5;
 pub const CANNOT_LAY: u8 = 6;
 
 pub const CANNOT_LIFT: u8 = 7;
-
-// The media events: none, the button pressed on a locked closed tray, a loading, an opening with a disc.
-pub const NO_EVENT: u8 = 0;
-
-pub const PRESSED: u8 = 1;
-
-pub const LOADED: u8 = 2;
-
-pub const OPENED: u8 = 3;
-
-// The event is none or one of the three.
-fn is_event(event: u8) -> bool
-    ensures { λ r. ⌜ r ≡ isEvent event ⌝ }
-{
-    event <= OPENED
-}
 
 impl Unit {
     // Power-on: sense 00/00/00, power attention pending, and the change attention where the form of power-on says so.
@@ -96,163 +64,6 @@ impl Unit {
             };
         }
         self
-    }
-}
-
-impl Deck {
-    // Tray closed with a disc in.
-    pub fn is_loaded(self) -> bool
-        ensures { λ r. ⌜ r ≡ isLoaded self ⌝ }
-    {
-        if self.tray_open {
-            return false;
-        }
-        self.disc_in
-    }
-
-    // The event after the tray moved: without a disc it stays.
-    fn event_moved(self, event: u8) -> u8
-        ensures { λ r. ⌜ r ≡ eventMoved self event ⌝ }
-    {
-        if !self.disc_in {
-            return self.event;
-        }
-        event
-    }
-
-    // The tray opens, by button or packet: nothing is played, and with a disc in that is an event.
-    pub fn opening(self) -> Shifted
-        ensures { λ r. ⌜ r ≡ opening self ⌝ }
-    {
-        let page = self.page;
-        Shifted {
-            deck: Deck {
-                tray_open: true,
-                disc_in: self.disc_in,
-                lock: self.lock,
-                play: no_play(),
-                page,
-                event: self.event_moved(OPENED),
-            },
-            loading: false,
-        }
-    }
-
-    // The play record after a closing: none after a loading.
-    fn closed_play(self) -> Play
-        ensures { λ r. ⌜ r ≡ closedPlay self ⌝ }
-    {
-        if self.disc_in {
-            return no_play();
-        }
-        self.play
-    }
-
-    // The tray closes, by button or packet: with a disc in that is a loading, and an event.
-    pub fn closing(self) -> Shifted
-        ensures { λ r. ⌜ r ≡ closing self ⌝ }
-    {
-        let page = self.page;
-        Shifted {
-            deck: Deck {
-                tray_open: false,
-                disc_in: self.disc_in,
-                lock: self.lock,
-                play: self.closed_play(),
-                page,
-                event: self.event_moved(LOADED),
-            },
-            loading: self.disc_in,
-        }
-    }
-
-    // What power-on leaves: tray and disc kept, lock off, nothing played, the page's default values, no event.
-    fn restarted(self) -> Deck
-        ensures { λ r. ⌜ r ≡ restarted self ⌝ }
-    {
-        let play = no_play();
-        let page = defaults();
-        Deck {
-            tray_open: self.tray_open,
-            disc_in: self.disc_in,
-            lock: false,
-            play,
-            page,
-            event: NO_EVENT,
-        }
-    }
-
-    pub fn with_disc(self, disc_in: bool) -> Deck
-        ensures { λ r. ⌜ r ≡ withDisc self disc_in ⌝ }
-    {
-        let play = self.play;
-        let page = self.page;
-        Deck {
-            tray_open: self.tray_open,
-            disc_in,
-            lock: self.lock,
-            play,
-            page,
-            event: self.event,
-        }
-    }
-
-    pub fn with_lock(self, lock: bool) -> Deck
-        ensures { λ r. ⌜ r ≡ withLock self lock ⌝ }
-    {
-        let play = self.play;
-        let page = self.page;
-        Deck {
-            tray_open: self.tray_open,
-            disc_in: self.disc_in,
-            lock,
-            play,
-            page,
-            event: self.event,
-        }
-    }
-
-    pub fn with_play(self, play: Play) -> Deck
-        ensures { λ r. ⌜ r ≡ withPlay self play ⌝ }
-    {
-        let page = self.page;
-        Deck {
-            tray_open: self.tray_open,
-            disc_in: self.disc_in,
-            lock: self.lock,
-            play,
-            page,
-            event: self.event,
-        }
-    }
-
-    pub fn with_page(self, page: Page) -> Deck
-        ensures { λ r. ⌜ r ≡ withPage self page ⌝ }
-    {
-        let play = self.play;
-        Deck {
-            tray_open: self.tray_open,
-            disc_in: self.disc_in,
-            lock: self.lock,
-            play,
-            page,
-            event: self.event,
-        }
-    }
-
-    pub fn with_event(self, event: u8) -> Deck
-        ensures { λ r. ⌜ r ≡ withEvent self event ⌝ }
-    {
-        let play = self.play;
-        let page = self.page;
-        Deck {
-            tray_open: self.tray_open,
-            disc_in: self.disc_in,
-            lock: self.lock,
-            play,
-            page,
-            event,
-        }
     }
 }
 

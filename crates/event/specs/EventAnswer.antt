@@ -5,8 +5,8 @@ use mathlib.Core.List.{List, [], _∷_}
 use lib.ListN.{length}
 use lib.Dec.{eqb, leb}
 use Rattle.ground.specs.Tests.{_and_, if_then_else_}
-use Rattle.drive.specs.declared.state.Deck.{Deck}
-use Rattle.drive.specs.State.{noEvent, withEvent}
+use Rattle.deck.specs.declared.Deck.{Deck}
+use Rattle.deck.specs.Deck.{noEvent, withEvent}
 use Rattle.gate.specs.Gate.{Result}
 use Rattle.command.specs.Command.{byte, bit0}
 use Rattle.command.specs.Done.{answering}

@@ -4,7 +4,7 @@ use lib.Bits.{bitAnd}
 use lib.Count.{trailingZeros}
 use lib.Dec.{eqb}
 use Rattle.ground.specs.Tests.{if_then_else_}
-use Rattle.drive.specs.State.{noEvent}
+use Rattle.deck.specs.Deck.{noEvent}
 
 -- "classes external request (3) and media (4)"
 abbrev pub external : ℕ

@@ -7,7 +7,7 @@ use lib.Count.{trailingZeros, trailing-le}
 use lib.Dec.{eqb, eqb·suc-zero}
 use borrow.Author.Tests.{eq-eqb, ne-eqb, eqb-true}
 use Rattle.ground.specs.Tests.{_and_, if_then_else_, when, unless, every, every-at}
-use Rattle.drive.specs.State.{noEvent}
+use Rattle.deck.specs.Deck.{noEvent}
 use Rattle.event.specs.EventClass.{external, media, supported, noClass, waiting, lowest, orElse, classFor}
 
 pub lowest-small : (classes : ℕ) → lowest classes ≤ noClass

@@ -1,8 +1,8 @@
 // The bytes of GET EVENT STATUS NOTIFICATION's answer, and what is left waiting after it.
 use crate::event_class::MEDIA;
 use crate::event_class::SUPPORTED;
-use drive::state::Deck;
-use drive::state::NO_EVENT;
+use deck::Deck;
+use deck::NO_EVENT;
 ghost use mathlib.Core.Path.{_≡_};
 ghost use Prim.Native.Nat.{min};
 ghost use lib.ListN.{length};

@@ -1,5 +1,5 @@
 // The class that GET EVENT STATUS NOTIFICATION answers; bit n of a byte is class n.
-use drive::state::NO_EVENT;
+use deck::NO_EVENT;
 ghost use mathlib.Core.Path.{_≡_};
 ghost use Rattle.event.specs.EventClass.{waiting, lowest, classFor};
 

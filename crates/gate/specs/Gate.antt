@@ -2,7 +2,7 @@
 use Prim.Native.Nat.{ℕ}
 use mathlib.Core.Bool.{Bool}
 use mathlib.Core.List.{List, [], _∷_}
-use Rattle.drive.specs.declared.sense.Sense.{Sense}
+use Rattle.sense.specs.declared.Sense.{Sense}
 use Rattle.drive.specs.declared.state.Unit.{Unit}
 use Rattle.drive.specs.Unit.{attend}
 use Rattle.gate.specs.declared.fault.Fault.{Fault}

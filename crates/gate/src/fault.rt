@@ -1,16 +1,16 @@
 // The triples with which a command fails: the ten of the table that are neither an attention nor 00/00/00.
-use drive::sense::BAD_FIELD;
-use drive::sense::ILLEGAL_MODE;
-use drive::sense::LIST_FIELD;
-use drive::sense::LIST_LENGTH;
-use drive::sense::NO_MEDIUM_CLOSED;
-use drive::sense::NO_MEDIUM_OPEN;
-use drive::sense::NO_SAVING;
-use drive::sense::OUT_OF_RANGE;
-use drive::sense::REMOVAL_PREVENTED;
-use drive::sense::Sense;
-use drive::sense::UNKNOWN_CODE;
-use drive::sense::sense_at;
+use sense::BAD_FIELD;
+use sense::ILLEGAL_MODE;
+use sense::LIST_FIELD;
+use sense::LIST_LENGTH;
+use sense::NO_MEDIUM_CLOSED;
+use sense::NO_MEDIUM_OPEN;
+use sense::NO_SAVING;
+use sense::OUT_OF_RANGE;
+use sense::REMOVAL_PREVENTED;
+use sense::Sense;
+use sense::UNKNOWN_CODE;
+use sense::sense_at;
 ghost use mathlib.Core.Path.{_≡_};
 ghost use Rattle.gate.specs.Fault.{senseOf};
 

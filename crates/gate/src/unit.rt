@@ -1,11 +1,11 @@
 // What the gate does to the attention unit.
-use drive::sense::CHANGED;
-use drive::sense::NO_SENSE;
-use drive::sense::POWERED;
-use drive::sense::Sense;
-use drive::sense::same;
-use drive::sense::sense_at;
 use drive::state::Unit;
+use sense::CHANGED;
+use sense::NO_SENSE;
+use sense::POWERED;
+use sense::Sense;
+use sense::same;
+use sense::sense_at;
 ghost use mathlib.Core.Path.{_≡_};
 ghost use Rattle.gate.specs.Unit.{hold, clear, pendingOf, attentionSense, told, give};
 ghost use Rattle.gate.specs.Gate.{senseBytes};

@@ -4,10 +4,11 @@ use mathlib.Core.Bool.{true, false}
 use mathlib.Core.List.{List, []}
 use lib.ListN.{take, drop}
 use Rattle.drive.specs.declared.state.Drive.{Drive}
-use Rattle.drive.specs.Sense.{noSense}
+use Rattle.sense.specs.Sense.{noSense}
 use Rattle.play.specs.Play.{noPlay}
 use Rattle.page.specs.Page.{defaults}
-use Rattle.drive.specs.State.{noEvent, powerOnWithoutChange}
+use Rattle.deck.specs.Deck.{noEvent}
+use Rattle.drive.specs.State.{powerOnWithoutChange}
 use Rattle.table.specs.Layout.{bound}
 use Rattle.outcome.specs.Outcome.{stateOf}
 use Rattle.target.specs.Packet.{answer}

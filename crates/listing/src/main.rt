@@ -2,11 +2,9 @@
 mod file;
 mod line;
 
-use drive::sense::NO_SENSE;
-use drive::sense::sense_at;
-use drive::state::Deck;
+use deck::Deck;
+use deck::NO_EVENT;
 use drive::state::Drive;
-use drive::state::NO_EVENT;
 use drive::state::Unit;
 use file::load;
 use libc::STDERR_FILENO;
@@ -16,6 +14,8 @@ use outcome::Outcome;
 use page::defaults;
 use play::no_play;
 use print::front::front;
+use sense::NO_SENSE;
+use sense::sense_at;
 use table::layout::BOUND;
 use target::packet::packet;
 ghost use mathlib.Core.Path.{_≡_};

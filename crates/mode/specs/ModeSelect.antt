@@ -6,8 +6,8 @@ use lib.ListN.{length}
 use lib.Dec.{eqb}
 use Rattle.ground.specs.Tests.{_and_, _or_, if_then_else_}
 use Rattle.page.specs.Page.{pageOf, isSetting}
-use Rattle.drive.specs.declared.state.Deck.{Deck}
-use Rattle.drive.specs.State.{withPage}
+use Rattle.deck.specs.declared.Deck.{Deck}
+use Rattle.deck.specs.Deck.{withPage}
 use Rattle.gate.specs.declared.fault.Fault.the-variants.{ListLength, ListField}
 use Rattle.gate.specs.Gate.{Result, fails}
 use Rattle.command.specs.Command.{byte}

@@ -7,8 +7,8 @@ use lib.ListN.{length}
 use borrow.Author.Tests.{eq-eqb, ne-eqb}
 use Rattle.ground.specs.Tests.{when, unless, either, and-tail, and-on, and-off, and-both, or-left, or-right, or-else}
 use Rattle.page.specs.Page.{pageOf, isSetting}
-use Rattle.drive.specs.declared.state.Deck.{Deck}
-use Rattle.drive.specs.State.{withPage}
+use Rattle.deck.specs.declared.Deck.{Deck}
+use Rattle.deck.specs.Deck.{withPage}
 use Rattle.gate.specs.declared.fault.Fault.the-variants.{ListLength, ListField}
 use Rattle.gate.specs.Gate.{Result, fails}
 use Rattle.command.specs.Command.{byte}

@@ -6,7 +6,7 @@ use lib.Dec.{eqb}
 use Rattle.ground.specs.Tests.{if_then_else_}
 use Rattle.page.specs.declared.Page.{Page}
 use Rattle.page.specs.Page.{pageOf, defaults}
-use Rattle.drive.specs.declared.state.Deck.{Deck}
+use Rattle.deck.specs.declared.Deck.{Deck}
 use Rattle.gate.specs.declared.fault.Fault.the-variants.{BadField, NoSaving}
 use Rattle.gate.specs.Gate.{Result, fails}
 use Rattle.command.specs.Done.{answering}

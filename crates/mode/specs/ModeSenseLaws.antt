@@ -6,7 +6,7 @@ use borrow.Author.Tests.{eq-eqb, ne-eqb}
 use Rattle.ground.specs.Tests.{when, unless}
 use Rattle.page.specs.declared.Page.{Page}
 use Rattle.page.specs.Page.{defaults}
-use Rattle.drive.specs.declared.state.Deck.{Deck}
+use Rattle.deck.specs.declared.Deck.{Deck}
 use Rattle.gate.specs.declared.fault.Fault.{Fault}
 use Rattle.gate.specs.declared.fault.Fault.the-variants.{BadField, NoSaving}
 use Rattle.gate.specs.Gate.{Result, fails, goes}

@@ -1,7 +1,7 @@
 // MODE SELECT(10): page 01h, out of the lent parameter list.
 use command::done::Done;
 use command::done::done_with;
-use drive::state::Deck;
+use deck::Deck;
 use gate::fault::Fault;
 use page::Page;
 use page::is_setting;

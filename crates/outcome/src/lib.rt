@@ -1,7 +1,6 @@
 // What a packet hands back: a refusal, CHECK CONDITION or GOOD.
 use command::done::Done;
-use drive::sense::Sense;
-use drive::state::Deck;
+use deck::Deck;
 use drive::state::Drive;
 use drive::state::Unit;
 use gate::fault::sense_of;
@@ -9,6 +8,7 @@ use gate::unit::Pending;
 use gate::unit::hold;
 use gate::unit::sense_of_pending;
 use gate::unit::told;
+use sense::Sense;
 ghost use mathlib.Core.Path.{_≡_};
 ghost use Rattle.gate.specs.Unit.{attentionSense, told};
 ghost use Rattle.outcome.specs.Outcome.{refused, checked, granted, finished};

@@ -10,10 +10,10 @@ use Rattle.print.specs.Joined.{_next_, spaced}
 use Rattle.print.specs.Hex.{hexByte, shown}
 use Rattle.print.specs.Decimal.{decimal}
 use Rattle.print.specs.Sum.{adler32}
-use Rattle.drive.specs.declared.sense.Sense.{Sense}
+use Rattle.sense.specs.declared.Sense.{Sense}
 use Rattle.play.specs.declared.Play.{Play}
 use Rattle.page.specs.declared.Page.{Page}
-use Rattle.drive.specs.declared.state.Deck.{Deck}
+use Rattle.deck.specs.declared.Deck.{Deck}
 use Rattle.drive.specs.declared.state.Drive.{Drive}
 use Rattle.disc.specs.Part.{unfit}
 use Rattle.outcome.specs.declared.Outcome.{Outcome}

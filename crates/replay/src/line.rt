@@ -1,6 +1,6 @@
 // The lines that a call prints.
+use deck::Deck;
 use disc::part::UNFIT;
-use drive::state::Deck;
 use drive::state::Drive;
 use ground::memory::copy_front;
 use ground::number::bytes32;

@@ -6,9 +6,10 @@ use lib.ListN.{length}
 use lib.Dec.{eqb, ltb}
 use Rattle.ground.specs.Tests.{_and_, if_then_else_}
 use Rattle.drive.specs.declared.state.Unit.{Unit}
-use Rattle.drive.specs.declared.state.Deck.{Deck}
+use Rattle.deck.specs.declared.Deck.{Deck}
 use Rattle.drive.specs.declared.state.Drive.{Drive}
-use Rattle.drive.specs.State.{isKnownState, isLoaded, unknownState}
+use Rattle.deck.specs.Deck.{isLoaded}
+use Rattle.drive.specs.State.{isKnownState, unknownState}
 use Rattle.table.specs.Layout.{bound}
 use Rattle.disc.specs.Rules.{isFit}
 use Rattle.disc.specs.Part.{unfit, ruleWith}

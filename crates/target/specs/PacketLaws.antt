@@ -8,11 +8,12 @@ use lib.ListN.{length, take, length-take}
 use borrow.Author.Tests.{eq-eqb, ne-eqb, lt-ltb, le-ltb}
 use Rattle.ground.specs.Tests.{_and_, when, unless, and-both, and-off, and-late}
 use Rattle.ground.specs.Memory.{Laid, fill, fill-none}
-use Rattle.drive.specs.declared.sense.Sense.{Sense}
+use Rattle.sense.specs.declared.Sense.{Sense}
 use Rattle.drive.specs.declared.state.Unit.{Unit}
-use Rattle.drive.specs.declared.state.Deck.{Deck}
+use Rattle.deck.specs.declared.Deck.{Deck}
 use Rattle.drive.specs.declared.state.Drive.{Drive}
-use Rattle.drive.specs.State.{isKnownState, isLoaded, unknownState}
+use Rattle.deck.specs.Deck.{isLoaded}
+use Rattle.drive.specs.State.{isKnownState, unknownState}
 use Rattle.table.specs.Layout.{bound}
 use Rattle.disc.specs.Rules.{fault, isFit}
 use Rattle.disc.specs.Part.{unfit, ruleWith}

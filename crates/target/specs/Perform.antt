@@ -6,8 +6,8 @@ use mathlib.Core.List.{List, []}
 use lib.ListN.{take}
 use Rattle.ground.specs.Tests.{_and_, if_then_else_}
 use Rattle.ground.specs.Memory.{fill}
-use Rattle.drive.specs.declared.state.Deck.{Deck}
-use Rattle.drive.specs.State.{isLoaded}
+use Rattle.deck.specs.declared.Deck.{Deck}
+use Rattle.deck.specs.Deck.{isLoaded}
 use Rattle.table.specs.Layout.{descriptors}
 use Rattle.disc.specs.Rules.{leadOut}
 use Rattle.tracks.specs.declared.track.Mode.the-variants.{Data, Audio}

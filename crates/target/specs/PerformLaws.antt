@@ -10,8 +10,8 @@ use Rattle.ground.specs.Tests.{when, unless, either, and-both, and-off, and-lat
 use Rattle.disc.specs.declared.disc.Disc.{Disc}
 use Rattle.table.specs.Layout.{bound, header, descriptors}
 use Rattle.ground.specs.Memory.{Laid, fill, fill-none}
-use Rattle.drive.specs.declared.state.Deck.{Deck}
-use Rattle.drive.specs.State.{isLoaded}
+use Rattle.deck.specs.declared.Deck.{Deck}
+use Rattle.deck.specs.Deck.{isLoaded}
 use Rattle.gate.specs.declared.fault.Fault.{Fault}
 use Rattle.gate.specs.declared.fault.Fault.the-variants.{BadField}
 use Rattle.gate.specs.Gate.{Result, fails, goes}

@@ -2,7 +2,7 @@
 use Prim.Native.Nat.{ℕ, _%_}
 use mathlib.Core.Bool.{Bool}
 use mathlib.Core.List.{List}
-use Rattle.drive.specs.declared.state.Deck.{Deck}
+use Rattle.deck.specs.declared.Deck.{Deck}
 use Rattle.table.specs.Layout.{descriptors}
 use Rattle.disc.specs.Disc.{discOf}
 use Rattle.gate.specs.Gate.{Result}

@@ -2,7 +2,7 @@
 use crate::perform::answer;
 use command::done::Done;
 use command::field::bit0;
-use drive::state::Deck;
+use deck::Deck;
 use event::event_answer::class_bytes;
 use event::event_answer::cleared;
 use event::event_answer::none_bytes;

@@ -1,7 +1,7 @@
 // MODE SENSE: what the packet asks for, and the answer.
 use crate::perform::answer;
 use command::done::Done;
-use drive::state::Deck;
+use deck::Deck;
 use ground::number::word16;
 use mode::mode_sense::Shown;
 use mode::mode_sense::mode_bytes;

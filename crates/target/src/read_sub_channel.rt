@@ -6,7 +6,7 @@ use audio::sub_channel::status_bytes;
 use audio::sub_channel::sub_ask;
 use audio::sub_channel::sub_bad;
 use command::done::Done;
-use drive::state::Deck;
+use deck::Deck;
 use ground::number::word16;
 use tracks::track::track_of;
 ghost use mathlib.Core.Path.{_≡_};

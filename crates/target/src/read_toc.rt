@@ -2,8 +2,8 @@
 use command::done::Done;
 use command::done::Went;
 use command::field::bit1;
+use deck::Deck;
 use disc::disc::Disc;
-use drive::state::Deck;
 use gate::fault::Fault;
 use ground::number::wide;
 use ground::number::word16;

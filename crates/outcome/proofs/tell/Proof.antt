@@ -1,6 +1,6 @@
 -- `outcome::tell` meets its contract: triple and unit are those of the attention.
 use mathlib.Core.Path.{ap₂, _∙_}
-use Rattle.drive.specs.declared.sense.Sense.{Sense}
+use Rattle.sense.specs.declared.Sense.{Sense}
 use Rattle.drive.specs.declared.state.Unit.{Unit}
 use Rattle.outcome.specs.Outcome.{checked}
 use borrow.Author.Needs.{needs}

@@ -1,8 +1,8 @@
 -- `audio::audio::pause_resume` meets its contract: each way out is one law of the definition.
 use mathlib.Core.Path.{sym, ap, _∙_}
-use Rattle.drive.specs.declared.state.Deck.{Deck}
+use Rattle.deck.specs.declared.Deck.{Deck}
 use Rattle.play.specs.Play.{withStatus}
-use Rattle.drive.specs.State.{withPlay}
+use Rattle.deck.specs.Deck.{withPlay}
 use Rattle.command.specs.Done.{done, doneOf}
 use Rattle.audio.specs.AudioLaws.{isOver-completed, isOver-none, isOver-not, pauseResume-over, pauseResume-goes}
 use borrow.Author.Needs.{needs}

@@ -1,7 +1,7 @@
 -- `audio::audio::play_blocks` meets its contract: range, then track mode: each way out is one law of the range; what is in range does not wrap.
 use mathlib.Core.Path.{sym, ap, _∙_}
 use native.Mathlib.Omega.{arith}
-use Rattle.drive.specs.declared.state.Deck.{Deck}
+use Rattle.deck.specs.declared.Deck.{Deck}
 use Rattle.command.specs.Done.{done, doneOf}
 use Rattle.blocks.specs.RangeLaws.{inRange-end, ranged-out, ranged-mode, ranged-goes}
 use borrow.Author.Needs.{needs}

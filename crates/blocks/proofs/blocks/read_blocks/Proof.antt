@@ -2,7 +2,7 @@
 use mathlib.Core.Path.{sym, ap, _∙_}
 use mathlib.Core.Bool.{false}
 use mathlib.Core.List.{[]}
-use Rattle.drive.specs.declared.state.Deck.{Deck}
+use Rattle.deck.specs.declared.Deck.{Deck}
 use Rattle.gate.specs.Gate.{goes}
 use Rattle.command.specs.Done.{doneOf}
 use Rattle.blocks.specs.RangeLaws.{ranged-out, ranged-mode, ranged-goes}

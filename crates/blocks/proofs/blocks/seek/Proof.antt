@@ -1,7 +1,7 @@
 -- `blocks::blocks::seek` meets its contract: the range is tested as in the definition.
 use mathlib.Core.Path.{sym, ap, _∙_}
 use Rattle.ground.specs.Tests.{when, unless}
-use Rattle.drive.specs.declared.state.Deck.{Deck}
+use Rattle.deck.specs.declared.Deck.{Deck}
 use Rattle.command.specs.Done.{done, doneOf}
 use Rattle.blocks.specs.Blocks.{seek}
 use borrow.Author.Needs.{needs}

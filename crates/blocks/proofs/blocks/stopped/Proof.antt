@@ -1,6 +1,6 @@
 -- `blocks::blocks::stopped` meets its contract: the status is set, and the record put back.
 use mathlib.Core.Path.{ap, _∙_}
-use Rattle.drive.specs.State.{withPlay}
+use Rattle.deck.specs.Deck.{withPlay}
 use borrow.Author.Needs.{needs}
 use Rattle.blocks.proofs.blocks.stopped.Statement.{statement}
 use Rattle.blocks.proofs.blocks.stopped.Tie as tie

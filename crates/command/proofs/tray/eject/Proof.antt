@@ -1,7 +1,7 @@
 -- `command::tray::eject` meets its contract: tray and lock are tested in the definition's order.
 use mathlib.Core.Path.{sym, ap, _∙_}
 use Rattle.ground.specs.Tests.{when, unless}
-use Rattle.drive.specs.declared.state.Shifted.{Shifted}
+use Rattle.deck.specs.declared.Shifted.{Shifted}
 use Rattle.command.specs.Done.{doneOf}
 use Rattle.command.specs.Tray.{moving, eject}
 use borrow.Author.Needs.{needs}

@@ -1,7 +1,7 @@
 -- `command::tray::prevent` meets its contract: the lock that is set is the byte's bit 0.
 use mathlib.Core.Path.{ap, _∙_}
-use Rattle.drive.specs.declared.state.Deck.{Deck}
-use Rattle.drive.specs.State.{withLock}
+use Rattle.deck.specs.declared.Deck.{Deck}
+use Rattle.deck.specs.Deck.{withLock}
 use Rattle.command.specs.Done.{done, doneOf}
 use borrow.Author.Needs.{needs}
 use Rattle.command.proofs.tray.prevent.Statement.{statement}

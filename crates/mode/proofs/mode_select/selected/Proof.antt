@@ -1,6 +1,6 @@
 -- `mode::mode_select::selected` meets its contract: the one test is the definition's, and the page that is set is the list's.
 use mathlib.Core.Path.{sym, ap, _∙_}
-use Rattle.drive.specs.declared.state.Deck.{Deck}
+use Rattle.deck.specs.declared.Deck.{Deck}
 use Rattle.command.specs.Done.{done, doneOf}
 use Rattle.mode.specs.ModeSelectLaws.{selected-sets, selected-bad}
 use borrow.Author.Needs.{needs}

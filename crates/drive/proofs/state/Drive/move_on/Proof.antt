@@ -1,6 +1,7 @@
 -- `drive::state::Drive::move_on` meets its contract: each way out is one case of the laws of moving on.
 use mathlib.Core.Path.{sym, ap, _∙_}
-use Rattle.drive.specs.State.{withPlay, withDeck, moves}
+use Rattle.deck.specs.Deck.{withPlay}
+use Rattle.drive.specs.State.{withDeck, moves}
 use Rattle.drive.specs.StateLaws.{moveOn-moves, moveOn-unknown}
 use borrow.Author.Needs.{needs}
 use Rattle.drive.proofs.state.Drive.move_on.Statement.{statement}
