@@ -10,10 +10,10 @@ use lib.Dec.{eqb}
 use Rattle.ground.specs.Tests.{_and_, _or_, if_then_else_, every}
 use Rattle.address.specs.Address.{isMsf}
 use Rattle.drive.specs.declared.state.Drive.{Drive}
-use Rattle.sense.specs.Sense.{triple, senseAt, sameSense, among, isKnown}
+use Rattle.attention.specs.Sense.{triple, senseAt, sameSense, among, isKnown}
 use Rattle.play.specs.Play.{noPlay, isStatus, isPlay}
 use Rattle.page.specs.Page.{among as amongBytes, isSetting}
-use Rattle.drive.specs.Unit.{attend}
+use Rattle.attention.specs.Unit.{attend}
 use Rattle.deck.specs.Deck.{loaded, isLoaded, withLock, opening}
 use Rattle.drive.specs.State.{isKnownState, withDeck, holding, showing, powerOn, powerOnWithoutChange, button, lay, lift}
 use Rattle.table.specs.Layout.{bound, isTrack, isExtra}

@@ -12,7 +12,7 @@ use Rattle.drive.specs.declared.state.Drive.{Drive}
 use Rattle.drive.specs.declared.state.Moved.{Moved}
 use Rattle.play.specs.Play.{noPlay}
 use Rattle.page.specs.Page.{defaults}
-use Rattle.drive.specs.Unit.{poweredOn}
+use Rattle.attention.specs.Unit.{poweredOn}
 use Rattle.deck.specs.Deck.{noEvent, isLoaded, opening, closing}
 use Rattle.drive.specs.State.{isKnownState, shift, holding, powerOnWith, moves, button, lay, lift}
 use Rattle.drive.specs.StateLaws.{powerOn-with, powerOnWithoutChange-with, button-opens, button-closes, lay-lays, lift-lifts}

@@ -9,8 +9,8 @@ use Rattle.ground.specs.Tests.{_and_, and-head, and-tail, and-both}
 use Rattle.play.specs.declared.Play.{Play}
 use Rattle.page.specs.declared.Page.{Page}
 use Rattle.drive.specs.declared.state.Drive.{Drive}
-use Rattle.sense.specs.Sense.{sameSense}
-use Rattle.sense.specs.SenseLaws.{sameSense-eq, sameSense-refl}
+use Rattle.attention.specs.Sense.{sameSense}
+use Rattle.attention.specs.SenseLaws.{sameSense-eq, sameSense-refl}
 
 -- the parts of a state: the two attentions, the held sense, tray, disc and lock, K2's play record, K4's mode page, K7's media event
 pub data Part : Type 0 where

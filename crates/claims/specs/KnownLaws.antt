@@ -10,20 +10,20 @@ use lib.Dec.{eqb, ltb}
 use borrow.Author.Tests.{not-true}
 use Rattle.ground.specs.Tests.{_and_, if_then_else_, either, and-tail}
 use Rattle.address.specs.Address.{last}
-use Rattle.sense.specs.declared.Sense.{Sense}
-use Rattle.drive.specs.declared.state.Unit.{Unit}
+use Rattle.attention.specs.declared.sense.Sense.{Sense}
+use Rattle.attention.specs.declared.Unit.{Unit}
 use Rattle.deck.specs.declared.Deck.{Deck}
 use Rattle.drive.specs.declared.state.Drive.{Drive}
 use Rattle.drive.specs.declared.state.Moved.{Moved}
-use Rattle.sense.specs.Sense.{sameSense, noSense, isKnown}
-use Rattle.sense.specs.SenseLaws.{isKnown-at}
+use Rattle.attention.specs.Sense.{sameSense, noSense, isKnown}
+use Rattle.attention.specs.SenseLaws.{isKnown-at}
 use Rattle.play.specs.declared.Play.{Play}
 use Rattle.page.specs.declared.Page.{Page}
 use Rattle.page.specs.Page.{isSetting}
 use Rattle.page.specs.PageLaws.{isSetting-default}
 use Rattle.play.specs.Play.{none, isStatus, withStatus}
 use Rattle.play.specs.PlayLaws.{Known, isStatus-playing, isStatus-paused, isStatus-none, noPlay-known, withStatus-known, movedOn-known}
-use Rattle.drive.specs.Unit.{attend}
+use Rattle.attention.specs.Unit.{attend}
 use Rattle.deck.specs.Deck.{loaded, opened, isEvent, isLoaded, eventMoved, opening, closing, restarted, withDisc, withLock, withPlay, withPage, withEvent}
 use Rattle.drive.specs.State.{isKnownState, button, lay, lift, moveOn}
 use Rattle.drive.specs.StateLaws.{KnownDeck, isKnownState-sense, isKnownState-deck, known-isKnownState, powerOn-with, powerOnWithoutChange-with}

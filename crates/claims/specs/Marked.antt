@@ -6,13 +6,13 @@ use mathlib.Core.List.{List, [], _∷_}
 use lib.Dec.{eqb}
 use Rattle.ground.specs.Tests.{_and_, _or_, if_then_else_, every}
 use Rattle.address.specs.Address.{isMsf, toMsf, toBlock, shownAddress}
-use Rattle.sense.specs.declared.Sense.{Sense}
+use Rattle.attention.specs.declared.sense.Sense.{Sense}
 use Rattle.deck.specs.declared.Deck.{Deck}
 use Rattle.drive.specs.declared.state.Drive.{Drive}
-use Rattle.sense.specs.Sense.{triple, senseAt, sameSense, among, isKnown}
+use Rattle.attention.specs.Sense.{triple, senseAt, sameSense, among, isKnown}
 use Rattle.play.specs.Play.{noPlay, isStatus, isPlay}
 use Rattle.page.specs.Page.{defaults, among as amongBytes, isSetting}
-use Rattle.drive.specs.Unit.{attend}
+use Rattle.attention.specs.Unit.{attend}
 use Rattle.deck.specs.Deck.{noEvent}
 use Rattle.drive.specs.State.{isKnownState}
 use Rattle.table.specs.Layout.{bound, isTrack, isExtra}

@@ -7,7 +7,7 @@ use Prim.Native.Nat.{ℕ, zero, suc}
 use lib.Dec.{eqb, eqb·suc-zero}
 use borrow.Author.Tests.{eqb-true}
 use Rattle.ground.specs.Tests.{_and_, _or_, if_then_else_, when, unless, either}
-use Rattle.drive.specs.declared.state.Unit.{Unit}
+use Rattle.attention.specs.declared.Unit.{Unit}
 use Rattle.deck.specs.declared.Deck.{Deck}
 use Rattle.drive.specs.declared.state.Drive.{Drive}
 use Rattle.play.specs.declared.Play.{Play}

@@ -8,10 +8,10 @@ use lib.Count.{trailingZeros}
 use Rattle.ground.specs.Tests.{_and_, _or_, if_then_else_, every}
 use Rattle.address.specs.Address.{isMsf}
 use Rattle.deck.specs.declared.Deck.{Deck}
-use Rattle.sense.specs.Sense.{triple, senseAt, sameSense, among, isKnown}
+use Rattle.attention.specs.Sense.{triple, senseAt, sameSense, among, isKnown}
 use Rattle.play.specs.Play.{isStatus, isPlay}
 use Rattle.page.specs.Page.{among as amongBytes, isSetting}
-use Rattle.drive.specs.Unit.{attend}
+use Rattle.attention.specs.Unit.{attend}
 use Rattle.drive.specs.State.{isKnownState, powerOn, button}
 use Rattle.table.specs.Layout.{isTrack, isExtra}
 use Rattle.table.specs.Row.{startOf, names, simple, free, plain, headA0, headA1, headed, addressed, rowTest}

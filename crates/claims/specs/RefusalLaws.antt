@@ -11,11 +11,11 @@ use lib.ListN.{length}
 use lib.Dec.{eqb, ltb, leb, eqb·suc-zero}
 use Rattle.ground.specs.Tests.{_and_, _or_, if_then_else_, unless, either, and-tail, and-both, and-assoc}
 use Rattle.ground.specs.Memory.{fill-none}
-use Rattle.drive.specs.declared.state.Unit.{Unit}
+use Rattle.attention.specs.declared.Unit.{Unit}
 use Rattle.deck.specs.declared.Deck.{Deck}
 use Rattle.drive.specs.declared.state.Drive.{Drive}
 use Rattle.drive.specs.declared.state.Moved.{Moved}
-use Rattle.sense.specs.declared.Sense.{Sense}
+use Rattle.attention.specs.declared.sense.Sense.{Sense}
 use Rattle.deck.specs.Deck.{pressed, isLoaded}
 use Rattle.drive.specs.State.{locked, isKnownState, noting, button, lay, lift, moveOn}
 use Rattle.drive.specs.StateLaws.{button-unknown, button-closes, button-locked, button-opens, button-refused, lay-unknown, lay-closed, lay-full, lay-lays, lay-refused, lift-unknown, lift-closed, lift-empty, lift-lifts, lift-refused, moveOn-unknown, moveOn-moves, moveOn-refused}

@@ -11,7 +11,7 @@ use lib.Dec.{eqb, ltb, leb}
 use Rattle.ground.specs.Tests.{_and_, _or_, if_then_else_}
 use Rattle.address.specs.Address.{toMsf, toBlock, isMsf}
 use Rattle.drive.specs.declared.state.Drive.{Drive}
-use Rattle.sense.specs.Sense.{triple, senseAt, isKnown}
+use Rattle.attention.specs.Sense.{triple, senseAt, isKnown}
 use Rattle.play.specs.Play.{isStatus, isPlay}
 use Rattle.page.specs.Page.{settings, among, isSetting}
 use Rattle.deck.specs.Deck.{isLoaded}

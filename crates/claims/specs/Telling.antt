@@ -6,9 +6,9 @@ use lib.ListN.{getD, take}
 use lib.Dec.{eqb}
 use Rattle.ground.specs.Tests.{_and_, _or_}
 use Rattle.ground.specs.Memory.{fill}
-use Rattle.sense.specs.declared.Sense.{Sense}
-use Rattle.drive.specs.declared.state.Unit.{Unit}
-use Rattle.sense.specs.Sense.{triple, sameSense}
+use Rattle.attention.specs.declared.sense.Sense.{Sense}
+use Rattle.attention.specs.declared.Unit.{Unit}
+use Rattle.attention.specs.Sense.{triple, sameSense}
 use Rattle.gate.specs.Gate.{Reply}
 
 -- "power attention; change attention"

@@ -15,18 +15,18 @@ use Rattle.address.specs.declared.Msf.the-variants as msf
 use Rattle.address.specs.declared.Block.{Block}
 use Rattle.address.specs.declared.Block.the-variants as block
 use Rattle.address.specs.Address.{shownAddress, MsfAnswer, BlockAnswer, msfMeaning, blockMeaning, toMsf, toBlock, addressOf, isMsf}
-use Rattle.sense.specs.declared.Sense.{Sense}
-use Rattle.drive.specs.declared.state.Unit.{Unit}
+use Rattle.attention.specs.declared.sense.Sense.{Sense}
+use Rattle.attention.specs.declared.Unit.{Unit}
 use Rattle.deck.specs.declared.Deck.{Deck}
 use Rattle.drive.specs.declared.state.Drive.{Drive}
 use Rattle.deck.specs.declared.Shifted.{Shifted}
 use Rattle.drive.specs.declared.state.Moved.{Moved}
-use Rattle.sense.specs.Sense.{senseAt, sameSense, isKnown}
+use Rattle.attention.specs.Sense.{senseAt, sameSense, isKnown}
 use Rattle.play.specs.declared.Play.{Play}
 use Rattle.play.specs.Play.{noPlay, withStatus, isPlay, movedOn}
 use Rattle.page.specs.declared.Page.{Page}
 use Rattle.page.specs.Page.{defaults, isSetting}
-use Rattle.drive.specs.Unit.{poweredOn, attend}
+use Rattle.attention.specs.Unit.{poweredOn, attend}
 use Rattle.deck.specs.Deck.{isEvent, isLoaded, opening, closing, restarted, withDisc, withLock, withPlay, withPage, withEvent}
 use Rattle.drive.specs.State.{isKnownState, shift, powerOn, powerOnWithoutChange, button, lay, lift, moveOn}
 use Rattle.gate.specs.declared.fault.Fault.{Fault}

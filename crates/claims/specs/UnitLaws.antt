@@ -5,10 +5,10 @@ use mathlib.Core.List.{List}
 use Prim.Native.Nat.{ℕ, zero, suc}
 use lib.Dec.{eqb, eqb·suc-zero}
 use Rattle.ground.specs.Tests.{_and_, _or_, if_then_else_}
-use Rattle.sense.specs.declared.Sense.{Sense}
-use Rattle.drive.specs.declared.state.Unit.{Unit}
-use Rattle.sense.specs.Sense.{senseAt, noSense, changed, powered, sameSense}
-use Rattle.drive.specs.Unit.{attend}
+use Rattle.attention.specs.declared.sense.Sense.{Sense}
+use Rattle.attention.specs.declared.Unit.{Unit}
+use Rattle.attention.specs.Sense.{senseAt, noSense, changed, powered, sameSense}
+use Rattle.attention.specs.Unit.{attend}
 use Rattle.gate.specs.declared.fault.Fault.{Fault}
 use Rattle.gate.specs.declared.fault.Fault.the-variants.{NoMediumClosed, NoMediumOpen, UnknownCode, OutOfRange, BadField, RemovalPrevented, IllegalMode, ListLength, ListField, NoSaving}
 use Rattle.gate.specs.Fault.{senseOf}

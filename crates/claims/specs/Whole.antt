@@ -10,8 +10,8 @@ use Rattle.ground.specs.Tests.{_and_, _or_, if_then_else_}
 use Rattle.ground.specs.Memory.{fill-fits}
 use Rattle.deck.specs.declared.Deck.{Deck}
 use Rattle.drive.specs.declared.state.Drive.{Drive}
-use Rattle.sense.specs.Sense.{senseAt}
-use Rattle.sense.specs.SenseLaws.{isKnown-at}
+use Rattle.attention.specs.Sense.{senseAt}
+use Rattle.attention.specs.SenseLaws.{isKnown-at}
 use Rattle.deck.specs.Deck.{isLoaded}
 use Rattle.drive.specs.State.{isKnownState}
 use Rattle.drive.specs.StateLaws.{known-isKnownState}

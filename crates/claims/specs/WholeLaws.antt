@@ -8,7 +8,7 @@ use lib.ListN.{length, length-append, length-drop}
 use lib.Dec.{eqb, ltb}
 use borrow.Author.Tests.{ltb-false, not-true}
 use Rattle.ground.specs.Tests.{_and_, _or_, either, and-head, and-tail}
-use Rattle.drive.specs.declared.state.Unit.{Unit}
+use Rattle.attention.specs.declared.Unit.{Unit}
 use Rattle.deck.specs.declared.Deck.{Deck}
 use Rattle.drive.specs.declared.state.Drive.{Drive}
 use Rattle.deck.specs.Deck.{isLoaded}

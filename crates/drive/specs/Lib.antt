@@ -1,3 +1,2 @@
-pub mod Unit
 pub mod State
 pub mod StateLaws

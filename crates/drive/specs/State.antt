@@ -7,11 +7,11 @@ use Rattle.deck.specs.declared.Deck.{Deck}
 use Rattle.deck.specs.declared.Shifted.{Shifted}
 use Rattle.drive.specs.declared.state.Drive.{Drive}
 use Rattle.drive.specs.declared.state.Moved.{Moved}
-use Rattle.sense.specs.Sense.{isKnown}
+use Rattle.attention.specs.Sense.{isKnown}
 use Rattle.play.specs.Play.{isPlay, movedOn}
 use Rattle.page.specs.Page.{isSetting}
 use Rattle.deck.specs.Deck.{pressed, isEvent, isLoaded, opening, closing, withDisc, withPlay, withEvent, restarted}
-use Rattle.drive.specs.Unit.{poweredOn, attend}
+use Rattle.attention.specs.Unit.{poweredOn, attend}
 
 -- the refusals of these calls
 abbrev pub unknownState : ℕ

@@ -8,7 +8,7 @@ use Rattle.ground.specs.Tests.{_and_, if_then_else_, and-head, and-tail, and-bo
 use Rattle.deck.specs.declared.Deck.{Deck}
 use Rattle.drive.specs.declared.state.Drive.{Drive}
 use Rattle.drive.specs.declared.state.Moved.{Moved}
-use Rattle.sense.specs.Sense.{isKnown}
+use Rattle.attention.specs.Sense.{isKnown}
 use Rattle.play.specs.Play.{movedOn}
 use Rattle.play.specs.PlayLaws.{Known, isPlay-known, known-isPlay}
 use Rattle.page.specs.Page.{isSetting}

@@ -1,23 +1,13 @@
 // The state: an attention unit beside the deck. Each call takes it by value and hands back the next one.
+use attention::Unit;
+use attention::sense::is_known;
 use deck::Deck;
 use deck::PRESSED;
 use deck::Shifted;
 use deck::is_event;
 use page::is_setting;
-use sense::NO_SENSE;
-use sense::Sense;
-use sense::is_known;
-use sense::sense_at;
 ghost use mathlib.Core.Path.{_≡_};
-ghost use Rattle.drive.specs.Unit.{poweredOn, attend};
 ghost use Rattle.drive.specs.State.{isKnownState, withDeck, shift, powerOnWith, powerOn, powerOnWithoutChange, moves, refuse, button, lay, lift, moveOn};
-
-// What is pending and what is held: this is the same for every device that stands behind the gate.
-pub struct Unit {
-    pub power: bool,
-    pub change: bool,
-    pub sense: Sense,
-}
 
 pub struct Drive {
     pub unit: Unit,
@@ -38,34 +28,6 @@ pub const LOCKED: u8 = 5;
 pub const CANNOT_LAY: u8 = 6;
 
 pub const CANNOT_LIFT: u8 = 7;
-
-impl Unit {
-    // Power-on: sense 00/00/00, power attention pending, and the change attention where the form of power-on says so.
-    pub fn powered_on(self, change: bool) -> Unit
-        ensures { λ r. ⌜ r ≡ poweredOn change ⌝ }
-    {
-        Unit {
-            power: true,
-            change,
-            sense: sense_at(NO_SENSE),
-        }
-    }
-
-    // A loading: the change attention becomes pending.
-    pub fn attend(self, loading: bool) -> Unit
-        ensures { λ r. ⌜ r ≡ attend loading self ⌝ }
-    {
-        let sense = self.sense;
-        if loading {
-            return Unit {
-                power: self.power,
-                change: true,
-                sense,
-            };
-        }
-        self
-    }
-}
 
 impl Drive {
     // Refusal 2 does not meet the state: the sense is one of the thirteen, the play status one of the four, the position not past the end, the

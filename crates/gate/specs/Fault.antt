@@ -1,6 +1,6 @@
 -- The triples with which a command fails: the ten of the thirteen that are neither 00/00/00 nor an attention's.
-use Rattle.sense.specs.declared.Sense.{Sense}
-use Rattle.sense.specs.Sense.{noMediumClosed, noMediumOpen, unknownCode, outOfRange, badField, removalPrevented, illegalMode, listLength, listField, noSaving}
+use Rattle.attention.specs.declared.sense.Sense.{Sense}
+use Rattle.attention.specs.Sense.{noMediumClosed, noMediumOpen, unknownCode, outOfRange, badField, removalPrevented, illegalMode, listLength, listField, noSaving}
 use Rattle.gate.specs.declared.fault.Fault.{Fault}
 use Rattle.gate.specs.declared.fault.Fault.the-variants.{NoMediumClosed, NoMediumOpen, UnknownCode, OutOfRange, BadField, RemovalPrevented, IllegalMode, ListLength, ListField, NoSaving}
 

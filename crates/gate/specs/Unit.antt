@@ -1,9 +1,9 @@
 -- What the steps do to the attention unit.
 use mathlib.Core.Bool.{false}
 use Rattle.ground.specs.Tests.{if_then_else_}
-use Rattle.sense.specs.declared.Sense.{Sense}
-use Rattle.drive.specs.declared.state.Unit.{Unit}
-use Rattle.sense.specs.Sense.{noSense, changed, powered, sameSense}
+use Rattle.attention.specs.declared.sense.Sense.{Sense}
+use Rattle.attention.specs.declared.Unit.{Unit}
+use Rattle.attention.specs.Sense.{noSense, changed, powered, sameSense}
 use Rattle.gate.specs.declared.unit.Pending.{Pending}
 use Rattle.gate.specs.declared.unit.Pending.the-variants.{Power, Change, Nothing}
 use Rattle.gate.specs.declared.unit.Giving.{Giving}

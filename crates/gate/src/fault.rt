@@ -1,16 +1,16 @@
 // The triples with which a command fails: the ten of the table that are neither an attention nor 00/00/00.
-use sense::BAD_FIELD;
-use sense::ILLEGAL_MODE;
-use sense::LIST_FIELD;
-use sense::LIST_LENGTH;
-use sense::NO_MEDIUM_CLOSED;
-use sense::NO_MEDIUM_OPEN;
-use sense::NO_SAVING;
-use sense::OUT_OF_RANGE;
-use sense::REMOVAL_PREVENTED;
-use sense::Sense;
-use sense::UNKNOWN_CODE;
-use sense::sense_at;
+use attention::sense::BAD_FIELD;
+use attention::sense::ILLEGAL_MODE;
+use attention::sense::LIST_FIELD;
+use attention::sense::LIST_LENGTH;
+use attention::sense::NO_MEDIUM_CLOSED;
+use attention::sense::NO_MEDIUM_OPEN;
+use attention::sense::NO_SAVING;
+use attention::sense::OUT_OF_RANGE;
+use attention::sense::REMOVAL_PREVENTED;
+use attention::sense::Sense;
+use attention::sense::UNKNOWN_CODE;
+use attention::sense::sense_at;
 ghost use mathlib.Core.Path.{_≡_};
 ghost use Rattle.gate.specs.Fault.{senseOf};
 

@@ -1,11 +1,11 @@
 // What the gate does to the attention unit.
-use drive::state::Unit;
-use sense::CHANGED;
-use sense::NO_SENSE;
-use sense::POWERED;
-use sense::Sense;
-use sense::same;
-use sense::sense_at;
+use attention::Unit;
+use attention::sense::CHANGED;
+use attention::sense::NO_SENSE;
+use attention::sense::POWERED;
+use attention::sense::Sense;
+use attention::sense::same;
+use attention::sense::sense_at;
 ghost use mathlib.Core.Path.{_≡_};
 ghost use Rattle.gate.specs.Unit.{hold, clear, pendingOf, attentionSense, told, give};
 ghost use Rattle.gate.specs.Gate.{senseBytes};

@@ -10,7 +10,7 @@ use Rattle.print.specs.Hex.{hexByte, shown, shown-length}
 use Rattle.print.specs.Decimal.{decimal, decimal-length}
 use Rattle.table.specs.Layout.{bound}
 use Rattle.disc.specs.Part.{unfit}
-use Rattle.sense.specs.declared.Sense.{Sense}
+use Rattle.attention.specs.declared.sense.Sense.{Sense}
 use Rattle.outcome.specs.declared.Outcome.{Outcome}
 
 -- three bytes, each after a space

@@ -4,7 +4,7 @@ use mathlib.Core.Bool.{true, false}
 use mathlib.Core.List.{List, []}
 use lib.ListN.{take, drop}
 use Rattle.drive.specs.declared.state.Drive.{Drive}
-use Rattle.sense.specs.Sense.{noSense}
+use Rattle.attention.specs.Sense.{noSense}
 use Rattle.play.specs.Play.{noPlay}
 use Rattle.page.specs.Page.{defaults}
 use Rattle.deck.specs.Deck.{noEvent}

@@ -2,10 +2,12 @@
 mod file;
 mod line;
 
+use attention::Unit;
+use attention::sense::NO_SENSE;
+use attention::sense::sense_at;
 use deck::Deck;
 use deck::NO_EVENT;
 use drive::state::Drive;
-use drive::state::Unit;
 use file::load;
 use libc::STDERR_FILENO;
 use libc::STDOUT_FILENO;
@@ -14,8 +16,6 @@ use outcome::Outcome;
 use page::defaults;
 use play::no_play;
 use print::front::front;
-use sense::NO_SENSE;
-use sense::sense_at;
 use table::layout::BOUND;
 use target::packet::packet;
 ghost use mathlib.Core.Path.{_≡_};

@@ -4,11 +4,11 @@ use mathlib.Core.Path.{_≡_}
 use mathlib.Core.List.{List}
 use lib.ListN.{length, take}
 use Rattle.ground.specs.Memory.{fill}
-use Rattle.sense.specs.declared.Sense.{Sense}
-use Rattle.drive.specs.declared.state.Unit.{Unit}
+use Rattle.attention.specs.declared.sense.Sense.{Sense}
+use Rattle.attention.specs.declared.Unit.{Unit}
 use Rattle.deck.specs.declared.Deck.{Deck}
 use Rattle.drive.specs.declared.state.Drive.{Drive}
-use Rattle.drive.specs.Unit.{attend}
+use Rattle.attention.specs.Unit.{attend}
 use Rattle.gate.specs.Fault.{senseOf}
 use Rattle.gate.specs.Unit.{hold}
 use Rattle.gate.specs.Gate.{Reply}

@@ -1,14 +1,14 @@
 // What a packet hands back: a refusal, CHECK CONDITION or GOOD.
+use attention::Unit;
+use attention::sense::Sense;
 use command::done::Done;
 use deck::Deck;
 use drive::state::Drive;
-use drive::state::Unit;
 use gate::fault::sense_of;
 use gate::unit::Pending;
 use gate::unit::hold;
 use gate::unit::sense_of_pending;
 use gate::unit::told;
-use sense::Sense;
 ghost use mathlib.Core.Path.{_≡_};
 ghost use Rattle.gate.specs.Unit.{attentionSense, told};
 ghost use Rattle.outcome.specs.Outcome.{refused, checked, granted, finished};

@@ -10,7 +10,7 @@ use Rattle.print.specs.Joined.{_next_, spaced}
 use Rattle.print.specs.Hex.{hexByte, shown}
 use Rattle.print.specs.Decimal.{decimal}
 use Rattle.print.specs.Sum.{adler32}
-use Rattle.sense.specs.declared.Sense.{Sense}
+use Rattle.attention.specs.declared.sense.Sense.{Sense}
 use Rattle.play.specs.declared.Play.{Play}
 use Rattle.page.specs.declared.Page.{Page}
 use Rattle.deck.specs.declared.Deck.{Deck}

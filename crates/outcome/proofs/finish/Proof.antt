@@ -1,6 +1,6 @@
 -- `outcome::finish` meets its contract: each arm hands back what the definition gives for it.
 use mathlib.Core.Path.{sym, ap, _∙_}
-use Rattle.sense.specs.declared.Sense.{Sense}
+use Rattle.attention.specs.declared.sense.Sense.{Sense}
 use Rattle.outcome.specs.Outcome.{checked, finished}
 use borrow.Author.Needs.{needs}
 use Rattle.outcome.proofs.finish.Statement.{statement}

@@ -1,7 +1,7 @@
 -- `outcome::tell` meets its contract: triple and unit are those of the attention.
 use mathlib.Core.Path.{ap₂, _∙_}
-use Rattle.sense.specs.declared.Sense.{Sense}
-use Rattle.drive.specs.declared.state.Unit.{Unit}
+use Rattle.attention.specs.declared.sense.Sense.{Sense}
+use Rattle.attention.specs.declared.Unit.{Unit}
 use Rattle.outcome.specs.Outcome.{checked}
 use borrow.Author.Needs.{needs}
 use Rattle.outcome.proofs.tell.Statement.{statement}

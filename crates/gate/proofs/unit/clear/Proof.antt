@@ -1,6 +1,6 @@
 -- `gate::unit::clear` meets its contract: it holds the table's first row.
 use mathlib.Core.Path.{ap, _∙_}
-use Rattle.sense.specs.declared.Sense.{Sense}
+use Rattle.attention.specs.declared.sense.Sense.{Sense}
 use Rattle.gate.specs.Unit.{hold}
 use borrow.Author.Needs.{needs}
 use Rattle.gate.proofs.unit.clear.Statement.{statement}

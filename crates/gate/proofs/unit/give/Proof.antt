@@ -2,7 +2,7 @@
 use mathlib.Core.Path.{_≡_, sym, ap, _∙_}
 use mathlib.Core.Bool.{true, false}
 use Rattle.ground.specs.Tests.{when, unless}
-use Rattle.sense.specs.Sense.{noSense, sameSense}
+use Rattle.attention.specs.Sense.{noSense, sameSense}
 use Rattle.gate.specs.declared.unit.Pending.{Pending}
 use Rattle.gate.specs.Unit.{clear, attentionSense, told, give}
 use borrow.Author.Needs.{needs}

@@ -1,14 +1,14 @@
--- `sense::is_known` meets its contract: what the rows not yet seen decide is what the whole table decides.
+-- `attention::sense::is_known` meets its contract: what the rows not yet seen decide is what the whole table decides.
 use mathlib.Core.Path.{_≡_, refl, sym, ap, _∙_}
 use Prim.Native.Nat.{_≤_, _-_}
 use native.Mathlib.Omega.{arith}
 use borrow.Author.Needs.{needs}
 use lib.ListN.{drop}
-use Rattle.sense.specs.declared.Sense.{Sense}
-use Rattle.sense.specs.Sense.{senses, sameSense, among, isKnown}
-use Rattle.sense.specs.SenseLaws.{among-here, among-on, among-none}
-use Rattle.sense.proofs.is_known.Statement.{statement}
-use Rattle.sense.proofs.is_known.Tie as tie
+use Rattle.attention.specs.declared.sense.Sense.{Sense}
+use Rattle.attention.specs.Sense.{senses, sameSense, among, isKnown}
+use Rattle.attention.specs.SenseLaws.{among-here, among-on, among-none}
+use Rattle.attention.proofs.sense.is_known.Statement.{statement}
+use Rattle.attention.proofs.sense.is_known.Tie as tie
 
 abbrev Inv-loop : tie.InvT-loop
 Inv-loop s i₀ i = (i ≤ 13) × (among (drop i senses) s ≡ isKnown s)

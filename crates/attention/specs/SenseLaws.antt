@@ -12,8 +12,8 @@ use lib.Dec.{eqb}
 use lib.ListN.{length, drop, getD, List·getD-eq-default, drop-of-length-le}
 use lib.Seq.{drop-cons}
 use Rattle.ground.specs.Tests.{_and_, _or_, and-head, and-tail, and-both, or-right}
-use Rattle.sense.specs.declared.Sense.{Sense}
-use Rattle.sense.specs.Sense.{triple, senses, senseAt, sameSense, among, isKnown}
+use Rattle.attention.specs.declared.sense.Sense.{Sense}
+use Rattle.attention.specs.Sense.{triple, senses, senseAt, sameSense, among, isKnown}
 
 -- past the end of the table stands 00/00/00
 pub senseAt-past : (i : ℕ) → 13 ≤ i → triple 0 0 0 ≡ senseAt i

@@ -1,10 +1,10 @@
--- `sense::sense_at` meets its contract: the code's table is the definition's, row by row.
+-- `attention::sense::sense_at` meets its contract: the code's table is the definition's, row by row.
 use mathlib.Core.Path.{refl}
-use Rattle.sense.specs.Sense.{senseAt}
-use Rattle.sense.specs.SenseLaws.{senseAt-past}
+use Rattle.attention.specs.Sense.{senseAt}
+use Rattle.attention.specs.SenseLaws.{senseAt-past}
 use borrow.Author.Needs.{needs}
-use Rattle.sense.proofs.sense_at.Statement.{statement}
-use Rattle.sense.proofs.sense_at.Tie as tie
+use Rattle.attention.proofs.sense.sense_at.Statement.{statement}
+use Rattle.attention.proofs.sense.sense_at.Tie as tie
 
 returns : tie.Need-returns
 unfolding senseAt

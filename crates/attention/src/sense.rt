@@ -1,6 +1,6 @@
 // The thirteen sense triples (key/ASC/ASCQ): a table, searched to accept a held sense and cited by every CHECK CONDITION.
 ghost use mathlib.Core.Path.{_≡_};
-ghost use Rattle.sense.specs.Sense.{senseAt, sameSense, isKnown};
+ghost use Rattle.attention.specs.Sense.{senseAt, sameSense, isKnown};
 
 pub struct Sense {
     pub key: u8,

@@ -1,10 +1,10 @@
--- `sense::same` meets its contract: each test is one of the definition's three, in its order.
+-- `attention::sense::same` meets its contract: each test is one of the definition's three, in its order.
 use mathlib.Core.Path.{refl}
 use borrow.Author.Tests.{eq-eqb, ne-eqb}
 use Rattle.ground.specs.Tests.{and-on, and-off, and-late}
-use Rattle.sense.specs.Sense.{sameSense}
-use Rattle.sense.proofs.same.Statement.{statement}
-use Rattle.sense.proofs.same.Tie as tie
+use Rattle.attention.specs.Sense.{sameSense}
+use Rattle.attention.proofs.sense.same.Statement.{statement}
+use Rattle.attention.proofs.sense.same.Tie as tie
 
 returns : tie.Need-returns
 unfolding sameSense

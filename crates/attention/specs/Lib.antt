@@ -1,2 +1,3 @@
 pub mod Sense
 pub mod SenseLaws
+pub mod Unit

@@ -5,7 +5,7 @@ use mathlib.Core.List.{List, [], _∷_}
 use lib.ListN.{getD}
 use lib.Dec.{eqb}
 use Rattle.ground.specs.Tests.{_and_, _or_}
-use Rattle.sense.specs.declared.Sense.{Sense}
+use Rattle.attention.specs.declared.sense.Sense.{Sense}
 
 abbrev pub triple : ℕ → ℕ → ℕ → Sense
 triple k a q = record { key = k; asc = a; ascq = q }

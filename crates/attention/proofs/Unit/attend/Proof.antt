@@ -1,9 +1,9 @@
--- `drive::state::Unit::attend` meets its contract: the one test is the definition's.
+-- `attention::Unit::attend` meets its contract: the one test is the definition's.
 use mathlib.Core.Path.{sym}
 use Rattle.ground.specs.Tests.{when, unless}
-use Rattle.drive.specs.Unit.{attend}
-use Rattle.drive.proofs.state.Unit.attend.Statement.{statement}
-use Rattle.drive.proofs.state.Unit.attend.Tie as tie
+use Rattle.attention.specs.Unit.{attend}
+use Rattle.attention.proofs.Unit.attend.Statement.{statement}
+use Rattle.attention.proofs.Unit.attend.Tie as tie
 
 returns : tie.Need-returns
 unfolding attend

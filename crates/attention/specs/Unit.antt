@@ -1,8 +1,8 @@
 -- The attention unit: power attention, change attention and held sense, beside any deck.
 use mathlib.Core.Bool.{Bool, true}
 use Rattle.ground.specs.Tests.{if_then_else_}
-use Rattle.drive.specs.declared.state.Unit.{Unit}
-use Rattle.sense.specs.Sense.{noSense}
+use Rattle.attention.specs.declared.Unit.{Unit}
+use Rattle.attention.specs.Sense.{noSense}
 
 -- "Power-on ..: .. sense 00/00/00, power attention pending"; the form of power-on (K3) says whether the change attention is pending too
 abbrev pub poweredOn : Bool → Unit
