@@ -8,7 +8,6 @@ use native.Mathlib.Omega.{arith}
 use native.Mathlib.Nat.{lt-of-not-le}
 use native.Mathlib.Decide.{decLe}
 use borrow.Author.Tests.{eq-eqb, eqb-true}
-use lib.Dec.{eqb}
 use lib.ListN.{length, drop, getD, List·getD-eq-default, drop-of-length-le}
 use lib.Seq.{drop-cons}
 use Rattle.ground.specs.Tests.{_and_, _or_, and-head, and-tail, and-both, or-right}

@@ -17,14 +17,13 @@ use Rattle.attention.specs.Unit.{attend}
 use Rattle.deck.specs.Deck.{loaded, isLoaded, withLock, opening}
 use Rattle.drive.specs.State.{isKnownState, withDeck, holding, showing, powerOn, powerOnWithoutChange, button, lay, lift}
 use Rattle.table.specs.Layout.{bound, isTrack, isExtra}
-use Rattle.table.specs.Row.{startOf, names, simple, free, plain, headA0, headA1, headed, addressed, rowTest}
-use Rattle.sessions.specs.Session.{one, size, listed, numbered, isSession, starts, before, follows, inPlace, inOrder}
-use Rattle.disc.specs.Rules.{rule1, rule2, eachRow, rises, outBefore, beginsAfter, rising, rule7, firstBroken, lateRules, rowRules, fault, isFit}
+use Rattle.table.specs.Row.{startOf, names, simple, plain, headA0, headA1, headed, addressed, rowTest}
+use Rattle.sessions.specs.Session.{one, size, listed, numbered, isSession, starts, follows, inPlace, inOrder}
+use Rattle.disc.specs.Rules.{rule1, rule2, eachRow, rises, beginsAfter, rising, rule7, firstBroken, lateRules, rowRules, fault, isFit}
 use Rattle.tracks.specs.Track.{nextOut, outAt, covers, wanted, nextFound, found, trackOf, isMode, inMode, allIn}
 use Rattle.gate.specs.Unit.{pendingOf}
 use Rattle.gate.specs.Gate.{gate}
 use Rattle.command.specs.Command.{decode, codeOf, loEj}
-use Rattle.command.specs.Done.{answering}
 use Rattle.command.specs.Tray.{eject as ejects, load, startStop}
 use Rattle.blocks.specs.Range.{over, inRange, ranged}
 use Rattle.audio.specs.Audio.{started, isOver, pauseResume}
@@ -218,5 +217,5 @@ found-none i = differing-none (final (i .from) (i .calls)) (final (i .from) (i .
 
 -- each instance is as it says
 pub compared : map foundIn instances ≡ map saidOf instances
-unfolding differing add sameFlag samePlay samePage _and_ _or_ if_then_else_ every isMsf senseAt sameSense among isKnown isStatus isPlay amongBytes isSetting isKnownState powerOn powerOnWithoutChange button lay lift attend isTrack isExtra startOf names simple free plain headA0 headA1 headed addressed rowTest one size listed numbered isSession starts before follows inPlace inOrder rule1 rule2 eachRow rises outBefore beginsAfter rising rule7 firstBroken lateRules rowRules fault isFit nextOut outAt covers wanted nextFound found trackOf isMode inMode allIn pendingOf gate decode answering ejects load startStop over inRange ranged started isOver pauseResume perform refusalOf replyTo
+unfolding differing add sameFlag samePlay samePage _or_ if_then_else_ every isMsf senseAt sameSense among isKnown isStatus isPlay amongBytes isSetting isKnownState powerOn powerOnWithoutChange button lay lift attend isTrack isExtra startOf names simple plain headA0 headA1 headed addressed rowTest one size listed numbered isSession starts follows inPlace inOrder rule1 rule2 eachRow rises beginsAfter rising rule7 firstBroken lateRules rowRules fault isFit nextOut outAt covers wanted nextFound found trackOf isMode inMode allIn pendingOf gate decode ejects load startStop over inRange ranged started isOver pauseResume perform refusalOf replyTo
 compared = refl
