@@ -89,6 +89,10 @@ isPending k d = pending k (d .unit)
 abbrev pub isAttending : Drive → Bool
 isAttending d = anyPending (d .unit)
 
+-- 1Bh, START/STOP UNIT, with LoEj 1: "Eject (1,0)" or "Load (1,1)"
+abbrev pub isEjectOrLoad : List ℕ → Bool
+isEjectOrLoad p = eqb (codeOf p) 0x1B and loEj p
+
 -- ---- causes
 
 abbrev pub isPowering : Call → Bool

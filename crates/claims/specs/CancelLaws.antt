@@ -4,17 +4,13 @@ use mathlib.Core.Bool.{Bool, true, false, not, false≢true}
 use mathlib.Core.List.{List}
 use Prim.Native.Nat.{ℕ}
 use lib.ListN.{length}
-use lib.Dec.{eqb}
 use borrow.Author.Tests.{eq-eqb, not-true}
 use Rattle.ground.specs.Tests.{_and_, and-head, and-tail}
 use Rattle.deck.specs.declared.Deck.{Deck}
 use Rattle.drive.specs.declared.state.Drive.{Drive}
 use Rattle.drive.specs.declared.state.Moved.{Moved}
-use Rattle.play.specs.Play.{noPlay}
-use Rattle.page.specs.Page.{defaults}
-use Rattle.attention.specs.Unit.{poweredOn}
-use Rattle.deck.specs.Deck.{noEvent, isLoaded, opening, closing}
-use Rattle.drive.specs.State.{isKnownState, shift, holding, powerOnWith, moves, button, lay, lift}
+use Rattle.deck.specs.Deck.{isLoaded, opening, closing}
+use Rattle.drive.specs.State.{isKnownState, withDeck, shift, holding, powerOnWith, moves, button, lay, lift}
 use Rattle.drive.specs.StateLaws.{powerOn-with, powerOnWithoutChange-with, button-opens, button-closes, lay-lays, lift-lifts}
 use Rattle.gate.specs.Gate.{Result}
 use Rattle.command.specs.declared.decode.Command.{Command}
@@ -24,7 +20,7 @@ use Rattle.command.specs.Class.{classOf}
 use Rattle.command.specs.ClassLaws.{decode-is}
 use Rattle.target.specs.Perform.{perform}
 use Rattle.target.specs.Packet.{refusalOf}
-use Rattle.claims.specs.Call.{Form, byDefault, withoutChange, powering, pressing, packet, next}
+use Rattle.claims.specs.Call.{Form, byDefault, withoutChange, powering, pressing, packet, next, isEjectOrLoad}
 use Rattle.claims.specs.UnitLaws.{nextOf, comesTo, meets-keeps}
 use Rattle.claims.specs.PacketLaws.{Does, failing, keeping, closing-it, opening-it, clearing, isTraying, isPolling, perform-does, Seen, asking, freeing, ordering, seen, kindOf, kind, ruleOf, reply-kind}
 use Rattle.claims.specs.RefusalLaws.{lay-tested, lift-tested}
@@ -72,55 +68,66 @@ module _ (d : Drive) where
 
 -- ---- power-on
 
--- K3: the change attention after a power-on in that form, of a drive with that tray and disc
-abbrev changeAfter : Form → Bool → Bool → Bool
-changeAfter byDefault t b = not t and b
-changeAfter withoutChange t b = false
+-- K3: the change attention after a power-on in that form
+abbrev changeAfter : Form → Deck → Bool
+changeAfter byDefault m = isLoaded m
+changeAfter withoutChange m = false
 
--- the state after a power-on in that form, of a drive with that tray and disc
-abbrev fresh : Form → Bool → Bool → Drive
-fresh f t b = record {
-  unit = poweredOn (changeAfter f t b);
-  deck = record { «tray_open» = t; «disc_in» = b; lock = false; play = noPlay; page = defaults; event = noEvent };
-}
+power-with : (f : Form) (d : Drive) → next (powering f) d ≡ powerOnWith d (changeAfter f (d .deck))
+power-with byDefault d = powerOn-with d
+power-with withoutChange d = powerOnWithoutChange-with d
 
--- nothing else of the handed state counts
-power-fresh : (f : Form) (d : Drive) → next (powering f) d ≡ fresh f (d .deck .«tray_open») (d .deck .«disc_in»)
-power-fresh byDefault d = powerOn-with d
-power-fresh withoutChange d = powerOnWithoutChange-with d
+-- the state with that tray and disc
+abbrev seated : Drive → Bool → Bool → Drive
+seated d t b = withDeck d (record {
+  «tray_open» = t;
+  «disc_in» = b;
+  lock = d .deck .lock;
+  play = d .deck .play;
+  page = d .deck .page;
+  event = d .deck .event;
+})
 
 -- equal states have one tray and disc
 equal-same : (d e : Drive) → e ≡ d → Same (d .deck) (e .deck)
 equal-same d e h = (ap (λ (x : Drive). x .deck .«tray_open») h, ap (λ (x : Drive). x .deck .«disc_in») h)
 
 pub power-same : (f : Form) (d : Drive) → Same (d .deck) (next (powering f) d .deck)
-power-same f d = equal-same (fresh f _ _) _ (power-fresh f d)
+power-same f d = equal-same (powerOnWith d _) _ (power-with f d)
+
+-- nothing but tray and disc of the handed state counts
+change-same : (f : Form) (m n : Deck) → Same m n → changeAfter f n ≡ changeAfter f m
+change-same byDefault m n s = rw (s .0, s .1)
+change-same withoutChange m n s = refl
+
+powered-same : (d e : Drive) (b c : Bool) → Same (d .deck) (e .deck) → b ≡ c → powerOnWith e b ≡ powerOnWith d c
+powered-same d e b c s h = λ i. powerOnWith (seated e (s .0 i) (s .1 i)) (h i)
 
 module _ (f : Form) (d e : Drive) where
   pub same-power : Same (d .deck) (e .deck) → next (powering f) e ≡ next (powering f) d
-  same-power s = power-fresh f e ∙ (λ i. fresh f (s .0 i) (s .1 i)) ∙ sym (power-fresh f d)
+  same-power s = power-with f e ∙ powered-same d e _ _ s (change-same f (d .deck) (e .deck) s) ∙ sym (power-with f d)
 
   pub power-tells : next (powering f) e ≡ next (powering f) d → Same (d .deck) (e .deck)
-  power-tells h = equal-same (fresh f _ _) (fresh f _ _) (sym (power-fresh f e) ∙ h ∙ power-fresh f d)
+  power-tells h = equal-same (powerOnWith d _) (powerOnWith e _) (sym (power-with f e) ∙ h ∙ power-with f d)
 
 module _ (d : Drive) where
   -- the two forms differ in the change attention of a loaded drive
   pub forms-same : isLoaded (d .deck) ≡ false → next (powering byDefault) d ≡ next (powering withoutChange) d
-  forms-same h = powerOn-with d ∙ ap (powerOnWith d) h ∙ sym (powerOnWithoutChange-with d)
+  forms-same h = power-with byDefault d ∙ ap (powerOnWith d) h ∙ sym (power-with withoutChange d)
 
   pub forms-apart : next (powering byDefault) d ≡ next (powering withoutChange) d → isLoaded (d .deck) ≡ false
-  forms-apart h = ap (λ (x : Drive). x .unit .change) (sym (powerOn-with d) ∙ h ∙ powerOnWithoutChange-with d)
+  forms-apart h = ap (λ (x : Drive). x .unit .change) (sym (power-with byDefault d) ∙ h ∙ power-with withoutChange d)
 
 -- ---- the button
 
--- a closed unlocked tray opens, and then closes
-module _ (d : Drive) (k : isKnownState d ≡ true) (t : d .deck .«tray_open» ≡ false) (l : d .deck .lock ≡ false) where
+-- a loaded drive that is not locked opens, and then closes
+module _ (d : Drive) (k : isKnownState d ≡ true) (h : isLoaded (d .deck) ≡ true) (l : d .deck .lock ≡ false) where
   abbrev out : Drive
   out = shift d (opening (d .deck))
 
   pub press-press : next pressing (next pressing d) ≡ shift out (closing (out .deck))
   press-press =
-      let o = ap (λ (r : Moved). r .state) (button-opens d k t l) in
+      let o = ap (λ (r : Moved). r .state) (button-opens d k (not-true _ (and-head _ _ h)) l) in
       ap (λ (x : Drive). button x .state) o
       ∙ ap (λ (r : Moved). r .state) (button-closes out (subst (λ (x : Drive). isKnownState x ≡ true) o (call-state pressing d k)) refl)
 
@@ -134,7 +141,7 @@ does-same (opening-it w h) = absurd (false≢true w)
 does-same (clearing b) = (refl, refl)
 
 -- 1Bh is the code of one command
-code-traying : (p : List ℕ) → eqb (codeOf p) 0x1B and loEj p ≡ isTraying (decode (codeOf p)) p
+code-traying : (p : List ℕ) → isEjectOrLoad p ≡ isTraying (decode (codeOf p)) p
 unfolding classOf
 code-traying p = ap (λ (b : Bool). b and loEj p) (decode-is StartStop refl (codeOf p))
 
@@ -147,9 +154,9 @@ kind-same asking p m t l h = (refl, refl)
 kind-same (freeing {c} f) p m t l h = perform-same c p m t l h
 kind-same (ordering {c} n g) p m t l h = perform-same c p m t l h
 
-pub packet-same : (p t l m : List ℕ) (d : Drive) → eqb (codeOf p) 0x1B and loEj p ≡ false → Same (d .deck) (next (packet p t l m) d .deck)
+pub packet-same : (p t l m : List ℕ) (d : Drive) → isEjectOrLoad p ≡ false → Same (d .deck) (next (packet p t l m) d .deck)
 packet-same p t l m d h =
     let n = length m in
     let k = kind-same (seen (decode (codeOf p))) p (d .deck) t l (sym (code-traying p) ∙ h) in
     rw (reply-kind d p t l n)
-    (meets-keeps (Same (d .deck)) (refusalOf d p t n) (ruleOf d p t n) (kind p (d .deck) t l) (d .unit) (d .deck) (refl, refl) k)
+    (meets-keeps (Same (d .deck)) (refusalOf d p t n) (ruleOf d p t n) (kind p (d .deck) t l) (d .unit) (d .deck) (refl, refl) (λ z. k))

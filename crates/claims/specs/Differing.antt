@@ -96,7 +96,17 @@ add-none false part parts h = absurd (nil≢cons (sym h))
 
 differing-self : (d : Drive) → differing d d ≡ []
 unfolding differing add
-differing-self d = rw (sameFlag-refl (d .unit .power), sameFlag-refl (d .unit .change), sameSense-refl (d .unit .sense), sameFlag-refl (d .deck .«tray_open»), sameFlag-refl (d .deck .«disc_in»), sameFlag-refl (d .deck .lock), samePlay-refl (d .deck .play), samePage-refl (d .deck .page), eq-eqb (d .deck .event) _ refl)
+differing-self d =
+    let a = sameFlag-refl (d .unit .power) in
+    let b = sameFlag-refl (d .unit .change) in
+    let c = sameSense-refl (d .unit .sense) in
+    let t = sameFlag-refl (d .deck .«tray_open») in
+    let o = sameFlag-refl (d .deck .«disc_in») in
+    let l = sameFlag-refl (d .deck .lock) in
+    let r = samePlay-refl (d .deck .play) in
+    let g = samePage-refl (d .deck .page) in
+    let v = eq-eqb (d .deck .event) _ refl in
+    rw (a, b, c, t, o, l, r, g, v)
 
 same-of : (d e : Drive) → differing d e ≡ [] → d ≡ e
 unfolding differing

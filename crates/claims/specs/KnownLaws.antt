@@ -7,7 +7,7 @@ use Prim.Native.Nat.{ℕ, zero, suc, _≤_}
 use native.Mathlib.Omega.{arith}
 use lib.ListN.{length}
 use lib.Dec.{eqb, ltb}
-use borrow.Author.Tests.{not-true}
+use borrow.Author.Tests.{eq-eqb, not-true}
 use Rattle.ground.specs.Tests.{_and_, if_then_else_, either, and-tail}
 use Rattle.address.specs.Address.{last}
 use Rattle.attention.specs.declared.sense.Sense.{Sense}
@@ -53,7 +53,7 @@ use Rattle.event.specs.EventAnswer.{isClearing}
 use Rattle.event.specs.EventAnswerLaws.{getEvent-ways}
 use Rattle.target.specs.Perform.{L, work, perform}
 use Rattle.target.specs.Packet.{refusalOf, answer as replyTo}
-use Rattle.claims.specs.UnitLaws.{Kind, asks, frees, orders, reply, meets, nextOf, comesTo, reply-keeps}
+use Rattle.claims.specs.UnitLaws.{Kind, asks, frees, orders, reply, meets, nextOf, comesTo, meets-keeps}
 use Rattle.claims.specs.Call.{Form, byDefault, withoutChange, Call, powering, pressing, laying, lifting, movingOn, packet, answer, next, final}
 use Rattle.claims.specs.PacketLaws.{Seen, asking, freeing, ordering, seen, kindOf, kind, ruleOf, reply-kind}
 use Rattle.claims.specs.RefusalLaws.{refusal-ordered, reply-ordered, press-tested, lay-tested, lift-tested, move-tested}
@@ -229,19 +229,16 @@ fit-last t h = fit-lead-out (isFit-true h) .1
 
 -- a packet's answer
 module _ (d : Drive) (s : isKnownState d ≡ true) (p t l : List ℕ) (n : ℕ) where
-  -- the deck, refused or not
-  meets-deck : (j : ℕ) → eqb j 0 ≡ eqb (length p) 12 and isKnownState d and not (ltb n bound) and not (isLoaded (d .deck) and not (isFit t))
-      → KnownDeck (meets j (ruleOf d p t n) (kind p (d .deck) t l) (d .unit) (d .deck) .deck)
-  meets-deck zero e =
-      let h = and-tail _ _ (and-tail _ _ (and-tail _ _ (sym e))) in
-      let k = kind-known (d .deck) (isKnownState-deck d s) (seen (decode (codeOf p))) p t l (λ i. fit-last t (second-holds _ _ (not-true _ h) i)) in
-      reply-keeps KnownDeck (kind p (d .deck) t l) (d .unit) (d .deck) (isKnownState-deck d s) k
-  meets-deck (suc j) e = isKnownState-deck d s
+  -- the deck, where it is not refused
+  comes-known : refusalOf d p t n ≡ 0 → KnownDeck (comesTo (d .deck) (kind p (d .deck) t l))
+  comes-known z =
+      let h = and-tail _ _ (and-tail _ _ (and-tail _ _ (sym (refusal-ordered d p t n .zero) ∙ eq-eqb _ _ z))) in
+      kind-known (d .deck) (isKnownState-deck d s) (seen (decode (codeOf p))) p t l (λ i. fit-last t (second-holds _ _ (not-true _ h) i))
 
   reply-state : isKnownState (record { unit = replyTo d p t l n .unit; deck = replyTo d p t l n .deck }) ≡ true
   reply-state =
       rw (reply-kind d p t l n) (known-isKnownState _ (meets-known (refusalOf d p t n) _ (kind p (d .deck) t l) (d .unit) (d .deck) (isKnownState-sense d s))
-      (meets-deck (refusalOf d p t n) (refusal-ordered d p t n .zero)))
+      (meets-keeps KnownDeck (refusalOf d p t n) _ (kind p (d .deck) t l) (d .unit) (d .deck) (isKnownState-deck d s) comes-known))
 
 -- what power-on leaves
 pub restarted-known : (m : Deck) → KnownDeck (restarted m)

@@ -25,11 +25,12 @@ use Rattle.mode.specs.ModeSelect.{isListLength, isPage, selected, modeSelect}
 use Rattle.target.specs.Perform.{perform}
 use Rattle.target.specs.Packet.{refusalOf, answer}
 use Rattle.claims.specs.Marked.{loadedE, gives, fails, sameBytes, sameOutcome}
+use Rattle.claims.specs.Differing.{samePage}
 use Rattle.claims.specs.Stepped.{packet, lends, powers, comes, after, Mark, mark, allStepped}
 
 -- the mode page has that recovery byte and retry count
 unfoldable pub pages : ℕ → ℕ → Deck → Bool
-pages recovery retry m = eqb (m .page .recovery) recovery and eqb (m .page .retry) retry
+pages recovery retry m = samePage (m .page) (record { recovery = recovery; retry = retry })
 
 abbrev pub pageMarks : List Mark
 pageMarks =
@@ -79,5 +80,5 @@ pageMarks =
     ∷ []
 
 pub paged : allStepped loadedE pageMarks ≡ true
-unfolding allStepped pages after comes sameOutcome sameBytes _and_ _or_ if_then_else_ every isMsf senseAt sameSense among isKnown isStatus isPlay amongBytes isSetting isKnownState powerOn attend isTrack isExtra startOf names simple free plain headA0 headA1 headed addressed rowTest one size listed numbered isSession starts before follows inPlace inOrder rule1 rule2 eachRow rises outBefore beginsAfter rising rule7 firstBroken lateRules rowRules fault isFit pendingOf gate decode answering valuesOf pageShown isListLength isPage selected modeSelect perform refusalOf answer
+unfolding allStepped pages samePage after comes sameOutcome sameBytes _and_ _or_ if_then_else_ every isMsf senseAt sameSense among isKnown isStatus isPlay amongBytes isSetting isKnownState powerOn attend isTrack isExtra startOf names simple free plain headA0 headA1 headed addressed rowTest one size listed numbered isSession starts before follows inPlace inOrder rule1 rule2 eachRow rises outBefore beginsAfter rising rule7 firstBroken lateRules rowRules fault isFit pendingOf gate decode answering valuesOf pageShown isListLength isPage selected modeSelect perform refusalOf answer
 paged = refl

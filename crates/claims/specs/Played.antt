@@ -28,11 +28,12 @@ use Rattle.audio.specs.SubChannel.{subBad, indexOf, relative, shownRelative, su
 use Rattle.target.specs.Perform.{perform}
 use Rattle.target.specs.Packet.{refusalOf, answer}
 use Rattle.claims.specs.Marked.{loadedE, gives, reads, fails, sameBytes, sameOutcome}
+use Rattle.claims.specs.Differing.{samePlay}
 use Rattle.claims.specs.Stepped.{packet, moves, comes, after, Mark, mark, allStepped}
 
 -- the play record has that status, position and end
 unfoldable pub plays : ℕ → ℕ → ℕ → Deck → Bool
-plays s a e m = eqb (m .play .status) s and eqb (m .play .position) a and eqb (m .play .end) e
+plays s a e m = samePlay (m .play) (record { status = s; position = a; end = e })
 
 abbrev pub playMarks : List Mark
 playMarks =
@@ -89,5 +90,5 @@ playMarks =
     ∷ []
 
 pub played : allStepped loadedE playMarks ≡ true
-unfolding allStepped plays after comes sameOutcome sameBytes _and_ _or_ if_then_else_ every isMsf toMsf senseAt sameSense among isKnown isStatus isPlay amongBytes isSetting isKnownState movedOn moveOn attend isTrack isExtra startOf names simple free plain headA0 headA1 headed addressed rowTest one size listed numbered isSession starts before follows inPlace inOrder rule1 rule2 eachRow rises outBefore beginsAfter rising rule7 firstBroken lateRules rowRules fault isFit nextOut outAt covers wanted nextFound found trackOf isMode inMode allIn pendingOf gate decode shownAddress answering over inRange ranged started isOver pauseResume seek subBad indexOf relative shownRelative subBytes reported perform refusalOf answer
+unfolding allStepped plays samePlay after comes sameOutcome sameBytes _and_ _or_ if_then_else_ every isMsf toMsf senseAt sameSense among isKnown isStatus isPlay amongBytes isSetting isKnownState movedOn moveOn attend isTrack isExtra startOf names simple free plain headA0 headA1 headed addressed rowTest one size listed numbered isSession starts before follows inPlace inOrder rule1 rule2 eachRow rises outBefore beginsAfter rising rule7 firstBroken lateRules rowRules fault isFit nextOut outAt covers wanted nextFound found trackOf isMode inMode allIn pendingOf gate decode shownAddress answering over inRange ranged started isOver pauseResume seek subBad indexOf relative shownRelative subBytes reported perform refusalOf answer
 played = refl

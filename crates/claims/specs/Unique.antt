@@ -173,7 +173,7 @@ unique-defaults r s = value-once
 pub unique-is-setting : (b : ℕ) (r s : Bool) → r ≡ isSetting b → s ≡ isSetting b → r ≡ s
 unique-is-setting b r s = value-once
 
--- ---- drive
+-- ---- attention
 
 pub unique-sense-at : (i : ℕ) (r s : Sense) → r ≡ senseAt i → s ≡ senseAt i → r ≡ s
 unique-sense-at i r s = value-once
@@ -190,6 +190,11 @@ unique-powered-on change r s = value-once
 pub unique-attend : (u : Unit) (b : Bool) (r s : Unit) → r ≡ attend b u → s ≡ attend b u → r ≡ s
 unique-attend u b r s = value-once
 
+-- ---- deck
+
+pub unique-is-event : (e : ℕ) (r s : Bool) → r ≡ isEvent e → s ≡ isEvent e → r ≡ s
+unique-is-event e r s = value-once
+
 pub unique-is-loaded : (m : Deck) (r s : Bool) → r ≡ isLoaded m → s ≡ isLoaded m → r ≡ s
 unique-is-loaded m r s = value-once
 
@@ -198,6 +203,9 @@ unique-opening m r s = value-once
 
 pub unique-closing : (m : Deck) (r s : Shifted) → r ≡ closing m → s ≡ closing m → r ≡ s
 unique-closing m r s = value-once
+
+pub unique-restarted : (m : Deck) (r s : Deck) → r ≡ restarted m → s ≡ restarted m → r ≡ s
+unique-restarted m r s = value-once
 
 pub unique-with-disc : (m : Deck) (b : Bool) (r s : Deck) → r ≡ withDisc m b → s ≡ withDisc m b → r ≡ s
 unique-with-disc m b r s = value-once
@@ -211,14 +219,10 @@ unique-with-play m a r s = value-once
 pub unique-with-page : (m : Deck) (a : Page) (r s : Deck) → r ≡ withPage m a → s ≡ withPage m a → r ≡ s
 unique-with-page m a r s = value-once
 
-pub unique-is-event : (e : ℕ) (r s : Bool) → r ≡ isEvent e → s ≡ isEvent e → r ≡ s
-unique-is-event e r s = value-once
-
-pub unique-restarted : (m : Deck) (r s : Deck) → r ≡ restarted m → s ≡ restarted m → r ≡ s
-unique-restarted m r s = value-once
-
 pub unique-with-event : (m : Deck) (e : ℕ) (r s : Deck) → r ≡ withEvent m e → s ≡ withEvent m e → r ≡ s
 unique-with-event m e r s = value-once
+
+-- ---- drive
 
 pub unique-is-known-state : (d : Drive) (r s : Bool) → r ≡ isKnownState d → s ≡ isKnownState d → r ≡ s
 unique-is-known-state d r s = value-once

@@ -230,13 +230,13 @@ module _ {M : Type 0} where
   comesTo m (frees r) = nextOf m r
   comesTo m (orders r) = nextOf m r
 
-  pub reply-keeps : (P : M → Type 0) (k : Kind M) (u : Unit) (m : M) → P m → P (comesTo m k) → P (reply k u m .deck)
+  reply-keeps : (P : M → Type 0) (k : Kind M) (u : Unit) (m : M) → P m → P (comesTo m k) → P (reply k u m .deck)
   reply-keeps P (asks limit) u m a b = a
   reply-keeps P (frees (fails f)) u m a b = a
   reply-keeps P (frees (goes next loading full limit start count)) u m a b = b
   reply-keeps P (orders r) u m a b = gate-keeps P (u .power) (u .change) (u .sense) m r a b
 
   -- refused or not
-  pub meets-keeps : (P : M → Type 0) (n rule : ℕ) (k : Kind M) (u : Unit) (m : M) → P m → P (comesTo m k) → P (meets n rule k u m .deck)
-  meets-keeps P zero rule k u m a b = reply-keeps P k u m a b
+  pub meets-keeps : (P : M → Type 0) (n rule : ℕ) (k : Kind M) (u : Unit) (m : M) → P m → (n ≡ 0 → P (comesTo m k)) → P (meets n rule k u m .deck)
+  meets-keeps P zero rule k u m a b = reply-keeps P k u m a (b refl)
   meets-keeps P (suc n) rule k u m a b = a
