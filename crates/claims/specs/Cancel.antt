@@ -2,7 +2,7 @@
 -- or on none, computed on Disc E with the parts of the state that are left changed. `next c d` is the state after the call c on d, and
 -- `answer c d .number` its number, as in Call.antt.
 use mathlib.Core.Path.{_≡_, refl, _∙_}
-use mathlib.Core.Bool.{Bool, true, false}
+use mathlib.Core.Bool.{true, false}
 use mathlib.Core.List.{List, [], _∷_, map}
 use mathlib.Core.Logic.{_↔_}
 use Prim.Native.Nat.{ℕ}

@@ -44,8 +44,12 @@ holding-known d b k = k
 abbrev Undoes : (Drive → Moved) → Drive → Moved → Type 0
 Undoes other d r = (other (r .state) .number ≡ 0) × (other (r .state) .state ≡ d)
 
-undoes-by : (other : Drive → Moved) (d e : Drive) → other e ≡ moves d → Undoes other d (moves e)
-undoes-by other d e h = (ap (λ (r : Moved). r .number) h, ap (λ (r : Moved). r .state) h)
+-- one call puts the disc in or out, and the other puts it as it was
+holding-undoes : (call other : Drive → Moved) (d : Drive) (b c : Bool) → d .deck .«disc_in» ≡ c
+    → call d ≡ moves (holding d b) → other (holding d b) ≡ moves (holding (holding d b) c) → Undoes other d (call d)
+holding-undoes call other d b c i h o =
+    let e = o ∙ ap moves (holding-last d b c i) in
+    rw h (ap (λ (r : Moved). r .number) e, ap (λ (r : Moved). r .state) e)
 
 module _ (d : Drive) where
   pub lay-lift : lay d .number ≡ 0 → Undoes lift d (lay d)
@@ -54,8 +58,7 @@ module _ (d : Drive) where
       let k = and-head _ _ g in
       let t = and-head _ _ (and-tail _ _ g) in
       let i = not-true _ (and-tail _ _ (and-tail _ _ g)) in
-      let b = lift-lifts (holding d true) (holding-known d true k) t refl ∙ ap moves (holding-last d true false i) in
-      rw (lay-lays d k t i) (undoes-by lift d (holding d true) b)
+      holding-undoes lay lift d true false i (lay-lays d k t i) (lift-lifts (holding d true) (holding-known d true k) t refl)
 
   pub lift-lay : lift d .number ≡ 0 → Undoes lay d (lift d)
   lift-lay n =
@@ -63,8 +66,7 @@ module _ (d : Drive) where
       let k = and-head _ _ g in
       let t = and-head _ _ (and-tail _ _ g) in
       let i = and-tail _ _ (and-tail _ _ g) in
-      let b = lay-lays (holding d false) (holding-known d false k) t refl ∙ ap moves (holding-last d false true i) in
-      rw (lift-lifts d k t i) (undoes-by lay d (holding d false) b)
+      holding-undoes lift lay d false true i (lift-lifts d k t i) (lay-lays (holding d false) (holding-known d false k) t refl)
 
 -- ---- power-on
 

@@ -24,6 +24,7 @@ pub data Part : Type 0 where
   page : Part
   event : Part
 
+-- flags, play records and mode pages, compared
 unfoldable pub sameFlag : Bool → Bool → Bool
 sameFlag true b = b
 sameFlag false b = not b
@@ -39,6 +40,7 @@ unfoldable pub add : Bool → Part → List Part → List Part
 add true part parts = parts
 add false part parts = part ∷ parts
 
+-- the parts in which the two states differ
 unfoldable pub differing : Drive → Drive → List Part
 differing d e =
     add (sameFlag (d .unit .power) (e .unit .power)) power
@@ -108,6 +110,7 @@ differing-self d =
     let v = eq-eqb (d .deck .event) _ refl in
     rw (a, b, c, t, o, l, r, g, v)
 
+-- each part is the same, so the state is
 same-of : (d e : Drive) → differing d e ≡ [] → d ≡ e
 unfolding differing
 same-of d e h =

@@ -6,7 +6,7 @@ use mathlib.Core.List.{List, [], _∷_}
 use Prim.Native.Nat.{ℕ, zero, suc, _≤_}
 use native.Mathlib.Omega.{arith}
 use lib.ListN.{length}
-use lib.Dec.{eqb, ltb}
+use lib.Dec.{eqb}
 use borrow.Author.Tests.{eq-eqb, not-true}
 use Rattle.ground.specs.Tests.{_and_, if_then_else_, either, and-tail}
 use Rattle.address.specs.Address.{last}
@@ -27,7 +27,6 @@ use Rattle.attention.specs.Unit.{attend}
 use Rattle.deck.specs.Deck.{loaded, opened, isEvent, isLoaded, eventMoved, opening, closing, restarted, withDisc, withLock, withPlay, withPage, withEvent}
 use Rattle.drive.specs.State.{isKnownState, button, lay, lift, moveOn}
 use Rattle.drive.specs.StateLaws.{KnownDeck, isKnownState-sense, isKnownState-deck, known-isKnownState, powerOn-with, powerOnWithoutChange-with}
-use Rattle.table.specs.Layout.{bound}
 use Rattle.disc.specs.Rules.{isFit}
 use Rattle.disc.specs.RulesLaws.{isFit-true}
 use Rattle.disc.specs.FitLaws.{fit-lead-out}
@@ -55,7 +54,7 @@ use Rattle.target.specs.Perform.{L, work, perform}
 use Rattle.target.specs.Packet.{refusalOf, answer as replyTo}
 use Rattle.claims.specs.UnitLaws.{Kind, asks, frees, orders, reply, meets, nextOf, comesTo, meets-keeps}
 use Rattle.claims.specs.Call.{Form, byDefault, withoutChange, Call, powering, pressing, laying, lifting, movingOn, packet, answer, next, final}
-use Rattle.claims.specs.PacketLaws.{Seen, asking, freeing, ordering, seen, kindOf, kind, ruleOf, reply-kind}
+use Rattle.claims.specs.PacketLaws.{Seen, asking, freeing, ordering, seen, kindOf, kind, reply-kind}
 use Rattle.claims.specs.RefusalLaws.{refusal-ordered, reply-ordered, press-tested, lay-tested, lift-tested, move-tested}
 use Rattle.claims.specs.WholeLaws.{second-holds}
 
