@@ -8,6 +8,7 @@ pub mod Known
 pub mod Listed
 pub mod Waiting
 pub mod Cancel
+pub mod TrackList
 pub mod Marked
 pub mod Played
 pub mod Paged
@@ -23,6 +24,7 @@ pub mod History
 pub mod MediaEvent
 pub mod Stepped
 pub mod Differing
+pub mod Contents
 -- their proofs: over any device, over any deck, for the drive
 pub mod Runs
 pub mod Stands
@@ -37,4 +39,6 @@ pub mod KnownLaws
 pub mod ListedLaws
 pub mod WaitingLaws
 pub mod CancelLaws
+pub mod ContentsLaws
+pub mod TwinLaws
 pub mod AddressLaws

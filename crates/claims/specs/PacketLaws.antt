@@ -348,7 +348,7 @@ packet-orders p m t l h = (_, kind-needs (seen (decode (codeOf p))) p _ (sym (pa
 -- ---- the lent table and the parameter list
 
 -- beside any number a fit table's rule is 0
-ruleWith-fit : (n : ℕ) (t : List ℕ) → isFit t ≡ true → ruleWith n t ≡ 0
+pub ruleWith-fit : (n : ℕ) (t : List ℕ) → isFit t ≡ true → ruleWith n t ≡ 0
 unfolding ruleWith isFit
 ruleWith-fit n t f = either (λ x. x ≡ 0) (eqb n unfit) (λ h. eqb-true _ _ f) (λ h. refl)
 

@@ -1,11 +1,11 @@
--- Two runs of any device whose answers, while it is live, do not tell alike calls apart.
+-- Two runs of any device whose answers, while it is live, do not tell alike calls apart; or never do.
 use mathlib.Core.Path.{_≡_, refl, sym, ap, _∙_}
-use mathlib.Core.Bool.{Bool, true}
-use mathlib.Core.List.{List, [], _∷_, _++_}
+use mathlib.Core.Bool.{Bool, true, false}
+use mathlib.Core.List.{List, [], _∷_, _++_, map}
 use Prim.Native.Nat.{ℕ, zero, suc, _+_, _<_}
 use native.Mathlib.Omega.{arith}
 use lib.ListN.{length, length-append}
-use Rattle.claims.specs.History.{Event, history, final, At, here, there}
+use Rattle.claims.specs.History.{Event, history, final, None, end, but, At, here, there}
 
 -- the calls of one list are like those of the other, one by one
 pub data Pairwise {C : Type 0} (Alike : C → C → Type 0) : List C → List C → Type 0 where
@@ -79,3 +79,17 @@ module _ {C S A : Type 0} (answer : C → S → A) (next : C → S → S) (live 
   agree-after s (x ∷ common) c l p zero here here w = (refl, refl)
   agree-after s (x ∷ common) c l p (suc i) (there a) (there b) w =
       agree-after (next x s) common c l p i a b (λ j g m q at. w (suc j) g (omega arith) (omega arith) (there at))
+
+-- an event's answer, and the state after it
+abbrev pub resultOf : {C S A : Type 0} → Event C S A → A × S
+resultOf e = (e .answer, e .new)
+
+module _ {C S A : Type 0} (answer : C → S → A) (next : C → S → S) (f g : C → C) (is : C → Bool)
+    (alike : (c : C) (s : S) → is c ≡ false → (answer (f c) s ≡ answer (g c) s) × (next (f c) s ≡ next (g c) s)) where
+  -- the same calls, each made in one way or in another that no state tells apart, agree throughout
+  pub runs-throughout : (s : S) {cs : List C} → None is cs → map resultOf (history answer next s (map f cs)) ≡ map resultOf (history answer next s (map g cs))
+  runs-throughout s end = refl
+  runs-throughout s (but {e} {h} q n) =
+      let a = alike e s q in
+      let r = runs-throughout (next (f e) s) n ∙ ap (λ (x : S). map resultOf (history answer next x (map g h))) (a .1) in
+      λ i. (a .0 i, a .1 i) ∷ r i

@@ -1,5 +1,5 @@
 -- The attention unit beside any deck: how each kind of packet turns the attentions, and what it may tell.
-use mathlib.Core.Path.{_≡_, refl}
+use mathlib.Core.Path.{_≡_, refl, sym, _∙_}
 use mathlib.Core.Bool.{Bool, true, false, not, false≢true}
 use mathlib.Core.List.{List}
 use Prim.Native.Nat.{ℕ, zero, suc}
@@ -211,6 +211,13 @@ any-pending change u h = either-way (u .power)
     either-way : (b : Bool) → b or u .change ≡ true
     either-way true = refl
     either-way false = h
+
+pub none-pending : (a : Attention) (u : Unit) → anyPending u ≡ false → pending a u ≡ false
+none-pending a u h = decided (pending a u) refl
+  where
+    decided : (b : Bool) → pending a u ≡ b → pending a u ≡ false
+    decided true e = absurd (false≢true (sym h ∙ any-pending a u e))
+    decided false e = e
 
 -- ---- the deck: what holds of it and of what a packet comes to holds of the answer's
 

@@ -72,7 +72,7 @@ stepsOf-whole : (t l : List ℕ) → isFit t ≡ true → stepsOf loadedE wholeT
 unfolding decode if_then_else_ gate pendingOf perform answering tocBad tocBytes _and_
 stepsOf-whole t l f = rw (le-ltb (lastSession t) 1 (fit-numbered (isFit-true f) .low))
 
-loadedE-known : isKnownState loadedE ≡ true
+pub loadedE-known : isKnownState loadedE ≡ true
 unfolding senseAt
 loadedE-known = known-isKnownState loadedE (isKnown-at 0) (restarted-known (loadedE .deck))
 

@@ -35,15 +35,15 @@ pub record LeadRow (t : List ℕ) (j : ℕ) : Type 0 where
   pub below : k < lastSession t
   pub lead : addressAt (descriptors t) j ≡ leadOut (session (descriptors t) k)
 
-A0-noTrack : isTrack A0 ≡ false
+pub A0-noTrack : isTrack A0 ≡ false
 unfolding isTrack _and_
 A0-noTrack = refl
 
-A1-noTrack : isTrack A1 ≡ false
+pub A1-noTrack : isTrack A1 ≡ false
 unfolding isTrack _and_
 A1-noTrack = refl
 
-A2-noTrack : isTrack A2 ≡ false
+pub A2-noTrack : isTrack A2 ≡ false
 unfolding isTrack _and_
 A2-noTrack = refl
 

@@ -1,0 +1,316 @@
+-- On a disc of one session every command but READ TOC by format 2 asks the table for its contents alone: the tracks, which all end at the one
+-- lead-out, and the disc read off it.
+use mathlib.Core.Path.{_≡_, refl, sym, ap, _∙_}
+use mathlib.Core.Bool.{Bool, true, false, not, false≢true}
+use mathlib.Core.List.{List, [], _∷_, _++_, append-nil, append-assoc}
+use Prim.Native.Nat.{ℕ, zero, suc, _+_, _-_, _≤_, _<_}
+use native.Mathlib.Omega.{arith}
+use native.Mathlib.Decide.{ℕ-discrete}
+use lib.Dec.{ltb}
+use borrow.Author.Tests.{eq-eqb, ne-eqb, le-ltb}
+use Rattle.ground.specs.Tests.{_and_, if_then_else_, unless, either, and-both, every-same}
+use Rattle.address.specs.Address.{last as lastAddress}
+use Rattle.table.specs.Layout.{lastSession, descriptors, rows, pointAt, isTrack}
+use Rattle.table.specs.Row.{addressAt}
+use Rattle.table.specs.RowLaws.{isTrack-true}
+use Rattle.sessions.specs.Session.{first, tracks, session}
+use Rattle.disc.specs.Rules.{leadOut, isFit}
+use Rattle.disc.specs.RulesLaws.{Fit, fit-numbered, fit-session}
+use Rattle.disc.specs.FitLaws.{pointAt-session, session-none, fit-listed, fit-row, fit-address, fit-tracks-rise, fit-lead-out}
+use Rattle.disc.specs.Disc.{discOf}
+use Rattle.disc.specs.declared.disc.Disc.{Disc}
+use Rattle.tracks.specs.declared.track.Track.{Track}
+use Rattle.tracks.specs.declared.track.Mode.{Mode}
+use Rattle.tracks.specs.declared.track.Mode.the-variants.{Data, Audio}
+use Rattle.tracks.specs.declared.track.Ask.{Ask}
+use Rattle.tracks.specs.declared.track.Ask.the-variants.{Block}
+use Rattle.tracks.specs.Track.{outAt, noTrack, trackAt, nextFound, found, trackOf, isMode, inMode, allIn}
+use Rattle.tracks.specs.TrackLaws.{wanted-not, nextFound-on}
+use Rattle.tracks.specs.SpreadLaws.{A0-noTrack, A1-noTrack, A2-noTrack, fit-track-row}
+use Rattle.gate.specs.Unit.{pendingOf}
+use Rattle.gate.specs.Gate.{Result, fails, pass, gate}
+use Rattle.attention.specs.declared.Unit.{Unit}
+use Rattle.deck.specs.declared.Deck.{Deck}
+use Rattle.drive.specs.declared.state.Drive.{Drive}
+use Rattle.deck.specs.Deck.{isLoaded}
+use Rattle.command.specs.declared.decode.Command.{Command}
+use Rattle.command.specs.declared.decode.Command.the-variants.{TestUnitReady, RequestSense, Inquiry, StartStop, Prevent, ReadCapacity, Read10, Seek, ReadToc, Read12, PlayAudio, PauseResume, ReadSubChannel, ModeSense, ModeSelect, GetEvent, Unknown}
+use Rattle.command.specs.declared.decode.Kind.{Kind}
+use Rattle.command.specs.declared.decode.Kind.the-variants.{Asks, Passes, Gates}
+use Rattle.command.specs.Command.{needsDisc, addressIn, count10, count12, lengthIn, codeOf, decode, kindOf}
+use Rattle.command.specs.Class.{classOf}
+use Rattle.command.specs.ClassLaws.{decode-is}
+use Rattle.command.specs.Done.{answering, answering-fails}
+use Rattle.command.specs.Tray.{noMedium}
+use Rattle.blocks.specs.Blocks.{readCapacity, seek}
+use Rattle.toc.specs.Answer.{format1, tocBytes, tocBad}
+use Rattle.toc.specs.AnswerLaws.{tocBytes-0, tocBytes-1}
+use Rattle.target.specs.ReadToc.{formatIn, msfIn, numberIn, readToc}
+use Rattle.target.specs.Perform.{L, work, perform}
+use Rattle.target.specs.Packet.{stepsBy, refusalOf, answer as replyTo}
+use Rattle.target.specs.PacketLaws.{stepsOf}
+use Rattle.claims.specs.Telling.{power, change, anyPending}
+use Rattle.claims.specs.UnitLaws.{none-pending}
+use Rattle.claims.specs.PacketLaws.{isThe, ruleWith-fit}
+use Rattle.claims.specs.Contents.{listWith, trackList, listPacket, Entry, Contents, entryAt, entries, contentsOf, listOf, isFormat2}
+use Rattle.claims.specs.ContentsLaws.{list-made, Placed, Each, nil, cons, each-append, Ranged}
+
+-- ---- the tracks of a table
+
+-- what holds of each descriptor that is a track holds of each of them
+pub entries-each : (P : Entry → Type 0) (d : List ℕ) (n : ℕ) → ((j : ℕ) → j < n → isTrack (pointAt d j) ≡ true → P (entryAt d j)) → Each P (entries d n)
+unfolding entries
+entries-each P d zero f = nil
+entries-each P d (suc j) f =
+    each-append (entries-each P d j (λ i h. f i (omega arith)))
+    (either (Each P) (isTrack (pointAt d j)) (λ e. cons (f j (omega arith) e) nil) (λ e. nil))
+
+-- those of the first n descriptors stand in front
+entries-front : (d : List ℕ) (n m : ℕ) → n ≤ m → (rest : List Entry) × (entries d m ≡ entries d n ++ rest)
+unfolding entries
+entries-front d n zero h = let e : n ≡ 0 = omega arith in ([], rw e)
+entries-front d n (suc m) h = elim (ℕ-discrete n (suc m)) [
+  | yes e ↦ ([], rw e (sym (append-nil (entries d (suc m)))))
+  | no e ↦ (let r = entries-front d n m (omega arith) in
+      let here = if isTrack (pointAt d m) then entryAt d m ∷ [] else [] in
+      (r .0 ++ here, ap (λ (x : List Entry). x ++ here) (r .1) ∙ append-assoc (entries d n) (r .0) here))
+]
+
+module _ {t : List ℕ} (f : Fit t) where
+  -- a fit table's contents have addresses in range
+  pub fit-ranged : Ranged (contentsOf t)
+  fit-ranged = record {
+    tracks = entries-each Placed (descriptors t) (rows (descriptors t)) (λ j h e.
+      let r = fit-track-row f j h e in
+      rw (r .start) (fit-address f (r .below) (omega arith) (let i = r .inside in omega arith)));
+    lead = fit-lead-out f .1;
+  }
+
+  -- a session's first track is none before the disc's
+  fit-firsts : (k : ℕ) → k < lastSession t → first (descriptors t) ≤ first (session (descriptors t) k)
+  fit-firsts k h =
+      let s = fit-session f {k = 0} (omega arith) in
+      let o = s .order in
+      let e : first (session (descriptors t) 0) ≡ first (descriptors t) = ap first (session-none (descriptors t)) in
+      elim (ℕ-discrete k 0) [
+        | yes q ↦ rw q (omega arith)
+        | no q ↦ (let r = fit-tracks-rise f 0 k (omega arith) h in omega arith)
+      ]
+
+  -- so every track is numbered from the disc's first on
+  pub fit-numbers : (n : ℕ) → n ≤ discOf t .first → Each (λ (e : Entry). n ≤ e .number) (contentsOf t .tracks)
+  fit-numbers n l = entries-each (λ (e : Entry). n ≤ e .number) (descriptors t) (rows (descriptors t)) (λ j h e.
+    let r = fit-track-row f j h e in
+    let p : pointAt (descriptors t) j ≡ first (session (descriptors t) (r .k)) + r .m =
+    ap (pointAt (descriptors t)) (r .place) ∙ sym (pointAt-session (descriptors t) (r .k) (3 + r .m)) ∙ fit-listed f (r .below) .track (r .m) (r .inside) .point in
+    let q = fit-firsts (r .k) (r .below) in
+    omega arith)
+
+-- ---- the tracks of a disc of one session
+
+-- a track that ends at that lead-out
+abbrev trackFrom : ℕ → Entry → Track
+trackFrom out e = record { number = e .number; flags = e .flags; start = e .start; out = out }
+
+-- what is found among them, where u was found so far
+unfoldable pub foundIn : Ask → ℕ → List Entry → Track → Track
+foundIn a out [] u = u
+foundIn a out (e ∷ es) u = foundIn a out es (nextFound a (trackFrom out e) u)
+
+foundIn-append : (a : Ask) (out : ℕ) (x y : List Entry) (u : Track) → foundIn a out (x ++ y) u ≡ foundIn a out y (foundIn a out x u)
+unfolding foundIn
+foundIn-append a out [] y u = refl
+foundIn-append a out (e ∷ x) y u = foundIn-append a out x y (nextFound a (trackFrom out e) u)
+
+-- where every track ends at one lead-out, what is found among the descriptors is found among the tracks
+found-entries : (a : Ask) (d : List ℕ) (out n : ℕ) → ((j : ℕ) → j < n → isTrack (pointAt d j) ≡ true → outAt d j ≡ out)
+    → found a d n ≡ foundIn a out (entries d n) noTrack
+unfolding found entries foundIn if_then_else_
+found-entries a d out zero f = refl
+found-entries a d out (suc j) f =
+    ap (nextFound a (trackAt d j)) (found-entries a d out j (λ i h. f i (omega arith)))
+    ∙ step (isTrack (pointAt d j)) refl
+    ∙ sym (foundIn-append a out (entries d j) _ noTrack)
+  where
+    step : (b : Bool) → isTrack (pointAt d j) ≡ b → let u = foundIn a out (entries d j) noTrack in
+        nextFound a (trackAt d j) u ≡ foundIn a out (if b then entryAt d j ∷ [] else []) u
+    step true e = ap (λ (x : ℕ). nextFound a (trackFrom x (entryAt d j)) (foundIn a out (entries d j) noTrack)) (f j (omega arith) e)
+    step false e = nextFound-on a _ _ (sym (wanted-not a _ _ e))
+
+-- the first of them
+abbrev firstOf : List Entry → Entry
+firstOf [] = record { flags = 0; number = 0; start = 0 }
+firstOf (e ∷ es) = e
+
+-- the disc that is read off a table of one session with those contents
+abbrev discIn : Contents → Disc
+discIn c = record {
+  first = c .first;
+  last = c .last;
+  sessions = 1;
+  «lead_out» = c .leadOut;
+  «lead_flags» = c .leadFlags;
+  «last_first» = firstOf (c .tracks) .number;
+  «last_first_flags» = firstOf (c .tracks) .flags;
+  «last_first_start» = firstOf (c .tracks) .start;
+}
+
+-- behind three descriptors that are no tracks stands the first track
+first-entry : (d : List ℕ) (n : ℕ) → isTrack (pointAt d 0) ≡ false → isTrack (pointAt d 1) ≡ false → isTrack (pointAt d 2) ≡ false
+    → isTrack (pointAt d 3) ≡ true → 4 ≤ n
+    → firstOf (entries d n) ≡ entryAt d 3
+unfolding entries if_then_else_
+first-entry d n a b c e l =
+    let r = entries-front d 4 n l in
+    let four : entries d 4 ≡ entryAt d 3 ∷ [] = rw (a, b, c, e) in
+    ap firstOf (r .1 ∙ ap (λ (x : List Entry). x ++ r .0) four)
+
+module _ {t : List ℕ} (f : Fit t) (o : lastSession t ≡ 1) where
+  last-none : lastSession t - 1 ≡ 0
+  last-none = omega arith
+
+  -- every track ends at the lead-out, L
+  single-out : (j : ℕ) → j < rows (descriptors t) → isTrack (pointAt (descriptors t) j) ≡ true → outAt (descriptors t) j ≡ contentsOf t .leadOut
+  single-out j h e =
+      let r = fit-track-row f j h e in
+      let b = r .below in
+      r .out ∙ ap (λ (k : ℕ). leadOut (session (descriptors t) k)) (omega arith)
+
+  pub single-track : (a : Ask) → found a (descriptors t) (rows (descriptors t)) ≡ foundIn a (contentsOf t .leadOut) (contentsOf t .tracks) noTrack
+  single-track a = found-entries a (descriptors t) (contentsOf t .leadOut) (rows (descriptors t)) single-out
+
+  -- descriptor i of the session is descriptor i of the table
+  tested : (i : ℕ) {a : ℕ} {b : Bool} → pointAt (session (descriptors t) 0) i ≡ a → isTrack a ≡ b → isTrack (pointAt (descriptors t) i) ≡ b
+  tested i p q = ap (λ (x : List ℕ). isTrack (pointAt x i)) (sym (session-none (descriptors t))) ∙ ap isTrack p ∙ q
+
+  -- the last session's first track is the first of them
+  single-first : firstOf (contentsOf t .tracks) ≡ entryAt (session (descriptors t) (lastSession t - 1)) 3
+  single-first =
+      let d = descriptors t in
+      let z : 0 < lastSession t = omega arith in
+      let l = fit-listed f z in
+      let s = fit-session f z in
+      let u = s .low in let v = s .order in let w = s .high in
+      let n = fit-row f {k = 0} {i = 3} z (omega arith) in
+      first-entry d (rows d)
+      (tested 0 (l .a0 .point) A0-noTrack) (tested 1 (l .a1 .point) A1-noTrack) (tested 2 (l .a2 .point) A2-noTrack)
+      (tested 3 (l .track 0 (omega arith) .point) (isTrack-true (first (session d 0) + 0) (omega arith) (omega arith))) (omega arith)
+      ∙ ap (λ (x : List ℕ). entryAt x 3) (sym (session-none d))
+      ∙ ap (λ (k : ℕ). entryAt (session d k) 3) (sym last-none)
+
+  pub single-disc : discOf t ≡ discIn (contentsOf t)
+  single-disc = λ i. record {
+    first = contentsOf t .first;
+    last = contentsOf t .last;
+    sessions = o i;
+    «lead_out» = contentsOf t .leadOut;
+    «lead_flags» = contentsOf t .leadFlags;
+    «last_first» = sym single-first i .number;
+    «last_first_flags» = sym single-first i .flags;
+    «last_first_start» = sym single-first i .start;
+  }
+
+-- ---- what the commands ask of a table
+
+-- two tables that they do not tell apart: the disc that is read off them, the track of each block, and the track list by MSF and N
+pub record Same (t u : List ℕ) : Type 0 where
+  pub disc : discOf t ≡ discOf u
+  pub track : (b : ℕ) → trackOf (descriptors t) b ≡ trackOf (descriptors u) b
+  pub list : (msf : Bool) (n : ℕ) → listWith msf n t ≡ listWith msf n u
+
+-- of one session with the same contents
+pub contents-same : {t u : List ℕ} → Fit t → Fit u → lastSession t ≡ 1 → lastSession u ≡ 1 → contentsOf t ≡ contentsOf u → Same t u
+unfolding trackOf
+contents-same {t} {u} f g o q e = record {
+  disc = single-disc f o ∙ ap discIn e ∙ sym (single-disc g q);
+  track = λ b. ap (below b) (single-track f o (Block b) ∙ ap (λ (c : Contents). foundIn (Block b) (c .leadOut) (c .tracks) noTrack) e ∙ sym (single-track g q (Block b)));
+  list = λ msf n. list-made msf n t ∙ ap (listOf msf n) e ∙ sym (list-made msf n u);
+}
+  where
+    below : ℕ → Track → Track
+    below b w = if ltb b (w .out) then w else noTrack
+
+module _ {t u : List ℕ} (s : Same t u) where
+  -- READ TOC, but format 2: another format is a fault of any disc
+  readToc-same : (p : List ℕ) (m : Deck) → (formatIn p ≡ 2 → ⊥) → readToc p m t ≡ readToc p m u
+  unfolding tocBad
+  readToc-same p m h = elim (ℕ-discrete (formatIn p) 0) [
+    | yes e ↦ by-bytes (tocBytes-0 _ _ (msfIn p) n _ e ∙ s .list (msfIn p) n ∙ sym (tocBytes-0 _ _ (msfIn p) n _ e))
+    | no e ↦ elim (ℕ-discrete (formatIn p) 1) [
+      | yes k ↦ by-bytes (tocBytes-1 _ _ (msfIn p) n _ k ∙ ap (λ (x : Disc). format1 x (msfIn p)) (s .disc) ∙ sym (tocBytes-1 _ _ (msfIn p) n _ k))
+      | no k ↦ answering-fails m _ _ (bad t e k) ∙ sym (answering-fails m _ _ (bad u e k))
+    ]
+  ]
+    where
+      n : ℕ
+      n = numberIn p
+
+      bytes : List ℕ → List ℕ
+      bytes x = tocBytes (discOf x) (formatIn p) (msfIn p) n (descriptors x)
+
+      by-bytes : bytes t ≡ bytes u → readToc p m t ≡ readToc p m u
+      by-bytes q = λ i. answering (tocBad (s .disc i) (formatIn p) n) m (q i) (lengthIn p)
+
+      bad : (x : List ℕ) → (formatIn p ≡ 0 → ⊥) → (formatIn p ≡ 1 → ⊥) → tocBad (discOf x) (formatIn p) n ≡ true
+      bad x e k = unless _ _ _ (ne-eqb _ 0 e) ∙ unless _ _ _ (ne-eqb _ 1 k) ∙ unless _ _ _ (ne-eqb _ 2 h)
+
+  blocks-same : (mode : Mode) (a n : ℕ) → allIn mode (descriptors t) a n ≡ allIn mode (descriptors u) a n
+  unfolding allIn inMode
+  blocks-same mode a n = every-same n _ _ (λ i k. ap (isMode mode) (s .track (a + i)))
+
+  lead-same : L t ≡ L u
+  lead-same = ap (λ (x : Disc). x .«lead_out») (s .disc)
+
+  work-same : (c : Command) (p : List ℕ) (m : Deck) (l : List ℕ) → (isThe ReadToc c ≡ true → formatIn p ≡ 2 → ⊥) → work c p m t l ≡ work c p m u l
+  unfolding classOf
+  work-same TestUnitReady p m l h = refl
+  work-same RequestSense p m l h = refl
+  work-same Inquiry p m l h = refl
+  work-same StartStop p m l h = refl
+  work-same Prevent p m l h = refl
+  work-same ReadCapacity p m l h = ap (λ (x : ℕ). readCapacity x m) lead-same
+  work-same Read10 p m l h = rw (lead-same, blocks-same Data (addressIn p) (count10 p))
+  work-same Seek p m l h = ap (λ (x : ℕ). seek (addressIn p) x m) lead-same
+  work-same ReadToc p m l h = readToc-same p m (h refl)
+  work-same Read12 p m l h = rw (lead-same, blocks-same Data (addressIn p) (count12 p))
+  work-same PlayAudio p m l h = rw (lead-same, blocks-same Audio (addressIn p) (count10 p))
+  work-same PauseResume p m l h = refl
+  work-same ReadSubChannel p m l h = rw (s .track (m .play .position))
+  work-same ModeSense p m l h = refl
+  work-same ModeSelect p m l h = refl
+  work-same GetEvent p m l h = refl
+  work-same Unknown p m l h = refl
+
+  perform-same : (c : Command) (p : List ℕ) (m : Deck) (l : List ℕ) → (isThe ReadToc c ≡ true → formatIn p ≡ 2 → ⊥) → perform c p m t l ≡ perform c p m u l
+  unfolding perform
+  perform-same c p m l h = ap (λ (r : Result Deck). if needsDisc c p and not (isLoaded m) then fails (noMedium m) else r) (work-same c p m l h)
+
+  stepsBy-same : (k : Kind) (c : Command) (v : Unit) (m : Deck) (p l : List ℕ) → perform c p m t l ≡ perform c p m u l
+      → stepsBy k c v m p t l ≡ stepsBy k c v m p u l
+  stepsBy-same Asks c v m p l h = refl
+  stepsBy-same Passes c v m p l h = ap (pass v m) h
+  stepsBy-same Gates c v m p l h = ap (gate v m) h
+
+  steps-same : (d : Drive) (p l : List ℕ) → isFormat2 p ≡ false → stepsOf d p t l ≡ stepsOf d p u l
+  unfolding classOf
+  steps-same d p l h =
+      let c = decode (codeOf p) in
+      stepsBy-same (kindOf c) c (d .unit) (d .deck) p l (perform-same c p (d .deck) l (λ e k.
+        false≢true (sym h ∙ and-both _ _ (decode-is ReadToc refl (codeOf p) ∙ e) (eq-eqb _ _ k))))
+
+  pub reply-same : (d : Drive) (p l : List ℕ) (n : ℕ) → isFit t ≡ true → isFit u ≡ true → isFormat2 p ≡ false
+      → replyTo d p t l n ≡ replyTo d p u l n
+  unfolding replyTo refusalOf
+  reply-same d p l n f g h = rw (ruleWith-fit _ t f, ruleWith-fit _ u g, f, g, steps-same d p l h)
+
+-- ---- the packet that asks for the track list
+
+-- of a loaded drive with nothing pending the steps answer it, and cut it at FFFFh bytes
+module _ (d : Drive) (t l : List ℕ) (h : isLoaded (d .deck) ≡ true) (a : anyPending (d .unit) ≡ false) where
+  pub list-full : stepsOf d listPacket t l .full ≡ trackList t
+  unfolding decode if_then_else_ gate pendingOf perform answering tocBad tocBytes _and_
+  list-full = rw (h, none-pending power (d .unit) a, none-pending change (d .unit) a, le-ltb (discOf t .last) 0 (omega arith))
+
+  pub list-limit : stepsOf d listPacket t l .limit ≡ 0xFFFF
+  unfolding decode if_then_else_ gate pendingOf perform answering tocBad tocBytes _and_
+  list-limit = rw (h, none-pending power (d .unit) a, none-pending change (d .unit) a, le-ltb (discOf t .last) 0 (omega arith))
