@@ -82,12 +82,15 @@ listOf msf n c =
 
 -- ---- the tables that it does not tell apart
 
+-- a fit table "of one session"
+pub record Single (t : List ℕ) : Type 0 where
+  pub fit : isFit t ≡ true
+  pub one : lastSession t ≡ 1
+
 -- "two fit tables of one session whose full format 0 answers (N 0, block addresses) are equal"
 pub record Twins (t u : List ℕ) : Type 0 where
-  pub fit : isFit t ≡ true
-  pub fits : isFit u ≡ true
-  pub one : lastSession t ≡ 1
-  pub ones : lastSession u ≡ 1
+  pub table : Single t
+  pub other : Single u
   pub list : trackList t ≡ trackList u
 
 -- "READ TOC format 2": by byte 2's low nibble, also where N makes it a fault

@@ -15,7 +15,7 @@ use Rattle.table.specs.Row.{addressAt}
 use Rattle.table.specs.RowLaws.{isTrack-true}
 use Rattle.sessions.specs.Session.{first, tracks, session}
 use Rattle.disc.specs.Rules.{leadOut, isFit}
-use Rattle.disc.specs.RulesLaws.{Fit, fit-numbered, fit-session}
+use Rattle.disc.specs.RulesLaws.{Fit, isFit-true, fit-numbered, fit-session}
 use Rattle.disc.specs.FitLaws.{pointAt-session, session-none, fit-listed, fit-row, fit-address, fit-tracks-rise, fit-lead-out}
 use Rattle.disc.specs.Disc.{discOf}
 use Rattle.disc.specs.declared.disc.Disc.{Disc}
@@ -52,7 +52,7 @@ use Rattle.target.specs.PacketLaws.{stepsOf}
 use Rattle.claims.specs.Telling.{power, change, anyPending}
 use Rattle.claims.specs.UnitLaws.{none-pending}
 use Rattle.claims.specs.PacketLaws.{isThe, ruleWith-fit}
-use Rattle.claims.specs.Contents.{listWith, trackList, listPacket, Entry, Contents, entryAt, entries, contentsOf, listOf, isFormat2}
+use Rattle.claims.specs.Contents.{listWith, trackList, listPacket, Entry, Contents, entryAt, entries, contentsOf, listOf, Single, isFormat2}
 use Rattle.claims.specs.ContentsLaws.{list-made, Placed, Each, nil, cons, each-append, Ranged}
 
 -- ---- the tracks of a table
@@ -81,8 +81,8 @@ module _ {t : List ℕ} (f : Fit t) where
   pub fit-ranged : Ranged (contentsOf t)
   fit-ranged = record {
     tracks = entries-each Placed (descriptors t) (rows (descriptors t)) (λ j h e.
-      let r = fit-track-row f j h e in
-      rw (r .start) (fit-address f (r .below) (omega arith) (let i = r .inside in omega arith)));
+        let r = fit-track-row f j h e in
+        rw (r .start) (fit-address f (r .below) (omega arith) (let i = r .inside in omega arith)));
     lead = fit-lead-out f .1;
   }
 
@@ -100,11 +100,11 @@ module _ {t : List ℕ} (f : Fit t) where
   -- so every track is numbered from the disc's first on
   pub fit-numbers : (n : ℕ) → n ≤ discOf t .first → Each (λ (e : Entry). n ≤ e .number) (contentsOf t .tracks)
   fit-numbers n l = entries-each (λ (e : Entry). n ≤ e .number) (descriptors t) (rows (descriptors t)) (λ j h e.
-    let r = fit-track-row f j h e in
-    let p : pointAt (descriptors t) j ≡ first (session (descriptors t) (r .k)) + r .m =
-    ap (pointAt (descriptors t)) (r .place) ∙ sym (pointAt-session (descriptors t) (r .k) (3 + r .m)) ∙ fit-listed f (r .below) .track (r .m) (r .inside) .point in
-    let q = fit-firsts (r .k) (r .below) in
-    omega arith)
+      let r = fit-track-row f j h e in
+      let p : pointAt (descriptors t) j ≡ first (session (descriptors t) (r .k)) + r .m =
+      ap (pointAt (descriptors t)) (r .place) ∙ sym (pointAt-session (descriptors t) (r .k) (3 + r .m)) ∙ fit-listed f (r .below) .track (r .m) (r .inside) .point in
+      let q = fit-firsts (r .k) (r .below) in
+      omega arith)
 
 -- ---- the tracks of a disc of one session
 
@@ -165,15 +165,19 @@ first-entry d n a b c e l =
     let four : entries d 4 ≡ entryAt d 3 ∷ [] = rw (a, b, c, e) in
     ap firstOf (r .1 ∙ ap (λ (x : List Entry). x ++ r .0) four)
 
-module _ {t : List ℕ} (f : Fit t) (o : lastSession t ≡ 1) where
-  last-none : lastSession t - 1 ≡ 0
-  last-none = omega arith
+module _ {t : List ℕ} (s : Single t) where
+  f : Fit t
+  f = isFit-true (s .fit)
+
+  is-one : lastSession t ≡ 1
+  is-one = let n = fit-numbered f in let o = s .one in omega arith
 
   -- every track ends at the lead-out, L
   single-out : (j : ℕ) → j < rows (descriptors t) → isTrack (pointAt (descriptors t) j) ≡ true → outAt (descriptors t) j ≡ contentsOf t .leadOut
   single-out j h e =
       let r = fit-track-row f j h e in
       let b = r .below in
+      let o = is-one in
       r .out ∙ ap (λ (k : ℕ). leadOut (session (descriptors t) k)) (omega arith)
 
   pub single-track : (a : Ask) → found a (descriptors t) (rows (descriptors t)) ≡ foundIn a (contentsOf t .leadOut) (contentsOf t .tracks) noTrack
@@ -187,22 +191,22 @@ module _ {t : List ℕ} (f : Fit t) (o : lastSession t ≡ 1) where
   single-first : firstOf (contentsOf t .tracks) ≡ entryAt (session (descriptors t) (lastSession t - 1)) 3
   single-first =
       let d = descriptors t in
-      let z : 0 < lastSession t = omega arith in
+      let z : 0 < lastSession t = fit-numbered f .low in
       let l = fit-listed f z in
-      let s = fit-session f z in
-      let u = s .low in let v = s .order in let w = s .high in
+      let i = fit-session f z in
+      let u = i .low in let v = i .order in let w = i .high in
       let n = fit-row f {k = 0} {i = 3} z (omega arith) in
       first-entry d (rows d)
       (tested 0 (l .a0 .point) A0-noTrack) (tested 1 (l .a1 .point) A1-noTrack) (tested 2 (l .a2 .point) A2-noTrack)
       (tested 3 (l .track 0 (omega arith) .point) (isTrack-true (first (session d 0) + 0) (omega arith) (omega arith))) (omega arith)
       ∙ ap (λ (x : List ℕ). entryAt x 3) (sym (session-none d))
-      ∙ ap (λ (k : ℕ). entryAt (session d k) 3) (sym last-none)
+      ∙ ap (λ (k : ℕ). entryAt (session d k) 3) (let o = is-one in omega arith)
 
   pub single-disc : discOf t ≡ discIn (contentsOf t)
   single-disc = λ i. record {
     first = contentsOf t .first;
     last = contentsOf t .last;
-    sessions = o i;
+    sessions = is-one i;
     «lead_out» = contentsOf t .leadOut;
     «lead_flags» = contentsOf t .leadFlags;
     «last_first» = sym single-first i .number;
@@ -219,16 +223,16 @@ pub record Same (t u : List ℕ) : Type 0 where
   pub list : (msf : Bool) (n : ℕ) → listWith msf n t ≡ listWith msf n u
 
 -- of one session with the same contents
-pub contents-same : {t u : List ℕ} → Fit t → Fit u → lastSession t ≡ 1 → lastSession u ≡ 1 → contentsOf t ≡ contentsOf u → Same t u
+pub contents-same : {t u : List ℕ} → Single t → Single u → contentsOf t ≡ contentsOf u → Same t u
 unfolding trackOf
-contents-same {t} {u} f g o q e = record {
-  disc = single-disc f o ∙ ap discIn e ∙ sym (single-disc g q);
-  track = λ b. ap (below b) (single-track f o (Block b) ∙ ap (λ (c : Contents). foundIn (Block b) (c .leadOut) (c .tracks) noTrack) e ∙ sym (single-track g q (Block b)));
+contents-same {t} {u} a b e = record {
+  disc = single-disc a ∙ ap discIn e ∙ sym (single-disc b);
+  track = λ n. ap (below n) (single-track a (Block n) ∙ ap (λ (c : Contents). foundIn (Block n) (c .leadOut) (c .tracks) noTrack) e ∙ sym (single-track b (Block n)));
   list = λ msf n. list-made msf n t ∙ ap (listOf msf n) e ∙ sym (list-made msf n u);
 }
   where
     below : ℕ → Track → Track
-    below b w = if ltb b (w .out) then w else noTrack
+    below n w = if ltb n (w .out) then w else noTrack
 
 module _ {t u : List ℕ} (s : Same t u) where
   -- READ TOC, but format 2: another format is a fault of any disc
@@ -296,7 +300,7 @@ module _ {t u : List ℕ} (s : Same t u) where
   steps-same d p l h =
       let c = decode (codeOf p) in
       stepsBy-same (kindOf c) c (d .unit) (d .deck) p l (perform-same c p (d .deck) l (λ e k.
-        false≢true (sym h ∙ and-both _ _ (decode-is ReadToc refl (codeOf p) ∙ e) (eq-eqb _ _ k))))
+      false≢true (sym h ∙ and-both _ _ (decode-is ReadToc refl (codeOf p) ∙ e) (eq-eqb _ _ k))))
 
   pub reply-same : (d : Drive) (p l : List ℕ) (n : ℕ) → isFit t ≡ true → isFit u ≡ true → isFormat2 p ≡ false
       → replyTo d p t l n ≡ replyTo d p u l n
