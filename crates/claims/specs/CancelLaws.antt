@@ -1,6 +1,6 @@
 -- Laying and lifting write the disc alone; power-on reads tray and disc alone; of the packets 1Bh with LoEj 1 alone moves the tray.
 use mathlib.Core.Path.{_≡_, refl, sym, ap, subst, _∙_}
-use mathlib.Core.Bool.{Bool, true, false, not, false≢true}
+use mathlib.Core.Bool.{Bool, true, false, false≢true}
 use mathlib.Core.List.{List}
 use Prim.Native.Nat.{ℕ}
 use lib.ListN.{length}

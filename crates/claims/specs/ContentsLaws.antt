@@ -2,14 +2,14 @@
 use mathlib.Core.Path.{_≡_, refl, sym, ap, _∙_}
 use mathlib.Core.Bool.{Bool, true, false}
 use mathlib.Core.List.{List, [], _∷_, _++_, append-nil, append-assoc}
-use Prim.Native.Nat.{ℕ, zero, suc, _+_, _≤_, _<_}
+use Prim.Native.Nat.{ℕ, zero, suc, _≤_}
 use native.Mathlib.Omega.{arith}
 use lib.Dec.{leb}
 use borrow.Author.Tests.{le-leb}
 use lib.ListN.{length, getD, drop, length-append}
 use Rattle.ground.specs.Tests.{_and_, if_then_else_, when}
 use Rattle.ground.specs.Number.{word32, bytes32-exact}
-use Rattle.address.specs.Address.{MsfAnswer, last as lastAddress, minuteOf, secondOf, frameOf, toMsf, shownAddress}
+use Rattle.address.specs.Address.{MsfAnswer, last as lastAddress, minuteOf, secondOf, frameOf, shownAddress}
 use Rattle.address.specs.Laws.{toMsf-at}
 use Rattle.table.specs.Layout.{descriptors, rows, pointAt, isTrack}
 use Rattle.toc.specs.Shown.{described, describedRow, isShown, shownTrack, shownTracks}

@@ -9,6 +9,7 @@ pub mod Listed
 pub mod Waiting
 pub mod Cancel
 pub mod TrackList
+pub mod TrackListNeeds
 pub mod Marked
 pub mod Played
 pub mod Paged

@@ -9,11 +9,9 @@ use native.Mathlib.Decide.{ℕ-discrete}
 use lib.Dec.{ltb}
 use borrow.Author.Tests.{eq-eqb, ne-eqb, le-ltb}
 use Rattle.ground.specs.Tests.{_and_, if_then_else_, unless, either, and-both, every-same}
-use Rattle.address.specs.Address.{last as lastAddress}
 use Rattle.table.specs.Layout.{lastSession, descriptors, rows, pointAt, isTrack}
-use Rattle.table.specs.Row.{addressAt}
 use Rattle.table.specs.RowLaws.{isTrack-true}
-use Rattle.sessions.specs.Session.{first, tracks, session}
+use Rattle.sessions.specs.Session.{first, session}
 use Rattle.disc.specs.Rules.{leadOut, isFit}
 use Rattle.disc.specs.RulesLaws.{Fit, isFit-true, fit-numbered, fit-session}
 use Rattle.disc.specs.FitLaws.{pointAt-session, session-none, fit-listed, fit-row, fit-address, fit-tracks-rise, fit-lead-out}
