@@ -467,7 +467,7 @@ enum Call {
 }
 
 fn any_call(rng: &mut Rng, marks: &Marks) -> Call {
-    match rng.below(16) {
+    match rng.below(24) {
         0 => Call::PowerOn(State::power_on),
         1 => Call::PowerOn(State::power_on_without_change),
         2 | 3 => Call::Tray(State::button),
@@ -478,6 +478,12 @@ fn any_call(rng: &mut Rng, marks: &Marks) -> Call {
         8 => Call::Packet(start_stop(rng.pick(&[EJECT, LOAD])).to_vec()),
         9 => Call::Packet(test_ready().to_vec()),
         10 => Call::Packet(any_audio(rng, marks).to_vec()),
+        11 => Call::Packet(position(rng.one_in(2)).to_vec()),
+        12 => {
+            let (address, count) = marks.audio_run(rng);
+            Call::Packet(play(address, count).to_vec())
+        }
+        13 => Call::Packet(seek(marks.address(rng)).to_vec()),
         _ => loop {
             let packet = any_packet(rng, marks);
             if !is_format_2(&packet) {
@@ -519,7 +525,7 @@ fn history(table: &[u8], state: State, calls: &[Call]) -> Vec<(Option<Reply>, St
 fn histories_alike() {
     let mut rng = Rng::new(103);
     let (mut loadings, mut good) = (0, 0);
-    for _ in 0..400 {
+    for _ in 0..600 {
         let (tables, marks) = drawn(&mut rng);
         let state = any_state(&mut rng, &marks);
         let calls: Vec<Call> = (0..40).map(|_| any_call(&mut rng, &marks)).collect();
@@ -532,7 +538,7 @@ fn histories_alike() {
             before = after;
         }
     }
-    assert!(loadings > 300 && good > 800, "{loadings} {good}");
+    assert!(loadings > 300 && good > 1_500, "{loadings} {good}");
 }
 
 /// "When not loaded, the table isn't looked at": any two tables, fit or not, whatever the
@@ -882,7 +888,7 @@ fn two_sessions_by_the_gap() {
     }
 }
 
-/// Equal states: with two, 03h, 42h and others tell them; the tables, twins, do not.
+/// Equal states: with two, 03h tells the sense and 42h the play, with either twin.
 #[test]
 fn unequal_states_tell() {
     let (tables, lent) = (two_of_five(), Lent::plain());
@@ -891,13 +897,20 @@ fn unequal_states_tell() {
         play: Play::NONE,
         ..full()
     };
-    for packet in [request_sense(18), position(false), inquiry(36)] {
-        let told = [full(), silent].map(|state| sent(&tables[0], &lent, state, &packet));
-        assert_ne!(told[0], told[1]);
-        for state in [full(), silent] {
-            alike(&tables, &lent, state, &packet);
-        }
-    }
+    let shown = |state: State, packet: Packet| {
+        let reply = alike(&tables, &lent, state, &packet);
+        let (_, memory) = sent(&tables[1], &lent, state, &packet);
+        memory[..reply.length].to_vec()
+    };
+    let senses = [full(), silent].map(|state| shown(state, request_sense(18)));
+    let triples = senses.map(|bytes| [2, 12, 13].map(|place| bytes[place]));
+    assert_eq!(triples, [[0x05, 0x64, 0x00], [0x00, 0x00, 0x00]]);
+    let [playing, none]: [[u8; 16]; 2] = [
+        [0, 0x11, 0, 12, 1, 0x16, 7, 1, 0, 0, 0, 160, 0, 0, 0, 10],
+        [0, 0x15, 0, 12, 1, 0, 0, 0, 0, 0, 0, 0, 0, 0, 0, 0],
+    ];
+    assert_eq!(shown(full(), position(false)), playing);
+    assert_eq!(shown(silent, position(false)), none);
 }
 
 /// Equal memories and lists: what an answer does not reach stays unequal, and a list sets
