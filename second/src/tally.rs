@@ -494,8 +494,9 @@ pub fn twins(stream: &[u8]) -> Twins {
     for pair in halves(stream, &lines).windows(2) {
         let [one, other] = pair else { continue };
         if one.is_set() && one.is_made_again(other) && are_twins(one.table, other.table) {
-            twins.runs += 1;
+            let before = twins.calls;
             twins.count(one, other);
+            twins.runs += usize::from(twins.calls > before);
         }
     }
     twins
