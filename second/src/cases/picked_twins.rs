@@ -1,6 +1,6 @@
 //! K10, picked by hand: "how much of a disc the track list tells". One run of calls on
-//! each of two tables, from the same memory, list and state: twins, which it tells
-//! alike, and, for each condition, two that it does not tell apart and a packet does.
+//! each of several tables, from the same memory, list and state: twins, which no packet
+//! but format 2 tells apart, and, for each condition, tables that it is needed for.
 
 use crate::cases::packets::{
     capacity, event_status, inquiry, mode_select, mode_sense, one_of_each, page_list, pause, plain,
