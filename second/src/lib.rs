@@ -1,5 +1,5 @@
 //! An independent second program for the packet target of the build
-//! definition (called "01" in the comments; K1 to K9 are the change requests built
+//! definition (called "01" in the comments; K1 to K10 are the change requests built
 //! on it). It shares no code with the target: the two meet through files only.
 
 pub mod address;

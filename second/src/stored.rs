@@ -19,7 +19,7 @@ use crate::rng::Rng;
 pub const SEED: u64 = 0x01C_D0D;
 
 /// Calls in the stored stream, the picked ones among them.
-pub const CALLS: usize = 42_500;
+pub const CALLS: usize = 41_700;
 
 pub fn stored_stream() -> Stream {
     let mut stream = Stream::new();

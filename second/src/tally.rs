@@ -2,10 +2,12 @@
 //! (K6), how many power-ons it has, by form and by what they meet (K3), how many
 //! plays, 42h and outside calls, by status (K2), how many 5Ah, by page control,
 //! and 55h, by outcome (K4), how many 4Ah, by class and by outcome, and presses
-//! under lock (K7), and how many pairs of calls that may cancel (K8).
+//! under lock (K7), how many pairs of calls that may cancel (K8), and how many calls
+//! are met by twin tables, by command (K10).
 
 use std::fmt::Write;
 
+use crate::cases::twin_tables::{are_twins, is_format_2};
 use crate::events::{is_event, EXTERNAL, MEDIA, NO_EVENT};
 use crate::mode_page::{PAGE, SETTINGS};
 use crate::play::STATUSES;
@@ -403,9 +405,150 @@ impl Behind {
     }
 }
 
+/// What a stream has of K10: runs of calls made with one table lent and made again with
+/// a twin of it, from the same memory, list and state.
+#[derive(Clone, Copy, Debug, Default, PartialEq, Eq)]
+pub struct Twins {
+    pub runs: usize,
+    /// In both halves of them.
+    pub calls: usize,
+    /// Packets but format 2, each counted once, in the order of `MET`.
+    pub met: [usize; 9],
+    /// Tray calls, power-ons and outside calls, each counted once.
+    pub others: usize,
+    /// Those of both whose lines differ: the law is that there are none.
+    pub unlike: usize,
+    /// Format 2 that tells the twins apart, and format 2 that does not.
+    pub told: usize,
+    pub untold: usize,
+}
+
+/// What a packet met by twins is.
+const MET: [&str; 9] = [
+    "43h-0",
+    "43h-1",
+    "43h-other",
+    "25h-2Bh",
+    "READ",
+    "PLAY",
+    "42h",
+    "other",
+    "refused",
+];
+
+/// A table, and the records behind it up to the next one, calls with their lines.
+struct Half<'a> {
+    table: &'a [u8],
+    records: Vec<(u8, &'a [u8], Option<&'a str>)>,
+}
+
+impl Half<'_> {
+    /// Memory, list and state are set before the first call, and there is a call.
+    fn is_set(&self) -> bool {
+        let kinds = self.records.iter().map(|&(kind, ..)| kind);
+        let before: Vec<u8> = kinds.take_while(|&kind| !replay::is_call(kind)).collect();
+        let due = [replay::MEMORY, replay::LIST, replay::STATE];
+        before.len() < self.records.len() && due.iter().all(|kind| before.contains(kind))
+    }
+
+    /// Whether the other begins with the same records.
+    fn is_made_again(&self, other: &Half) -> bool {
+        let bare = |half: &Half| -> Vec<(u8, Vec<u8>)> {
+            let records = half.records.iter().take(self.records.len());
+            records
+                .map(|&(kind, body, _)| (kind, body.to_vec()))
+                .collect()
+        };
+        bare(self) == bare(other)
+    }
+}
+
+fn halves<'a>(stream: &'a [u8], lines: &'a str) -> Vec<Half<'a>> {
+    let mut lines = lines.lines();
+    let (mut rest, mut halves): (_, Vec<Half>) = (stream, Vec::new());
+    while let Ok((kind, body, after)) = take_record(rest) {
+        rest = after;
+        let line = match replay::is_call(kind) {
+            true => lines.next(),
+            false => None,
+        };
+        if line == Some("bad record") {
+            break;
+        }
+        if kind == replay::TABLE {
+            halves.push(Half {
+                table: body,
+                records: Vec::new(),
+            });
+        } else if let Some(half) = halves.last_mut() {
+            half.records.push((kind, body, line));
+        }
+    }
+    halves
+}
+
+/// Two tables behind one another that are twins, with the same records behind them.
+pub fn twins(stream: &[u8]) -> Twins {
+    let lines = replay::run(stream);
+    let mut twins = Twins::default();
+    for pair in halves(stream, &lines).windows(2) {
+        let [one, other] = pair else { continue };
+        if one.is_set() && one.is_made_again(other) && are_twins(one.table, other.table) {
+            let before = twins.calls;
+            twins.count(one, other);
+            twins.runs += usize::from(twins.calls > before);
+        }
+    }
+    twins
+}
+
+impl Twins {
+    fn count(&mut self, one: &Half, other: &Half) {
+        // Behind a format 2 that told, the memories differ until they are filled again.
+        let mut same_memory = true;
+        for (&(kind, body, line), &(.., again)) in one.records.iter().zip(&other.records) {
+            same_memory |= kind == replay::MEMORY;
+            // A session's part is no packet: it is the table's own.
+            let Some(text) = line.filter(|_| kind != replay::PART) else {
+                continue;
+            };
+            self.calls += 2;
+            let alike = line == again;
+            if kind == replay::PACKET && is_format_2(body) {
+                self.told += usize::from(!alike);
+                self.untold += usize::from(alike);
+                same_memory &= alike;
+                continue;
+            }
+            self.unlike += usize::from(!alike && same_memory);
+            match kind {
+                replay::PACKET => self.met[met(body, text)] += 1,
+                _ => self.others += 1,
+            }
+        }
+    }
+}
+
+/// Where a packet with this line stands in `MET`.
+fn met(body: &[u8], line: &str) -> usize {
+    if !line.starts_with("p 0 ") {
+        return 8;
+    }
+    match (body[0], body[2] & 0x0F) {
+        (0x43, 0) => 0,
+        (0x43, 1) => 1,
+        (0x43, _) => 2,
+        (0x25 | 0x2B, _) => 3,
+        (0x28 | 0xA8, _) => 4,
+        (0x45, _) => 5,
+        (0x42, _) => 6,
+        _ => 7,
+    }
+}
+
 /// A header and a line for each rule, then one and a line for each form, then
 /// K2's: plays and pauses, then a line for each status; then K4's two packets and
-/// K7's one, with the presses under lock; last K8's pairs.
+/// K7's one, with the presses under lock; then K8's pairs; last K10's twins.
 pub fn print(stream: &[u8]) -> String {
     let mut out = "rule tables packets parts\n".to_string();
     for (met, rule) in of(stream).iter().zip(1..) {
@@ -431,6 +574,7 @@ pub fn print(stream: &[u8]) -> String {
     print_modes(&mut out, &modes(stream));
     print_events(&mut out, &events(stream));
     print_pairs(&mut out, &pairs(stream));
+    print_twins(&mut out, &twins(stream));
     out
 }
 
@@ -518,4 +662,22 @@ fn print_pairs(out: &mut String, pairs: &Pairs) {
         let line = format!("behind-{letter} {still} {moved} {power_on}\n");
         out.push_str(&line);
     }
+}
+
+fn print_twins(out: &mut String, twins: &Twins) {
+    let Twins {
+        runs,
+        calls,
+        met,
+        others,
+        unlike,
+        told,
+        untold,
+    } = twins;
+    out.push_str("twins runs calls other-calls unlike format-2-told format-2-not\n");
+    let line = format!("twins {runs} {calls} {others} {unlike} {told} {untold}\n");
+    out.push_str(&line);
+    out.push_str(&format!("met {}\n", MET.join(" ")));
+    let counts = met.map(|count| count.to_string());
+    out.push_str(&format!("met {}\n", counts.join(" ")));
 }

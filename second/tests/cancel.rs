@@ -983,7 +983,7 @@ const POWER_ONS: [u8; 2] = [replay::POWER_ON, replay::POWER_ON_WITHOUT_CHANGE];
 #[test]
 fn lines_keep_the_laws() {
     let mut met = [0; 4];
-    for stream in [stored::stored_stream(), random_stream(80, 17_000)] {
+    for stream in [stored::stored_stream(), random_stream(80, 20_000)] {
         for pair in steps(&stream.bytes).windows(2) {
             let [first, second] = pair else { continue };
             if !second.at_once {
@@ -1176,5 +1176,5 @@ behind packet packet-that-moved power-on
 behind-o 1 1 0
 behind-q 1 1 2
 ";
-    assert!(tally::print(&stream.bytes).ends_with(tail));
+    assert!(tally::print(&stream.bytes).contains(tail));
 }

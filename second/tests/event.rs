@@ -774,7 +774,7 @@ fn stored_listing_has_the_event() {
 /// without, and events that 2 covers.
 #[test]
 fn streams_have_events() {
-    for stream in [stored::stored_stream(), random_stream(72, 17_000)] {
+    for stream in [stored::stored_stream(), random_stream(72, 20_000)] {
         let events = tally::events(&stream.bytes);
         assert!(events.media.iter().all(|&times| times > 40), "{events:?}");
         assert!(events.external > 150 && events.none > 60, "{events:?}");

@@ -9,7 +9,7 @@ use crate::cases::sheet::{disc_e, two_sessions, Sheet};
 use crate::cases::stream::Stream;
 use crate::cases::{
     mode_five, picked, picked_audio, picked_cancel, picked_codes, picked_event, picked_fields,
-    picked_mode, picked_power, picked_state, picked_tables, random, several,
+    picked_mode, picked_power, picked_state, picked_tables, picked_twins, random, several,
 };
 use crate::examples;
 use crate::files::File;
@@ -50,7 +50,7 @@ macro_rules! named {
     };
 }
 
-const MAKERS: [(&str, Maker); 124] = [
+const MAKERS: [(&str, Maker); 141] = [
     named!(Start, picked_state::from_nothing),
     named!(Calls, picked_state::attentions),
     named!(Calls, picked_state::senses),
@@ -148,6 +148,22 @@ const MAKERS: [(&str, Maker); 124] = [
     named!(Calls, picked_cancel::prevent_and_allow),
     named!(Calls, picked_cancel::play_and_read),
     named!(Calls, picked_cancel::pause_and_resume),
+    named!(Calls, picked_twins::each_way),
+    named!(Calls, picked_twins::lists_alike),
+    named!(Calls, picked_twins::blocks_alike),
+    named!(Calls, picked_twins::positions_alike),
+    named!(Calls, picked_twins::commands_alike),
+    named!(Calls, picked_twins::pending_alike),
+    named!(Calls, picked_twins::refused_alike),
+    named!(Calls, picked_twins::histories_alike),
+    named!(Calls, picked_twins::not_loaded_alike),
+    named!(Calls, picked_twins::format_2_apart),
+    named!(Calls, picked_twins::two_sessions_apart),
+    named!(Calls, picked_twins::told_by_the_list),
+    named!(Calls, picked_twins::number_too_high),
+    named!(Calls, picked_twins::list_cut),
+    named!(Calls, picked_twins::unequal_apart),
+    named!(Calls, picked_twins::parts_apart),
     named!(random::fill, Calls(drawn)),
     named!(
         random::trace_scene,
@@ -172,6 +188,10 @@ const MAKERS: [(&str, Maker); 124] = [
     named!(
         random::cancel_scene,
         Calls(|stream| scenes(stream, random::cancel_scene))
+    ),
+    named!(
+        random::twin_scene,
+        Calls(|stream| scenes(stream, random::twin_scene))
     ),
     named!(
         random::broken_scene,

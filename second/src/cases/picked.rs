@@ -3,7 +3,7 @@
 use crate::cases::stream::Stream;
 use crate::cases::{
     picked_audio, picked_cancel, picked_codes, picked_event, picked_fields, picked_mode,
-    picked_power, picked_state, picked_tables,
+    picked_power, picked_state, picked_tables, picked_twins,
 };
 
 /// Every hand-picked case, from the very start of a run.
@@ -105,6 +105,22 @@ pub fn all(stream: &mut Stream) {
     picked_cancel::prevent_and_allow(stream);
     picked_cancel::play_and_read(stream);
     picked_cancel::pause_and_resume(stream);
+    picked_twins::each_way(stream);
+    picked_twins::lists_alike(stream);
+    picked_twins::blocks_alike(stream);
+    picked_twins::positions_alike(stream);
+    picked_twins::commands_alike(stream);
+    picked_twins::pending_alike(stream);
+    picked_twins::refused_alike(stream);
+    picked_twins::histories_alike(stream);
+    picked_twins::not_loaded_alike(stream);
+    picked_twins::format_2_apart(stream);
+    picked_twins::two_sessions_apart(stream);
+    picked_twins::told_by_the_list(stream);
+    picked_twins::number_too_high(stream);
+    picked_twins::list_cut(stream);
+    picked_twins::unequal_apart(stream);
+    picked_twins::parts_apart(stream);
 }
 
 /// Kinds 8 and 9 at all boundaries.

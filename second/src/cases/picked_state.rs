@@ -98,12 +98,18 @@ pub fn from_nothing(stream: &mut Stream) {
     }
 }
 
-/// Every command and call against every setting of the flags.
+/// Every command and call against every setting of the flags, with nothing held and with
+/// one sense or the other: 05/53/02 where an even number of flags is set, else 06/28/00.
 pub fn attentions(stream: &mut Stream) {
     stream.table(&disc_e().bytes());
     stream.memory(MEMORY, 0x5A);
-    for held in [sense::NONE, sense::PREVENTED, sense::CHANGED] {
-        for flags in all_flags() {
+    for holds in [false, true] {
+        for (n, flags) in (0..32u8).zip(all_flags()) {
+            let held = match (holds, n.count_ones() % 2) {
+                (false, _) => sense::NONE,
+                (true, 0) => sense::PREVENTED,
+                (true, _) => sense::CHANGED,
+            };
             let state = State {
                 sense: held,
                 ..flags
@@ -200,8 +206,9 @@ pub fn refusal_order(stream: &mut Stream) {
                 sense: held,
                 ..flags
             };
-            for packet in one_of_each() {
-                let end = if n & 1 != 0 { 11 } else { 12 };
+            // 1 comes first whatever the packet: one in four is enough there.
+            let (end, step) = if n & 1 != 0 { (11, 4) } else { (12, 1) };
+            for packet in one_of_each().iter().step_by(step) {
                 stream.packet_from(state, &packet[..end]);
             }
             for call in [Stream::button, Stream::lay, Stream::lift] {
@@ -254,12 +261,10 @@ pub fn memories(stream: &mut Stream) {
 /// 594 descriptors, comes whole; the allocation length alone cuts it.
 pub fn longest_answer(stream: &mut Stream) {
     stream.table(&fullest().bytes());
-    let lengths = [6_537, 6_538, 6_539, 65_535];
     for (memory, lengths) in [
-        (6_537, &lengths[..]),
-        (6_538, &lengths),
-        (8_191, &lengths[..1]),
-        (8_191, &lengths[3..]),
+        (6_537, &[6_537, 6_538, 6_539, 65_535][..]),
+        (6_538, &[6_538, 6_539]),
+        (8_191, &[6_537, 65_535]),
     ] {
         for &length in lengths {
             stream.memory(memory, 0x9B);

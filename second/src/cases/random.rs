@@ -4,13 +4,14 @@ use crate::address::to_msf;
 use crate::cases::packets::{
     any_audio, any_event_status, any_list, any_mode, any_packet, capacity, event_status,
     mode_select, mode_sense, one_of_each, pause, play, position, prevent, read12, request_sense,
-    resume, seek, start_stop, test_ready, toc, with_junk, Marks, EJECT, LOAD,
+    resume, seek, start_stop, test_ready, toc, with_junk, Marks, Packet, EJECT, LOAD,
 };
 use crate::cases::picked_power::FORMS;
 use crate::cases::picked_state::{strangers, MEMORY};
 use crate::cases::sheet::{any_fit, fit, longest, small_fit, Sheet};
 use crate::cases::spoil::{any_broken, spoil};
 use crate::cases::stream::Stream;
+use crate::cases::twin_tables::{is_format_2, one_session, twin_of};
 use crate::drive::State;
 use crate::events::NO_EVENT;
 use crate::limits::TOP_ADDRESS;
@@ -28,7 +29,7 @@ pub fn fill(stream: &mut Stream, rng: &mut Rng, calls: usize) {
 }
 
 fn scene(stream: &mut Stream, rng: &mut Rng) {
-    match rng.below(91) {
+    match rng.below(96) {
         0..=11 => disc_scene(stream, rng),
         12..=18 => trace_scene(stream, rng),
         19..=27 => spoilt_scene(stream, rng),
@@ -44,6 +45,7 @@ fn scene(stream: &mut Stream, rng: &mut Rng) {
         70..=75 => mode_scene(stream, rng),
         76..=81 => event_scene(stream, rng),
         82..=88 => cancel_scene(stream, rng),
+        91..=95 => twin_scene(stream, rng),
         _ => broken_scene(stream, rng),
     }
 }
@@ -662,6 +664,97 @@ fn packet_and_power_on(stream: &mut Stream, rng: &mut Rng, state: State, marks: 
             stream.packet(&packet[..length]);
         }
         form(stream);
+    }
+}
+
+/// One run of calls on a disc of one session and on a twin of it (K10), from the same
+/// memory, list and state: packets, a state set before each, or a history of any calls.
+/// Format 2 comes last, if at all.
+pub fn twin_scene(stream: &mut Stream, rng: &mut Rng) {
+    let sheet = one_session(rng);
+    let twin = twin_of(rng, &sheet);
+    let marks = Marks::of(table::read(&sheet.bytes()).ok().as_ref());
+    let mut run = Stream::new();
+    let short = rng.one_in(16);
+    match short {
+        true => run.memory(MEMORY - 1, 0),
+        false => lend_memory(&mut run, rng),
+    }
+    run.list(&any_list(rng));
+    match rng.one_in(2) {
+        true => packets_from_states(&mut run, rng, &marks),
+        false => history(&mut run, rng, &marks),
+    }
+    if rng.one_in(2) {
+        let number = rng.pick(&[0, 0, 0, 0, 1, 1, 1, 2, 0xAA]);
+        let length = rng.pick(&[5, 16, 48, 6_538, 6_538, 6_538, 6_538, 65_535]);
+        let state = loaded_state(rng, &marks);
+        run.packet_from(state, &toc(rng.one_in(2), 2, number, length));
+    }
+    for sheet in [&sheet, &twin] {
+        stream.table(&sheet.bytes());
+        stream.join(&run);
+    }
+    if short {
+        lend_memory(stream, rng);
+    }
+}
+
+/// Any packet but format 2, most often one whose answer the disc decides.
+fn told_packet(rng: &mut Rng, marks: &Marks) -> Packet {
+    let address = marks.address(rng);
+    let packet = match rng.below(12) {
+        0 => toc(rng.one_in(2), 0, rng.pick(&marks.numbers), 804),
+        1 => toc(rng.one_in(2), 0, 0, 804),
+        2 => toc(rng.one_in(2), 1, rng.byte(), 12),
+        3 => read12(address, marks.count(rng, address)),
+        4 => seek(address),
+        5 => capacity(),
+        6 | 7 => any_audio(rng, marks),
+        _ => any_packet(rng, marks),
+    };
+    match is_format_2(&packet) {
+        true => told_packet(rng, marks),
+        false => packet,
+    }
+}
+
+fn packets_from_states(run: &mut Stream, rng: &mut Rng, marks: &Marks) {
+    for _ in 0..rng.range(6, 18) {
+        run.state(match rng.below(8) {
+            0 => any_state(rng, marks),
+            _ => loaded_state(rng, marks),
+        });
+        let length = if rng.one_in(30) { 11 } else { 12 };
+        run.packet(&told_packet(rng, marks)[..length]);
+    }
+}
+
+fn history(run: &mut Stream, rng: &mut Rng, marks: &Marks) {
+    run.state(match rng.below(4) {
+        0 => any_state(rng, marks),
+        _ => loaded_state(rng, marks),
+    });
+    for _ in 0..rng.range(8, 24) {
+        match rng.below(20) {
+            0 => any_power_on(run, rng),
+            1 => tray_or_power(run, rng),
+            2 => run.button(),
+            3 => {
+                // The disc taken out and put in again.
+                run.packet(&start_stop(EJECT));
+                run.lift();
+                run.lay();
+                run.button();
+            }
+            4 | 5 => run.move_on(any_step(rng)),
+            6 => run.packet(&start_stop(rng.pick(&[EJECT, LOAD, LOAD]))),
+            7 => to_the_end(run, rng, marks),
+            8 => run.packet(&test_ready()),
+            9 => run.packet(&any_event_status(rng)),
+            10 => select(run, rng),
+            _ => run.packet(&told_packet(rng, marks)),
+        }
     }
 }
 

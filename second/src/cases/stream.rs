@@ -22,6 +22,12 @@ impl Stream {
         self.calls += usize::from(replay::is_call(kind));
     }
 
+    /// The records of another stream, behind these.
+    pub fn join(&mut self, other: &Stream) {
+        self.bytes.extend(&other.bytes);
+        self.calls += other.calls;
+    }
+
     pub fn state(&mut self, state: State) {
         let body = [
             u8::from(state.tray_open),
