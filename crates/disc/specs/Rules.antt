@@ -4,7 +4,7 @@ use mathlib.Core.Bool.{Bool, true, false}
 use mathlib.Core.List.{List, [], _∷_}
 use lib.ListN.{length}
 use lib.Dec.{leb, ltb, eqb}
-use Rattle.ground.specs.Tests.{_and_, _or_, every, if_then_else_}
+use Rattle.ground.specs.Tests.{_and_, _or_, every}
 use Rattle.table.specs.Layout.{bound, dataLength, firstSession, lastSession, header, row, descriptors, rows}
 use Rattle.table.specs.Row.{rowAt, addressAt, rowTest}
 use Rattle.sessions.specs.Session.{tracks, session, inOrder}

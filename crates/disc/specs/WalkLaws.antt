@@ -13,7 +13,7 @@ use Rattle.ground.specs.Tests.{and-head, and-tail, and-both, every-at, every-al
 use Rattle.table.specs.Layout.{pointAt, sessionAt, A0, A1, A2, B0, C0, isExtra}
 use Rattle.table.specs.Row.{rowAt, framesAt, addressAt, names, plain, headA0, headA1, headed, addressed}
 use Rattle.table.specs.RowLaws.{startOf-frames, isExtra-B0, isExtra-C0, headed-A0, headed-A1, headed-other, addressed-of, addressed-other, A0-other, A1-other, B0-other, C0-other}
-use Rattle.table.specs.Asked.{kept, a0Kept, a1Kept, extraKept, extraPassed, climbs, holds}
+use Rattle.table.specs.Asked.{a0Kept, a1Kept, extraKept, extraPassed, climbs, holds}
 use Rattle.table.specs.AskedLaws.{kept-names, kept-plain, kept-both, extraPassed-kept, extraPassed-other, extraKept-number, extraKept-plain, extraKept-both, climbs-low, climbs-isMsf, holds-climbs, holds-low, holds-most}
 use Rattle.sessions.specs.Session.{first, tracks, b0s, c0s, count, listed, numbered, session}
 use Rattle.sessions.specs.SessionLaws.{IsSession, one-is, extras-each, listed-parts}

@@ -1,7 +1,6 @@
 -- `disc::part::session_refusal` meets its contract: a reading tells the broken rule, or the disc whose sessions are counted.
 use mathlib.Core.Path.{_≡_, sym, ap, _∙_}
 use mathlib.Core.Bool.{true}
-use Prim.Native.Nat.{ℕ}
 use borrow.Author.Tests.{lt-leb}
 use Rattle.ground.specs.Tests.{and-off, and-late}
 use Rattle.table.specs.Layout.{lastSession}
