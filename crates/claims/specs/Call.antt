@@ -218,6 +218,15 @@ lend memory lifting = lifting
 lend memory (movingOn k) = movingOn k
 lend memory (packet p t l m) = packet p t l memory
 
+-- and lent that table in place of its own
+abbrev pub lendTable : List ℕ → Call → Call
+lendTable table (powering f) = powering f
+lendTable table pressing = pressing
+lendTable table laying = laying
+lendTable table lifting = lifting
+lendTable table (movingOn k) = movingOn k
+lendTable table (packet p t l m) = packet p table l m
+
 -- what a call with that answer leaves in the memory: one that is no packet leaves it as it was
 abbrev pub left : Call → Answer → List ℕ → List ℕ
 left (powering f) a memory = memory

@@ -1,5 +1,5 @@
--- K10, "How much of a disc the track list tells": the track list of a table, the contents that it tells, and the tables that it does not
--- tell apart.
+-- K10, "How much of a disc the track list tells": the track list of a table, the contents that it tells, and the tables that it does
+-- not tell apart.
 use Prim.Native.Nat.{ℕ, zero, suc}
 use mathlib.Core.Path.{_≡_}
 use mathlib.Core.Bool.{Bool, true, false}
@@ -14,9 +14,9 @@ use Rattle.toc.specs.Shown.{described}
 use Rattle.toc.specs.Answer.{AA, headed, format0}
 use Rattle.command.specs.Command.{codeOf}
 use Rattle.target.specs.ReadToc.{formatIn}
-use Rattle.claims.specs.Call.{Call, powering, pressing, laying, lifting, movingOn, packet}
+use Rattle.claims.specs.Call.{Call, packet}
 
--- READ TOC's full format 0 answer for that table, by MSF and N
+-- READ TOC's full format 0 answer for that table, by MSF and N (where that N is no fault)
 abbrev pub listWith : Bool → ℕ → List ℕ → List ℕ
 listWith msf n t = format0 (discOf t) msf n (descriptors t)
 
@@ -97,11 +97,7 @@ pub record Twins (t u : List ℕ) : Type 0 where
 abbrev pub isFormat2 : List ℕ → Bool
 isFormat2 p = eqb (codeOf p) 0x43 and eqb (formatIn p) 2
 
--- the call, lent that table in place of its own
-abbrev pub lent : List ℕ → Call → Call
-lent t (powering f) = powering f
-lent t pressing = pressing
-lent t laying = laying
-lent t lifting = lifting
-lent t (movingOn k) = movingOn k
-lent t (packet p u l m) = packet p t l m
+-- the same call, or the same packet, not READ TOC by format 2, with the same list and memory and twins for tables
+pub data Twinned : Call → Call → Type 0 where
+  itself : (c : Call) → Twinned c c
+  twins : (p l m : List ℕ) {t u : List ℕ} → Twins t u → isFormat2 p ≡ false → Twinned (packet p t l m) (packet p u l m)

@@ -1,4 +1,4 @@
--- The track list is made of the contents alone, and they can be read back from it, by blocks and by M:S:F alike.
+-- The track list is made of the contents alone, and two contents that make one list are one, by blocks and by M:S:F alike.
 use mathlib.Core.Path.{_≡_, refl, sym, ap, _∙_}
 use mathlib.Core.Bool.{Bool, true, false}
 use mathlib.Core.List.{List, [], _∷_, _++_, append-nil, append-assoc}
@@ -67,7 +67,7 @@ list-made msf n t = rw (shown-entries msf n (descriptors t) (rows (descriptors t
 
 -- ---- and tells them
 
--- an address of a fit table
+-- its address is 449,849 at most
 abbrev pub Placed : Entry → Type 0
 Placed e = e .start ≤ lastAddress
 
@@ -171,7 +171,7 @@ list-low msf n c h =
     ap (λ (x : List Entry). headed (c .first) (c .last) (written msf x ++ described msf (c .leadFlags) AA (c .leadOut)))
     (from-low n h ∙ sym (from-all (c .tracks)))
 
--- are told by the list that they make
+-- contents whose addresses are in range are told by the list that they make
 pub list-tells : (msf : Bool) (c k : Contents) → Ranged c → Ranged k → listOf msf 0 c ≡ listOf msf 0 k → c ≡ k
 unfolding headed
 list-tells msf c k a b h =

@@ -1,11 +1,11 @@
 -- Two runs of any device whose answers, while it is live, do not tell alike calls apart; or never do.
 use mathlib.Core.Path.{_≡_, refl, sym, ap, _∙_}
-use mathlib.Core.Bool.{Bool, true, false}
+use mathlib.Core.Bool.{Bool, true}
 use mathlib.Core.List.{List, [], _∷_, _++_, map}
 use Prim.Native.Nat.{ℕ, zero, suc, _+_, _<_}
 use native.Mathlib.Omega.{arith}
 use lib.ListN.{length, length-append}
-use Rattle.claims.specs.History.{Event, history, final, None, end, but, At, here, there}
+use Rattle.claims.specs.History.{Event, history, final, At, here, there}
 
 -- the calls of one list are like those of the other, one by one
 pub data Pairwise {C : Type 0} (Alike : C → C → Type 0) : List C → List C → Type 0 where
@@ -84,12 +84,13 @@ module _ {C S A : Type 0} (answer : C → S → A) (next : C → S → S) (live 
 abbrev pub resultOf : {C S A : Type 0} → Event C S A → A × S
 resultOf e = (e .answer, e .new)
 
-module _ {C S A : Type 0} (answer : C → S → A) (next : C → S → S) (f g : C → C) (is : C → Bool)
-    (alike : (c : C) (s : S) → is c ≡ false → (answer (f c) s ≡ answer (g c) s) × (next (f c) s ≡ next (g c) s)) where
-  -- the same calls, each made in one way or in another that no state tells apart, agree throughout
-  pub runs-throughout : (s : S) {cs : List C} → None is cs → map resultOf (history answer next s (map f cs)) ≡ map resultOf (history answer next s (map g cs))
-  runs-throughout s end = refl
-  runs-throughout s (but {e} {h} q n) =
-      let a = alike e s q in
-      let r = runs-throughout (next (f e) s) n ∙ ap (λ (x : S). map resultOf (history answer next x (map g h))) (a .1) in
-      λ i. (a .0 i, a .1 i) ∷ r i
+module _ {C S A : Type 0} (answer : C → S → A) (next : C → S → S) (Alike : C → C → Type 0)
+    (blind : (c d : C) (s : S) → Alike c d → (answer c s ≡ answer d s) × (next c s ≡ next d s)) where
+  -- calls that are alike in every state agree throughout
+  pub agree-throughout : {cs ds : List C} → Pairwise Alike cs ds → (s : S)
+      → map resultOf (history answer next s cs) ≡ map resultOf (history answer next s ds)
+  agree-throughout nil s = refl
+  agree-throughout (cons {c} {d} {cs} {ds} a more) s =
+      let b = blind c d s a in
+      let r = agree-throughout more (next c s) ∙ ap (λ (x : S). map resultOf (history answer next x ds)) (b .1) in
+      λ i. (b .0 i, b .1 i) ∷ r i

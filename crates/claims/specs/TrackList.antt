@@ -1,6 +1,6 @@
--- K10, "How much of a disc the track list tells": what it tells, and that on a disc of one session every packet but READ TOC by format 2 asks
--- for exactly that. `answer c d` and `next c d` are what the call c gets of d and the state after it, as in Call.antt; that each condition is
--- needed stands in TrackListNeeds.antt.
+-- K10, "How much of a disc the track list tells": what it tells, and that on a disc of one session every packet but READ TOC by format 2
+-- asks for exactly that. `answer c d` and `next c d` are what the call c gets of d and the state after it, as in Call.antt; that each
+-- condition on tables and packet is needed stands in TrackListNeeds.antt.
 use mathlib.Core.Path.{_≡_, refl, sym, ap, _∙_}
 use mathlib.Core.Bool.{Bool, true, false}
 use mathlib.Core.List.{List, [], map}
@@ -10,6 +10,7 @@ use native.Mathlib.Omega.{arith}
 use lib.ListN.{length, take, replicate, length-replicate}
 use lib.Seq.{take-all}
 use Rattle.ground.specs.Tests.{_and_, _or_}
+use Rattle.deck.specs.declared.Deck.{Deck}
 use Rattle.drive.specs.declared.state.Drive.{Drive}
 use Rattle.deck.specs.Deck.{isLoaded}
 use Rattle.drive.specs.State.{isKnownState}
@@ -18,20 +19,21 @@ use Rattle.disc.specs.Rules.{isFit}
 use Rattle.disc.specs.RulesLaws.{isFit-true}
 use Rattle.disc.specs.FitLaws.{fit-span}
 use Rattle.disc.specs.Disc.{discOf}
+use Rattle.gate.specs.Gate.{Reply}
 use Rattle.outcome.specs.Outcome.{bytesOf, stateOf}
 use Rattle.target.specs.Packet.{answer as replyTo}
-use Rattle.target.specs.PacketLaws.{stepsOf, answer-steps}
+use Rattle.target.specs.PacketLaws.{answer-steps}
 use Rattle.claims.specs.Telling.{Answer, answerOf}
-use Rattle.claims.specs.History.{None}
-use Rattle.claims.specs.Runs.{resultOf, runs-throughout}
+use Rattle.claims.specs.History.{None, end, but}
+use Rattle.claims.specs.Runs.{Pairwise, nil, cons, resultOf, agree-throughout}
 use Rattle.claims.specs.Carried.{Board, answerOn, nextOn}
-use Rattle.claims.specs.Call.{Call, powering, pressing, laying, lifting, movingOn, packet, answer, next, isPacket, isAttending, history, lend, left, historyOn}
+use Rattle.claims.specs.Call.{Call, powering, pressing, laying, lifting, movingOn, packet, answer, next, isPacket, isAttending, history, lend, lendTable, left, historyOn}
 use Rattle.claims.specs.Marked.{loadedE}
 use Rattle.claims.specs.Whole.{loadedE-known}
 use Rattle.claims.specs.WholeLaws.{stepsOf-bounded}
-use Rattle.claims.specs.Contents.{listWith, trackList, listPacket, contentsOf, listOf, Single, Twins, isFormat2, lent}
+use Rattle.claims.specs.Contents.{listWith, trackList, listPacket, contentsOf, listOf, Single, Twins, isFormat2, Twinned, itself, twins}
 use Rattle.claims.specs.ContentsLaws.{list-made, list-tells, list-low}
-use Rattle.claims.specs.TwinLaws.{fit-ranged, fit-numbers, contents-same, reply-same, list-full, list-limit}
+use Rattle.claims.specs.TwinLaws.{fit-ranged, fit-numbers, contents-same, reply-same, reply-unloaded, steps-list}
 
 -- ---- what the track list tells
 
@@ -59,67 +61,83 @@ module _ (msf : Bool) (t : List ℕ) (f : isFit t ≡ true) where
 
 -- ---- what every packet but READ TOC by format 2 asks for
 
+-- with either table such a packet gets one answer, with the response bytes, and leaves one state: in any state, with any list and memory
+abbrev pub ToldAlike : List ℕ → List ℕ → Type 0
+ToldAlike t u =
+    (d : Drive) (p l m : List ℕ) → isFormat2 p ≡ false
+    → (answer (packet p t l m) d ≡ answer (packet p u l m) d) × (next (packet p t l m) d ≡ next (packet p u l m) d)
+
+-- "For two fit tables of one session whose full format 0 answers (N 0, block addresses) are equal, every packet except READ TOC format 2,
+-- met by equal loaded states with equal response memory and parameter list, gets equal answers, states and response bytes."
+pub twins-packet : {t u : List ℕ} → Twins t u → ToldAlike t u
+twins-packet {t} {u} w d p l m h =
+    let f = w .table .fit in
+    let g = w .other .fit in
+    let s = contents-same (w .table) (w .other) (list-contents t u f g false .0 (w .list)) in
+    let e = reply-same s d p l (length m) f g h in
+    (ap (answerOf m) e, ap stateOf e)
+
+-- and in a state that is not loaded every packet gets one answer with any two tables: "When not loaded, the table isn't looked at."
+pub unloaded-packet : (t u : List ℕ) (d : Drive) (p l m : List ℕ) → isLoaded (d .deck) ≡ false
+    → (answer (packet p t l m) d ≡ answer (packet p u l m) d) × (next (packet p t l m) d ≡ next (packet p u l m) d)
+unloaded-packet t u d p l m h = let e = reply-unloaded d p t u l (length m) h in (ap (answerOf m) e, ap stateOf e)
+
+-- ---- over histories
+
+twinned-call : (c e : Call) (d : Drive) → Twinned c e → (answer c d ≡ answer e d) × (next c d ≡ next e d)
+twinned-call c e d (itself b) = (refl, refl)
+twinned-call c e d (twins p l m w h) = twins-packet w d p l m h
+
+-- two runs from one state, of calls that are the same but for twins lent to packets other than format 2, agree in every answer, state and
+-- response byte: over power-ons of both forms, presses, layings, liftings, loadings and outside calls
+pub twins-runs : (handed : Drive) {cs ds : List Call} → Pairwise Twinned cs ds
+    → map resultOf (history handed cs) ≡ map resultOf (history handed ds)
+twins-runs handed p = agree-throughout answer next Twinned twinned-call p handed
+
+twinned-board : (c e : Call) (b : Board Drive) → Twinned c e
+    → (answerOn answer next lend left c b ≡ answerOn answer next lend left e b)
+    × (nextOn answer next lend left c b ≡ nextOn answer next lend left e b)
+twinned-board c e b (itself x) = (refl, refl)
+twinned-board c e b (twins p l m w h) =
+    let q = twins-packet w (b .state) p l (b .memory) h in (q .0, λ i. record { state = q .1 i; memory = q .0 i .memory })
+
+-- the same with one response memory carried from call to call
+pub twins-runs-carried : (handed : Board Drive) {cs ds : List Call} → Pairwise Twinned cs ds
+    → map resultOf (historyOn handed cs) ≡ map resultOf (historyOn handed ds)
+twins-runs-carried handed p =
+    agree-throughout (answerOn answer next lend left) (nextOn answer next lend left) Twinned twinned-board p handed
+
 module _ {t u : List ℕ} (w : Twins t u) where
-  -- "every packet except READ TOC format 2, met by equal loaded states with equal response memory and parameter list, gets equal answers,
-  -- states and response bytes": in any state, as the table is not looked at where the drive is not loaded
-  pub twins-packet : (d : Drive) (p l m : List ℕ) → isFormat2 p ≡ false
-      → (answer (packet p t l m) d ≡ answer (packet p u l m) d) × (next (packet p t l m) d ≡ next (packet p u l m) d)
-  twins-packet d p l m h =
-      let f = w .table .fit in
-      let g = w .other .fit in
-      let s = contents-same (w .table) (w .other) (list-contents t u f g false .0 (w .list)) in
-      let e = reply-same s d p l (length m) f g h in
-      (ap (answerOf m) e, ap stateOf e)
+  lent-twinned : (c : Call) → isPacket isFormat2 c ≡ false → Twinned (lendTable t c) (lendTable u c)
+  lent-twinned (powering f) h = itself (powering f)
+  lent-twinned pressing h = itself pressing
+  lent-twinned laying h = itself laying
+  lent-twinned lifting h = itself lifting
+  lent-twinned (movingOn k) h = itself (movingOn k)
+  lent-twinned (packet p x l m) h = twins p l m w h
 
-  -- a call of any kind, lent either table
-  twins-call : (c : Call) (d : Drive) → isPacket isFormat2 c ≡ false
-      → (answer (lent t c) d ≡ answer (lent u c) d) × (next (lent t c) d ≡ next (lent u c) d)
-  twins-call (powering f) d h = (refl, refl)
-  twins-call pressing d h = (refl, refl)
-  twins-call laying d h = (refl, refl)
-  twins-call lifting d h = (refl, refl)
-  twins-call (movingOn k) d h = (refl, refl)
-  twins-call (packet p x l m) d h = twins-packet d p l m h
+  all-twinned : {cs : List Call} → None (isPacket isFormat2) cs → Pairwise Twinned (map (lendTable t) cs) (map (lendTable u) cs)
+  all-twinned end = nil
+  all-twinned (but {e} h n) = cons (lent-twinned e h) (all-twinned n)
 
-  -- so two runs of any calls but such packets, from one state, with one of the tables lent in each, agree in every answer, state and response
-  -- byte: over power-ons of both forms, presses, layings, liftings, loadings and outside calls
-  pub twins-runs : (handed : Drive) {cs : List Call} → None (isPacket isFormat2) cs
-      → map resultOf (history handed (map (lent t) cs)) ≡ map resultOf (history handed (map (lent u) cs))
-  twins-runs handed = runs-throughout answer next (lent t) (lent u) (isPacket isFormat2) twins-call handed
-
-  twins-board : (c : Call) (b : Board Drive) → isPacket isFormat2 c ≡ false
-      → (answerOn answer next lend left (lent t c) b ≡ answerOn answer next lend left (lent u c) b)
-      × (nextOn answer next lend left (lent t c) b ≡ nextOn answer next lend left (lent u c) b)
-  twins-board (powering f) b h = (refl, refl)
-  twins-board pressing b h = (refl, refl)
-  twins-board laying b h = (refl, refl)
-  twins-board lifting b h = (refl, refl)
-  twins-board (movingOn k) b h = (refl, refl)
-  twins-board (packet p x l m) b h =
-      let q = twins-packet (b .state) p l (b .memory) h in (q .0, λ i. record { state = q .1 i; memory = q .0 i .memory })
-
-  -- and with one response memory carried from call to call
-  pub twins-runs-carried : (handed : Board Drive) {cs : List Call} → None (isPacket isFormat2) cs
-      → map resultOf (historyOn handed (map (lent t) cs)) ≡ map resultOf (historyOn handed (map (lent u) cs))
-  twins-runs-carried handed =
-      runs-throughout (answerOn answer next lend left) (nextOn answer next lend left) (lent t) (lent u) (isPacket isFormat2) twins-board handed
+  -- so any calls without such a packet, with the one table lent in one run and the other in the other
+  pub twins-runs-lent : (handed : Drive) {cs : List Call} → None (isPacket isFormat2) cs
+      → map resultOf (history handed (map (lendTable t) cs)) ≡ map resultOf (history handed (map (lendTable u) cs))
+  twins-runs-lent handed n = twins-runs handed (all-twinned n)
 
 -- ---- and that it is no more than they ask for
 
 -- READ TOC gets the track list whole, where every byte of it is asked for
-pub list-given : (d : Drive) (t l : List ℕ) (n : ℕ) → isKnownState d ≡ true → isLoaded (d .deck) ≡ true → isAttending d ≡ false → isFit t ≡ true
-    → bound ≤ n → bytesOf (replyTo d listPacket t l n) ≡ trackList t
+pub list-given : (d : Drive) (t l : List ℕ) (n : ℕ) → isKnownState d ≡ true → isLoaded (d .deck) ≡ true → isAttending d ≡ false
+    → isFit t ≡ true → bound ≤ n → bytesOf (replyTo d listPacket t l n) ≡ trackList t
 list-given d t l n k h a f b =
-    let e = list-full d t l h a in
-    let m = list-limit d t l h a in
+    let e = steps-list d t l h a in
+    let q = ap (λ (r : Reply Deck). length (r .full)) e in
     let s = stepsOf-bounded d listPacket t l (λ i. f) in
-    ap bytesOf (answer-steps d listPacket t l n refl k b (λ i. f)) ∙ take-all (stepsOf d listPacket t l .limit) (stepsOf d listPacket t l .full) (omega arith) ∙ e
+    ap bytesOf (answer-steps d listPacket t l n refl k b (λ i. f) ∙ e) ∙ take-all 0xFFFF (trackList t) (omega arith)
 
--- so on discs of one session it is exactly what they ask for: with either table they get one answer where the lists are equal, and only there
-pub list-exact : {t u : List ℕ} → Single t → Single u
-    → (trackList t ≡ trackList u)
-    ↔ ((d : Drive) (p l m : List ℕ) → isFormat2 p ≡ false
-    → (answer (packet p t l m) d ≡ answer (packet p u l m) d) × (next (packet p t l m) d ≡ next (packet p u l m) d))
+-- so on discs of one session it is exactly what they ask for: they get one answer with either table where the lists are equal, and only there
+pub list-exact : {t u : List ℕ} → Single t → Single u → (trackList t ≡ trackList u) ↔ ToldAlike t u
 unfolding _and_ _or_
 list-exact {t} {u} a b = (
   λ e. twins-packet (record { table = a; other = b; list = e }),

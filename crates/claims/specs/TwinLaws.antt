@@ -1,15 +1,17 @@
--- On a disc of one session every command but READ TOC by format 2 asks the table for its contents alone: the tracks, which all end at the one
--- lead-out, and the disc read off it.
+-- On a disc of one session every command but READ TOC by format 2 asks the table for its contents alone: all tracks end at the one lead-out.
+-- A drive that is not loaded asks it for nothing.
 use mathlib.Core.Path.{_≡_, refl, sym, ap, _∙_}
 use mathlib.Core.Bool.{Bool, true, false, not, false≢true}
 use mathlib.Core.List.{List, [], _∷_, _++_, append-nil, append-assoc}
 use Prim.Native.Nat.{ℕ, zero, suc, _+_, _-_, _≤_, _<_}
 use native.Mathlib.Omega.{arith}
-use native.Mathlib.Decide.{ℕ-discrete}
+use native.Mathlib.Nat.{lt-of-not-le}
+use native.Mathlib.Decide.{decLe, ℕ-discrete}
 use lib.Dec.{ltb}
+use lib.ListN.{length}
 use borrow.Author.Tests.{eq-eqb, ne-eqb, le-ltb}
 use Rattle.ground.specs.Tests.{_and_, if_then_else_, unless, either, and-both, every-same}
-use Rattle.table.specs.Layout.{lastSession, descriptors, rows, pointAt, isTrack}
+use Rattle.table.specs.Layout.{bound, lastSession, descriptors, rows, pointAt, isTrack}
 use Rattle.table.specs.RowLaws.{isTrack-true}
 use Rattle.sessions.specs.Session.{first, session}
 use Rattle.disc.specs.Rules.{leadOut, isFit}
@@ -25,12 +27,14 @@ use Rattle.tracks.specs.declared.track.Ask.the-variants.{Block}
 use Rattle.tracks.specs.Track.{outAt, noTrack, trackAt, nextFound, found, trackOf, isMode, inMode, allIn}
 use Rattle.tracks.specs.TrackLaws.{wanted-not, nextFound-on}
 use Rattle.tracks.specs.SpreadLaws.{A0-noTrack, A1-noTrack, A2-noTrack, fit-track-row}
-use Rattle.gate.specs.Unit.{pendingOf}
-use Rattle.gate.specs.Gate.{Result, fails, pass, gate}
+use Rattle.attention.specs.Unit.{attend}
+use Rattle.gate.specs.Unit.{clear, pendingOf}
+use Rattle.gate.specs.Gate.{Result, fails, good, pass, gate}
 use Rattle.attention.specs.declared.Unit.{Unit}
 use Rattle.deck.specs.declared.Deck.{Deck}
 use Rattle.drive.specs.declared.state.Drive.{Drive}
 use Rattle.deck.specs.Deck.{isLoaded}
+use Rattle.drive.specs.State.{isKnownState}
 use Rattle.command.specs.declared.decode.Command.{Command}
 use Rattle.command.specs.declared.decode.Command.the-variants.{TestUnitReady, RequestSense, Inquiry, StartStop, Prevent, ReadCapacity, Read10, Seek, ReadToc, Read12, PlayAudio, PauseResume, ReadSubChannel, ModeSense, ModeSelect, GetEvent, Unknown}
 use Rattle.command.specs.declared.decode.Kind.{Kind}
@@ -46,7 +50,7 @@ use Rattle.toc.specs.AnswerLaws.{tocBytes-0, tocBytes-1}
 use Rattle.target.specs.ReadToc.{formatIn, msfIn, numberIn, readToc}
 use Rattle.target.specs.Perform.{L, work, perform}
 use Rattle.target.specs.Packet.{stepsBy, refusalOf, answer as replyTo}
-use Rattle.target.specs.PacketLaws.{stepsOf}
+use Rattle.target.specs.PacketLaws.{stepsOf, answer-1, answer-2, answer-3, answer-steps}
 use Rattle.claims.specs.Telling.{power, change, anyPending}
 use Rattle.claims.specs.UnitLaws.{none-pending}
 use Rattle.claims.specs.PacketLaws.{isThe, ruleWith-fit}
@@ -84,7 +88,7 @@ module _ {t : List ℕ} (f : Fit t) where
     lead = fit-lead-out f .1;
   }
 
-  -- a session's first track is none before the disc's
+  -- no session's first track is numbered below the disc's
   fit-firsts : (k : ℕ) → k < lastSession t → first (descriptors t) ≤ first (session (descriptors t) k)
   fit-firsts k h =
       let s = fit-session f {k = 0} (omega arith) in
@@ -111,28 +115,28 @@ abbrev trackFrom : ℕ → Entry → Track
 trackFrom out e = record { number = e .number; flags = e .flags; start = e .start; out = out }
 
 -- what is found among them, where u was found so far
-unfoldable pub foundIn : Ask → ℕ → List Entry → Track → Track
-foundIn a out [] u = u
-foundIn a out (e ∷ es) u = foundIn a out es (nextFound a (trackFrom out e) u)
+unfoldable pub foundAmong : Ask → ℕ → List Entry → Track → Track
+foundAmong a out [] u = u
+foundAmong a out (e ∷ es) u = foundAmong a out es (nextFound a (trackFrom out e) u)
 
-foundIn-append : (a : Ask) (out : ℕ) (x y : List Entry) (u : Track) → foundIn a out (x ++ y) u ≡ foundIn a out y (foundIn a out x u)
-unfolding foundIn
-foundIn-append a out [] y u = refl
-foundIn-append a out (e ∷ x) y u = foundIn-append a out x y (nextFound a (trackFrom out e) u)
+foundAmong-append : (a : Ask) (out : ℕ) (x y : List Entry) (u : Track) → foundAmong a out (x ++ y) u ≡ foundAmong a out y (foundAmong a out x u)
+unfolding foundAmong
+foundAmong-append a out [] y u = refl
+foundAmong-append a out (e ∷ x) y u = foundAmong-append a out x y (nextFound a (trackFrom out e) u)
 
 -- where every track ends at one lead-out, what is found among the descriptors is found among the tracks
 found-entries : (a : Ask) (d : List ℕ) (out n : ℕ) → ((j : ℕ) → j < n → isTrack (pointAt d j) ≡ true → outAt d j ≡ out)
-    → found a d n ≡ foundIn a out (entries d n) noTrack
-unfolding found entries foundIn if_then_else_
+    → found a d n ≡ foundAmong a out (entries d n) noTrack
+unfolding found entries foundAmong if_then_else_
 found-entries a d out zero f = refl
 found-entries a d out (suc j) f =
     ap (nextFound a (trackAt d j)) (found-entries a d out j (λ i h. f i (omega arith)))
     ∙ step (isTrack (pointAt d j)) refl
-    ∙ sym (foundIn-append a out (entries d j) _ noTrack)
+    ∙ sym (foundAmong-append a out (entries d j) _ noTrack)
   where
-    step : (b : Bool) → isTrack (pointAt d j) ≡ b → let u = foundIn a out (entries d j) noTrack in
-        nextFound a (trackAt d j) u ≡ foundIn a out (if b then entryAt d j ∷ [] else []) u
-    step true e = ap (λ (x : ℕ). nextFound a (trackFrom x (entryAt d j)) (foundIn a out (entries d j) noTrack)) (f j (omega arith) e)
+    step : (b : Bool) → isTrack (pointAt d j) ≡ b → let u = foundAmong a out (entries d j) noTrack in
+        nextFound a (trackAt d j) u ≡ foundAmong a out (if b then entryAt d j ∷ [] else []) u
+    step true e = ap (λ (x : ℕ). nextFound a (trackFrom x (entryAt d j)) (foundAmong a out (entries d j) noTrack)) (f j (omega arith) e)
     step false e = nextFound-on a _ _ (sym (wanted-not a _ _ e))
 
 -- the first of them
@@ -168,7 +172,7 @@ module _ {t : List ℕ} (s : Single t) where
   f = isFit-true (s .fit)
 
   is-one : lastSession t ≡ 1
-  is-one = let n = fit-numbered f in let o = s .one in omega arith
+  is-one = s .one
 
   -- every track ends at the lead-out, L
   single-out : (j : ℕ) → j < rows (descriptors t) → isTrack (pointAt (descriptors t) j) ≡ true → outAt (descriptors t) j ≡ contentsOf t .leadOut
@@ -178,7 +182,7 @@ module _ {t : List ℕ} (s : Single t) where
       let o = is-one in
       r .out ∙ ap (λ (k : ℕ). leadOut (session (descriptors t) k)) (omega arith)
 
-  pub single-track : (a : Ask) → found a (descriptors t) (rows (descriptors t)) ≡ foundIn a (contentsOf t .leadOut) (contentsOf t .tracks) noTrack
+  pub single-track : (a : Ask) → found a (descriptors t) (rows (descriptors t)) ≡ foundAmong a (contentsOf t .leadOut) (contentsOf t .tracks) noTrack
   single-track a = found-entries a (descriptors t) (contentsOf t .leadOut) (rows (descriptors t)) single-out
 
   -- descriptor i of the session is descriptor i of the table
@@ -214,25 +218,32 @@ module _ {t : List ℕ} (s : Single t) where
 
 -- ---- what the commands ask of a table
 
+-- what is performed alike is answered alike
+stepsBy-same : (k : Kind) (c : Command) (v : Unit) (m : Deck) (p t u l : List ℕ) → perform c p m t l ≡ perform c p m u l
+    → stepsBy k c v m p t l ≡ stepsBy k c v m p u l
+stepsBy-same Asks c v m p t u l h = refl
+stepsBy-same Passes c v m p t u l h = ap (pass v m) h
+stepsBy-same Gates c v m p t u l h = ap (gate v m) h
+
 -- two tables that they do not tell apart: the disc that is read off them, the track of each block, and the track list by MSF and N
-pub record Same (t u : List ℕ) : Type 0 where
+pub record SameNeeds (t u : List ℕ) : Type 0 where
   pub disc : discOf t ≡ discOf u
   pub track : (b : ℕ) → trackOf (descriptors t) b ≡ trackOf (descriptors u) b
   pub list : (msf : Bool) (n : ℕ) → listWith msf n t ≡ listWith msf n u
 
 -- of one session with the same contents
-pub contents-same : {t u : List ℕ} → Single t → Single u → contentsOf t ≡ contentsOf u → Same t u
+pub contents-same : {t u : List ℕ} → Single t → Single u → contentsOf t ≡ contentsOf u → SameNeeds t u
 unfolding trackOf
 contents-same {t} {u} a b e = record {
   disc = single-disc a ∙ ap discIn e ∙ sym (single-disc b);
-  track = λ n. ap (below n) (single-track a (Block n) ∙ ap (λ (c : Contents). foundIn (Block n) (c .leadOut) (c .tracks) noTrack) e ∙ sym (single-track b (Block n)));
+  track = λ n. ap (below n) (single-track a (Block n) ∙ ap (λ (c : Contents). foundAmong (Block n) (c .leadOut) (c .tracks) noTrack) e ∙ sym (single-track b (Block n)));
   list = λ msf n. list-made msf n t ∙ ap (listOf msf n) e ∙ sym (list-made msf n u);
 }
   where
     below : ℕ → Track → Track
     below n w = if ltb n (w .out) then w else noTrack
 
-module _ {t u : List ℕ} (s : Same t u) where
+module _ {t u : List ℕ} (s : SameNeeds t u) where
   -- READ TOC, but format 2: another format is a fault of any disc
   readToc-same : (p : List ℕ) (m : Deck) → (formatIn p ≡ 2 → ⊥) → readToc p m t ≡ readToc p m u
   unfolding tocBad
@@ -287,17 +298,11 @@ module _ {t u : List ℕ} (s : Same t u) where
   unfolding perform
   perform-same c p m l h = ap (λ (r : Result Deck). if needsDisc c p and not (isLoaded m) then fails (noMedium m) else r) (work-same c p m l h)
 
-  stepsBy-same : (k : Kind) (c : Command) (v : Unit) (m : Deck) (p l : List ℕ) → perform c p m t l ≡ perform c p m u l
-      → stepsBy k c v m p t l ≡ stepsBy k c v m p u l
-  stepsBy-same Asks c v m p l h = refl
-  stepsBy-same Passes c v m p l h = ap (pass v m) h
-  stepsBy-same Gates c v m p l h = ap (gate v m) h
-
   steps-same : (d : Drive) (p l : List ℕ) → isFormat2 p ≡ false → stepsOf d p t l ≡ stepsOf d p u l
   unfolding classOf
   steps-same d p l h =
       let c = decode (codeOf p) in
-      stepsBy-same (kindOf c) c (d .unit) (d .deck) p l (perform-same c p (d .deck) l (λ e k.
+      stepsBy-same (kindOf c) c (d .unit) (d .deck) p t u l (perform-same c p (d .deck) l (λ e k.
       false≢true (sym h ∙ and-both _ _ (decode-is ReadToc refl (codeOf p) ∙ e) (eq-eqb _ _ k))))
 
   pub reply-same : (d : Drive) (p l : List ℕ) (n : ℕ) → isFit t ≡ true → isFit u ≡ true → isFormat2 p ≡ false
@@ -305,14 +310,56 @@ module _ {t u : List ℕ} (s : Same t u) where
   unfolding replyTo refusalOf
   reply-same d p l n f g h = rw (ruleWith-fit _ t f, ruleWith-fit _ u g, f, g, steps-same d p l h)
 
+-- ---- what a drive that is not loaded asks of it
+
+-- "When not loaded, the table isn't looked at": a command that needs a disc fails before it is performed, and no other looks at the table
+perform-unloaded : (c : Command) (p : List ℕ) (m : Deck) (t u l : List ℕ) → isLoaded m ≡ false → perform c p m t l ≡ perform c p m u l
+unfolding perform if_then_else_ _and_
+perform-unloaded TestUnitReady p m t u l h = refl
+perform-unloaded RequestSense p m t u l h = refl
+perform-unloaded Inquiry p m t u l h = refl
+perform-unloaded StartStop p m t u l h = refl
+perform-unloaded Prevent p m t u l h = refl
+perform-unloaded ReadCapacity p m t u l h = rw h
+perform-unloaded Read10 p m t u l h = rw h
+perform-unloaded Seek p m t u l h = rw h
+perform-unloaded ReadToc p m t u l h = rw h
+perform-unloaded Read12 p m t u l h = rw h
+perform-unloaded PlayAudio p m t u l h = rw h
+perform-unloaded PauseResume p m t u l h = refl
+perform-unloaded ReadSubChannel p m t u l h = rw h
+perform-unloaded ModeSense p m t u l h = refl
+perform-unloaded ModeSelect p m t u l h = refl
+perform-unloaded GetEvent p m t u l h = refl
+perform-unloaded Unknown p m t u l h = refl
+
+pub reply-unloaded : (d : Drive) (p t u l : List ℕ) (n : ℕ) → isLoaded (d .deck) ≡ false → replyTo d p t l n ≡ replyTo d p u l n
+reply-unloaded d p t u l n h = elim (ℕ-discrete (length p) 12) [
+  | yes a ↦ by-state a (isKnownState d) refl
+  | no a ↦ answer-1 d p t l n a ∙ sym (answer-1 d p u l n a)
+]
+  where
+    steps-unloaded : stepsOf d p t l ≡ stepsOf d p u l
+    steps-unloaded =
+        let c = decode (codeOf p) in
+        stepsBy-same (kindOf c) c (d .unit) (d .deck) p t u l (perform-unloaded c p (d .deck) t u l h)
+
+    by-memory : length p ≡ 12 → isKnownState d ≡ true → replyTo d p t l n ≡ replyTo d p u l n
+    by-memory a b = elim (decLe bound n) [
+      | yes c ↦ answer-steps d p t l n a b c (λ i. absurd (false≢true (sym h ∙ i))) ∙ steps-unloaded
+          ∙ sym (answer-steps d p u l n a b c (λ i. absurd (false≢true (sym h ∙ i))))
+      | no c ↦ answer-3 d p t l n a b (lt-of-not-le c) ∙ sym (answer-3 d p u l n a b (lt-of-not-le c))
+    ]
+
+    by-state : length p ≡ 12 → (b : Bool) → isKnownState d ≡ b → replyTo d p t l n ≡ replyTo d p u l n
+    by-state a true e = by-memory a e
+    by-state a false e = answer-2 d p t l n a e ∙ sym (answer-2 d p u l n a e)
+
 -- ---- the packet that asks for the track list
 
 -- of a loaded drive with nothing pending the steps answer it, and cut it at FFFFh bytes
-module _ (d : Drive) (t l : List ℕ) (h : isLoaded (d .deck) ≡ true) (a : anyPending (d .unit) ≡ false) where
-  pub list-full : stepsOf d listPacket t l .full ≡ trackList t
-  unfolding decode if_then_else_ gate pendingOf perform answering tocBad tocBytes _and_
-  list-full = rw (h, none-pending power (d .unit) a, none-pending change (d .unit) a, le-ltb (discOf t .last) 0 (omega arith))
-
-  pub list-limit : stepsOf d listPacket t l .limit ≡ 0xFFFF
-  unfolding decode if_then_else_ gate pendingOf perform answering tocBad tocBytes _and_
-  list-limit = rw (h, none-pending power (d .unit) a, none-pending change (d .unit) a, le-ltb (discOf t .last) 0 (omega arith))
+pub steps-list : (d : Drive) (t l : List ℕ) → isLoaded (d .deck) ≡ true → anyPending (d .unit) ≡ false
+    → stepsOf d listPacket t l ≡ good (trackList t) 0xFFFF 0 0 (clear (d .unit)) (d .deck)
+unfolding decode if_then_else_ gate pendingOf perform answering tocBad tocBytes attend _and_
+steps-list d t l h a =
+    rw (h, none-pending power (d .unit) a, none-pending change (d .unit) a, le-ltb (discOf t .last) 0 (omega arith))

@@ -212,6 +212,7 @@ any-pending change u h = either-way (u .power)
     either-way true = refl
     either-way false = h
 
+-- where neither is pending, each is not
 pub none-pending : (a : Attention) (u : Unit) → anyPending u ≡ false → pending a u ≡ false
 none-pending a u h = decided (pending a u) refl
   where
