@@ -38,8 +38,9 @@ use Rattle.claims.specs.TwinLaws.{fit-ranged, fit-numbers, contents-same
 -- ---- what the track list tells
 
 module _ (t u : List ℕ) (f : isFit t ≡ true) (g : isFit u ≡ true) where
-  -- of two fit tables, of any sessions: their lists are equal exactly where their contents are. So the list determines the first and the last
-  -- track, each track's number, ADR/control and start, and the lead-out with its ADR/control, and these determine it; by M:S:F as by blocks
+  -- of two fit tables, of any sessions: their lists are equal exactly where their contents are. So the list determines the first and the
+  -- last track, each track's number, ADR/control and start, and the lead-out with its ADR/control, and these determine it; by M:S:F as by
+  -- blocks
   pub list-contents : (msf : Bool) → (listWith msf 0 t ≡ listWith msf 0 u) ↔ (contentsOf t ≡ contentsOf u)
   list-contents msf = (
     λ e. list-tells msf (contentsOf t) (contentsOf u) (fit-ranged (isFit-true f)) (fit-ranged (isFit-true g)) (sym (list-made msf 0 t) ∙ e ∙ list-made msf 0 u),
@@ -136,7 +137,8 @@ list-given d t l n k h a f b =
     let s = stepsOf-bounded d listPacket t l (λ i. f) in
     ap bytesOf (answer-steps d listPacket t l n refl k b (λ i. f) ∙ e) ∙ take-all 0xFFFF (trackList t) (omega arith)
 
--- so on discs of one session it is exactly what they ask for: they get one answer with either table where the lists are equal, and only there
+-- so on discs of one session it is exactly what they ask for: with either table they get one answer where the lists are equal, and only
+-- there
 pub list-exact : {t u : List ℕ} → Single t → Single u → (trackList t ≡ trackList u) ↔ ToldAlike t u
 unfolding _and_ _or_
 list-exact {t} {u} a b = (

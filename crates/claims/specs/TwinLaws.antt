@@ -1,5 +1,5 @@
--- On a disc of one session every command but READ TOC by format 2 asks the table for its contents alone: all tracks end at the one lead-out.
--- A drive that is not loaded asks it for nothing.
+-- On a disc of one session every command but READ TOC by format 2 asks the table for its contents alone, since all tracks end at the one
+-- lead-out; a drive that is not loaded asks it for nothing.
 use mathlib.Core.Path.{_≡_, refl, sym, ap, _∙_}
 use mathlib.Core.Bool.{Bool, true, false, not, false≢true}
 use mathlib.Core.List.{List, [], _∷_, _++_, append-nil, append-assoc}
