@@ -41,5 +41,6 @@ pub mod ListedLaws
 pub mod WaitingLaws
 pub mod CancelLaws
 pub mod ContentsLaws
+pub mod SingleLaws
 pub mod TwinLaws
 pub mod AddressLaws

@@ -33,7 +33,8 @@ use Rattle.claims.specs.Whole.{loadedE-known}
 use Rattle.claims.specs.WholeLaws.{stepsOf-bounded}
 use Rattle.claims.specs.Contents.{listWith, trackList, listPacket, contentsOf, listOf, Single, Twins, isFormat2, Twinned, itself, twins}
 use Rattle.claims.specs.ContentsLaws.{list-made, list-tells, list-low}
-use Rattle.claims.specs.TwinLaws.{fit-ranged, fit-numbers, contents-same, reply-same, reply-unloaded, steps-list}
+use Rattle.claims.specs.SingleLaws.{fit-ranged, fit-numbers}
+use Rattle.claims.specs.TwinLaws.{contents-same, reply-same, reply-unloaded, steps-list}
 
 -- ---- what the track list tells
 
