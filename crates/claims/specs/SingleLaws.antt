@@ -134,18 +134,15 @@ first-entry d n a b c e l =
     ap firstOf (r .1 ∙ ap (λ (x : List Entry). x ++ r .0) four)
 
 module _ {t : List ℕ} (s : Single t) where
-  f : Fit t
-  f = isFit-true (s .fit)
-
-  is-one : lastSession t ≡ 1
-  is-one = s .one
+  is-fit : Fit t
+  is-fit = isFit-true (s .fit)
 
   -- every track ends at the lead-out, L
   single-out : (j : ℕ) → j < rows (descriptors t) → isTrack (pointAt (descriptors t) j) ≡ true → outAt (descriptors t) j ≡ contentsOf t .leadOut
   single-out j h e =
-      let r = fit-track-row f j h e in
+      let r = fit-track-row is-fit j h e in
       let b = r .below in
-      let o = is-one in
+      let o = s .one in
       r .out ∙ ap (λ (k : ℕ). leadOut (session (descriptors t) k)) (omega arith)
 
   pub single-track : (a : Ask) → found a (descriptors t) (rows (descriptors t)) ≡ foundAmong a (contentsOf t .leadOut) (contentsOf t .tracks) noTrack
@@ -159,22 +156,22 @@ module _ {t : List ℕ} (s : Single t) where
   single-first : firstOf (contentsOf t .tracks) ≡ entryAt (session (descriptors t) (lastSession t - 1)) 3
   single-first =
       let d = descriptors t in
-      let z : 0 < lastSession t = fit-numbered f .low in
-      let l = fit-listed f z in
-      let i = fit-session f z in
+      let z : 0 < lastSession t = fit-numbered is-fit .low in
+      let l = fit-listed is-fit z in
+      let i = fit-session is-fit z in
       let u = i .low in let v = i .order in let w = i .high in
-      let n = fit-row f {k = 0} {i = 3} z (omega arith) in
+      let n = fit-row is-fit {k = 0} {i = 3} z (omega arith) in
       first-entry d (rows d)
       (tested 0 (l .a0 .point) A0-noTrack) (tested 1 (l .a1 .point) A1-noTrack) (tested 2 (l .a2 .point) A2-noTrack)
       (tested 3 (l .track 0 (omega arith) .point) (isTrack-true (first (session d 0) + 0) (omega arith) (omega arith))) (omega arith)
       ∙ ap (λ (x : List ℕ). entryAt x 3) (sym (session-none d))
-      ∙ ap (λ (k : ℕ). entryAt (session d k) 3) (let o = is-one in omega arith)
+      ∙ ap (λ (k : ℕ). entryAt (session d k) 3) (let o = s .one in omega arith)
 
   pub single-disc : discOf t ≡ discIn (contentsOf t)
   single-disc = λ i. record {
     first = contentsOf t .first;
     last = contentsOf t .last;
-    sessions = is-one i;
+    sessions = s .one i;
     «lead_out» = contentsOf t .leadOut;
     «lead_flags» = contentsOf t .leadFlags;
     «last_first» = sym single-first i .number;
