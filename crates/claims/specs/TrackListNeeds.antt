@@ -9,7 +9,7 @@ use lib.ListN.{take, set, replicate}
 use lib.Dec.{eqb}
 use borrow.Author.Tests.{eq-eqb, eqb-true, not-true}
 use Rattle.ground.specs.Tests.{_and_, _or_, if_then_else_, every, and-head, and-tail, and-both}
-use Rattle.address.specs.Address.{isMsf, toMsf, shownAddress}
+use Rattle.address.specs.Address.{isMsf, shownAddress}
 use Rattle.attention.specs.Sense.{triple, senseAt, sameSense, among, isKnown}
 use Rattle.play.specs.Play.{isStatus, isPlay}
 use Rattle.page.specs.Page.{among as amongBytes, isSetting}
@@ -232,7 +232,7 @@ saidOf i = i .said
 
 -- each instance is as it says
 pub needed : map verdictOf instances ≡ map saidOf instances
-unfolding without sameOutcome sameBytes _and_ _or_ if_then_else_ every isMsf toMsf senseAt sameSense among isKnown isStatus isPlay amongBytes isSetting isKnownState attend isTrack isExtra startOf names simple free plain headA0 headA1 headed addressed rowTest one size listed numbered isSession starts before follows inPlace inOrder rule1 rule2 eachRow rises outBefore beginsAfter rising rule7 firstBroken lateRules rowRules fault isFit ruleWith nextOut outAt covers wanted nextFound found trackOf isMode inMode allIn pendingOf gate decode shownAddress isShown shownTrack shownTracks tocHeaded format0 format1 format2 tocBytes tocBad answering over inRange ranged perform refusalOf replyTo
+unfolding without sameOutcome sameBytes _or_ if_then_else_ every isMsf senseAt sameSense among isKnown isStatus isPlay amongBytes isSetting isKnownState attend isTrack isExtra startOf names simple free plain headA0 headA1 headed addressed rowTest one size listed numbered isSession starts before follows inPlace inOrder rule1 rule2 eachRow rises outBefore beginsAfter rising rule7 firstBroken lateRules rowRules fault isFit ruleWith nextOut outAt covers wanted nextFound found trackOf isMode inMode allIn pendingOf gate decode shownAddress isShown shownTrack shownTracks tocHeaded format0 format1 format2 tocBytes tocBad answering over inRange ranged perform refusalOf replyTo
 needed = refl
 
 -- ---- such tables there are
