@@ -86,6 +86,7 @@ unloaded-packet t u d p l m h = let e = reply-unloaded d p t u l (length m) h in
 
 -- ---- over histories
 
+-- one call of each run
 twinned-call : (c e : Call) (d : Drive) → Twinned c e → (answer c d ≡ answer e d) × (next c d ≡ next e d)
 twinned-call c e d (itself b) = (refl, refl)
 twinned-call c e d (twins p l m w h) = twins-packet w d p l m h
@@ -96,6 +97,7 @@ pub twins-runs : (handed : Drive) {cs ds : List Call} → Pairwise Twinned cs ds
     → map resultOf (history handed cs) ≡ map resultOf (history handed ds)
 twins-runs handed p = agree-throughout answer next Twinned twinned-call p handed
 
+-- and with the memory that is carried
 twinned-board : (c e : Call) (b : Board Drive) → Twinned c e
     → (answerOn answer next lend left c b ≡ answerOn answer next lend left e b)
     × (nextOn answer next lend left c b ≡ nextOn answer next lend left e b)
@@ -110,6 +112,7 @@ twins-runs-carried handed p =
     agree-throughout (answerOn answer next lend left) (nextOn answer next lend left) Twinned twinned-board p handed
 
 module _ {t u : List ℕ} (w : Twins t u) where
+  -- a call that is no such packet, with either table lent
   lent-twinned : (c : Call) → isPacket isFormat2 c ≡ false → Twinned (lendTable t c) (lendTable u c)
   lent-twinned (powering f) h = itself (powering f)
   lent-twinned pressing h = itself pressing
