@@ -1,23 +1,19 @@
 -- MODE SELECT's is the only work that names the list, and 55h its only code.
-use mathlib.Core.Path.{_≡_, refl, sym, ap, _∙_}
+use mathlib.Core.Path.{_≡_, refl, sym, _∙_}
 use mathlib.Core.Bool.{Bool, true, false, true≢false}
 use mathlib.Core.List.{List}
 use Prim.Native.Nat.{ℕ}
 use lib.Dec.{eqb}
-use Rattle.attention.specs.declared.Unit.{Unit}
 use Rattle.deck.specs.declared.Deck.{Deck}
 use Rattle.drive.specs.declared.state.Drive.{Drive}
-use Rattle.gate.specs.Gate.{gate, pass}
 use Rattle.command.specs.declared.decode.Command.{Command}
 use Rattle.command.specs.declared.decode.Command.the-variants.{TestUnitReady, RequestSense, Inquiry, StartStop, Prevent, ReadCapacity, Read10, Seek, ReadToc, Read12, PlayAudio, PauseResume, ReadSubChannel, ModeSense, ModeSelect, GetEvent, Unknown}
-use Rattle.command.specs.declared.decode.Kind.{Kind}
-use Rattle.command.specs.declared.decode.Kind.the-variants.{Asks, Passes, Gates}
-use Rattle.command.specs.Command.{decode, codeOf, kindOf}
+use Rattle.command.specs.Command.{decode, codeOf}
 use Rattle.command.specs.Class.{classOf}
 use Rattle.command.specs.ClassLaws.{decode-is}
 use Rattle.target.specs.Perform.{work, perform}
-use Rattle.target.specs.Packet.{stepsBy, answer as replyTo}
-use Rattle.claims.specs.PacketLaws.{isThe}
+use Rattle.target.specs.Packet.{answer as replyTo}
+use Rattle.claims.specs.PacketLaws.{isThe, steps-performed}
 
 abbrev isSelect : Command → Bool
 isSelect c = isThe ModeSelect c
@@ -52,15 +48,7 @@ module _ (k l : List ℕ) where
   unfolding perform
   perform-unlisted c p m t h = rw (work-unlisted c p m t h)
 
-  stepsBy-unlisted : (i : Kind) (c : Command) (u : Unit) (m : Deck) (p t : List ℕ) → perform c p m t k ≡ perform c p m t l
-      → stepsBy i c u m p t k ≡ stepsBy i c u m p t l
-  stepsBy-unlisted Asks c u m p t e = refl
-  stepsBy-unlisted Passes c u m p t e = ap (pass u m) e
-  stepsBy-unlisted Gates c u m p t e = ap (gate u m) e
-
 pub reply-unlisted : (d : Drive) (p t k l : List ℕ) (n : ℕ) → eqb (codeOf p) 0x55 ≡ false → replyTo d p t k n ≡ replyTo d p t l n
 unfolding replyTo
 reply-unlisted d p t k l n h =
-    let c = decode (codeOf p) in
-    let e = perform-unlisted k l c p (d .deck) t (sym (decode-select (codeOf p)) ∙ h) in
-    rw (stepsBy-unlisted k l (kindOf c) c (d .unit) (d .deck) p t e)
+    rw (steps-performed d p t t k l (perform-unlisted k l (decode (codeOf p)) p (d .deck) t (sym (decode-select (codeOf p)) ∙ h)))

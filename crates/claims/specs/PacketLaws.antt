@@ -4,17 +4,21 @@ use mathlib.Core.Path.{_≡_, refl, sym, ap, _∙_}
 use mathlib.Core.Bool.{Bool, true, false, not, false≢true}
 use mathlib.Core.List.{List}
 use Prim.Native.Nat.{ℕ, zero, suc}
+use native.Mathlib.Nat.{lt-of-not-le}
+use native.Mathlib.Decide.{decLe, ℕ-discrete}
 use lib.Dec.{eqb, eqb·suc-zero}
-use borrow.Author.Tests.{eqb-true}
+use lib.ListN.{length}
 use Rattle.ground.specs.Tests.{_and_, _or_, if_then_else_, when, unless, either}
 use Rattle.attention.specs.declared.Unit.{Unit}
 use Rattle.deck.specs.declared.Deck.{Deck}
 use Rattle.drive.specs.declared.state.Drive.{Drive}
 use Rattle.play.specs.declared.Play.{Play}
 use Rattle.page.specs.declared.Page.{Page}
-use Rattle.deck.specs.Deck.{noEvent, opening, closing, withLock, withPlay, withPage, withEvent}
+use Rattle.deck.specs.Deck.{noEvent, isLoaded, opening, closing, withLock, withPlay, withPage, withEvent}
+use Rattle.drive.specs.State.{isKnownState}
+use Rattle.table.specs.Layout.{bound}
 use Rattle.disc.specs.Rules.{isFit}
-use Rattle.disc.specs.Part.{unfit, ruleWith}
+use Rattle.disc.specs.Part.{ruleWith}
 use Rattle.gate.specs.declared.fault.Fault.{Fault}
 use Rattle.gate.specs.Gate.{Result, fails, goes, refuse, gate, pass}
 use Rattle.command.specs.declared.decode.Command.{Command}
@@ -33,7 +37,7 @@ use Rattle.event.specs.EventAnswer.{isClearing, getEvent}
 use Rattle.event.specs.EventAnswerLaws.{getEvent-ways}
 use Rattle.target.specs.Perform.{work, perform}
 use Rattle.target.specs.Packet.{steps, refusalOf, answer as replyTo}
-use Rattle.target.specs.PacketLaws.{stepsOf}
+use Rattle.target.specs.PacketLaws.{stepsOf, answer-1, answer-2, answer-3, answer-steps}
 use Rattle.claims.specs.Telling.{anyPending}
 use Rattle.claims.specs.UnitLaws.{Kind, asks, frees, orders, isAsking, reply, meets, nextOf, loadingOf, Honest, gate-blind}
 use Rattle.claims.specs.Call.{closed, isRequestSense, isNeeding}
@@ -126,6 +130,14 @@ steps-blind c u m p t t′ l l′ a =
 
 pub stepsOf-kind : (d : Drive) (p t l : List ℕ) → stepsOf d p t l ≡ reply (kind p (d .deck) t l) (d .unit) (d .deck)
 stepsOf-kind d p t l = kind-steps (seen (decode (codeOf p))) (d .unit) (d .deck) p t l
+
+-- what is performed alike is answered alike
+pub steps-performed : (d : Drive) (p t t′ l l′ : List ℕ) → perform (decode (codeOf p)) p (d .deck) t l ≡ perform (decode (codeOf p)) p (d .deck) t′ l′
+    → stepsOf d p t l ≡ stepsOf d p t′ l′
+steps-performed d p t t′ l l′ h =
+    stepsOf-kind d p t l
+    ∙ ap (λ (r : Result Deck). reply (kindOf (seen (decode (codeOf p))) p r) (d .unit) (d .deck)) h
+    ∙ sym (stepsOf-kind d p t′ l′)
 
 -- the rule beside a packet's number
 abbrev pub ruleOf : Drive → List ℕ → List ℕ → ℕ → ℕ
@@ -347,17 +359,29 @@ packet-orders p m t l h = (_, kind-needs (seen (decode (codeOf p))) p _ (sym (pa
 
 -- ---- the lent table and the parameter list
 
--- beside any number a fit table's rule is 0
-pub ruleWith-fit : (n : ℕ) (t : List ℕ) → isFit t ≡ true → ruleWith n t ≡ 0
-unfolding ruleWith isFit
-ruleWith-fit n t f = either (λ x. x ≡ 0) (eqb n unfit) (λ h. eqb-true _ _ f) (λ h. refl)
+-- what the steps answer alike the packet answers alike, where both tables are fit or the drive is not loaded: no refusal looks at more
+pub packet-steps : (d : Drive) (p t t′ l l′ : List ℕ) (n : ℕ) → (isLoaded (d .deck) ≡ true → (isFit t ≡ true) × (isFit t′ ≡ true))
+    → stepsOf d p t l ≡ stepsOf d p t′ l′ → replyTo d p t l n ≡ replyTo d p t′ l′ n
+packet-steps d p t t′ l l′ n f s = elim (ℕ-discrete (length p) 12) [
+  | yes a ↦ by-state a (isKnownState d) refl
+  | no a ↦ answer-1 d p t l n a ∙ sym (answer-1 d p t′ l′ n a)
+]
+  where
+    by-memory : length p ≡ 12 → isKnownState d ≡ true → replyTo d p t l n ≡ replyTo d p t′ l′ n
+    by-memory a b = elim (decLe bound n) [
+      | yes c ↦ answer-steps d p t l n a b c (λ i. f i .0) ∙ s ∙ sym (answer-steps d p t′ l′ n a b c (λ i. f i .1))
+      | no c ↦ answer-3 d p t l n a b (lt-of-not-le c) ∙ sym (answer-3 d p t′ l′ n a b (lt-of-not-le c))
+    ]
+
+    by-state : length p ≡ 12 → (b : Bool) → isKnownState d ≡ b → replyTo d p t l n ≡ replyTo d p t′ l′ n
+    by-state a true e = by-memory a e
+    by-state a false e = answer-2 d p t l n a e ∙ sym (answer-2 d p t′ l′ n a e)
 
 -- while an attention is pending two fit tables give one answer, with any two lists
 pub packet-blind : (d : Drive) (p t t′ l l′ : List ℕ) (n : ℕ) → isFit t ≡ true → isFit t′ ≡ true → anyPending (d .unit) ≡ true
     → replyTo d p t l n ≡ replyTo d p t′ l′ n
-unfolding replyTo refusalOf
 packet-blind d p t t′ l l′ n f g a =
-    rw (ruleWith-fit _ t f, ruleWith-fit _ t′ g, f, g, steps-blind (decode (codeOf p)) (d .unit) (d .deck) p t t′ l l′ a)
+    packet-steps d p t t′ l l′ n (λ i. (f, g)) (steps-blind (decode (codeOf p)) (d .unit) (d .deck) p t t′ l l′ a)
 
 -- and so do two lists with one table, fit or not
 pub packet-unlisted : (d : Drive) (p t l l′ : List ℕ) (n : ℕ) → anyPending (d .unit) ≡ true → replyTo d p t l n ≡ replyTo d p t l′ n

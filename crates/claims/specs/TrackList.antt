@@ -2,7 +2,7 @@
 -- asks for exactly that. `answer c d` and `next c d` are what the call c gets of d and the state after it, as in Call.antt; that each
 -- condition on tables and packet is needed stands in TrackListNeeds.antt.
 use mathlib.Core.Path.{_≡_, refl, sym, ap, _∙_}
-use mathlib.Core.Bool.{Bool, true, false}
+use mathlib.Core.Bool.{Bool, true, false, false≢true}
 use mathlib.Core.List.{List, [], map}
 use mathlib.Core.Logic.{_↔_}
 use Prim.Native.Nat.{ℕ, _≤_}
@@ -34,7 +34,7 @@ use Rattle.claims.specs.WholeLaws.{stepsOf-bounded}
 use Rattle.claims.specs.Contents.{listWith, trackList, listPacket, contentsOf, listOf, Single, Twins, isFormat2, Twinned, itself, twins}
 use Rattle.claims.specs.ContentsLaws.{list-made, list-tells, list-low}
 use Rattle.claims.specs.SingleLaws.{fit-ranged, fit-numbers}
-use Rattle.claims.specs.TwinLaws.{contents-same, reply-same, reply-unloaded, steps-list}
+use Rattle.claims.specs.TwinLaws.{contents-same, reply-same, steps-list}
 
 -- ---- what the track list tells
 
@@ -63,11 +63,13 @@ module _ (msf : Bool) (t : List ℕ) (f : isFit t ≡ true) where
 
 -- ---- what every packet but READ TOC by format 2 asks for
 
--- with either table such a packet gets one answer, with the response bytes, and leaves one state: in any state, with any list and memory
+-- one answer, with the response bytes, and one next state
+abbrev pub SameResult : Call → Call → Drive → Type 0
+SameResult c e d = (answer c d ≡ answer e d) × (next c d ≡ next e d)
+
+-- with either table such a packet gets the same: in any state, with any list and memory
 abbrev pub ToldAlike : List ℕ → List ℕ → Type 0
-ToldAlike t u =
-    (d : Drive) (p l m : List ℕ) → isFormat2 p ≡ false
-    → (answer (packet p t l m) d ≡ answer (packet p u l m) d) × (next (packet p t l m) d ≡ next (packet p u l m) d)
+ToldAlike t u = (d : Drive) (p l m : List ℕ) → isFormat2 p ≡ false → SameResult (packet p t l m) (packet p u l m) d
 
 -- "For two fit tables of one session whose full format 0 answers (N 0, block addresses) are equal, every packet except READ TOC format 2,
 -- met by equal loaded states with equal response memory and parameter list, gets equal answers, states and response bytes."
@@ -76,18 +78,18 @@ twins-packet {t} {u} w d p l m h =
     let f = w .table .fit in
     let g = w .other .fit in
     let s = contents-same (w .table) (w .other) (list-contents t u f g false .0 (w .list)) in
-    let e = reply-same s d p l (length m) f g h in
+    let e = reply-same d p t u l (length m) (λ i. record { fit = f; other = g; needs = s; format = h }) in
     (ap (answerOf m) e, ap stateOf e)
 
--- and in a state that is not loaded every packet gets one answer with any two tables: "When not loaded, the table isn't looked at."
-pub unloaded-packet : (t u : List ℕ) (d : Drive) (p l m : List ℕ) → isLoaded (d .deck) ≡ false
-    → (answer (packet p t l m) d ≡ answer (packet p u l m) d) × (next (packet p t l m) d ≡ next (packet p u l m) d)
-unloaded-packet t u d p l m h = let e = reply-unloaded d p t u l (length m) h in (ap (answerOf m) e, ap stateOf e)
+-- and in a state that is not loaded every packet gets the same with any two tables: "When not loaded, the table isn't looked at."
+pub unloaded-packet : (t u : List ℕ) (d : Drive) (p l m : List ℕ) → isLoaded (d .deck) ≡ false → SameResult (packet p t l m) (packet p u l m) d
+unloaded-packet t u d p l m h =
+    let e = reply-same d p t u l (length m) (λ i. absurd (false≢true (sym h ∙ i))) in (ap (answerOf m) e, ap stateOf e)
 
 -- ---- over histories
 
 -- one call of each run
-twinned-call : (c e : Call) (d : Drive) → Twinned c e → (answer c d ≡ answer e d) × (next c d ≡ next e d)
+twinned-call : (c e : Call) (d : Drive) → Twinned c e → SameResult c e d
 twinned-call c e d (itself b) = (refl, refl)
 twinned-call c e d (twins p l m w h) = twins-packet w d p l m h
 
