@@ -70,15 +70,22 @@ unfoldable pub from : ℕ → List Entry → List Entry
 from n [] = []
 from n (e ∷ es) = if leb n (e .number) then e ∷ from n es else from n es
 
+-- "0, ADR/control, number, 0, address"
+abbrev pub entryBytes : Bool → Entry → List ℕ
+entryBytes msf e = described msf (e .flags) (e .number) (e .start)
+
 -- "8 bytes for each track"
 unfoldable pub written : Bool → List Entry → List ℕ
 written msf [] = []
-written msf (e ∷ es) = described msf (e .flags) (e .number) (e .start) ++ written msf es
+written msf (e ∷ es) = entryBytes msf e ++ written msf es
+
+-- "then the lead-out as AAh"
+abbrev pub leadEntry : Contents → Entry
+leadEntry c = record { flags = c .leadFlags; number = AA; start = c .leadOut }
 
 -- by MSF and N: it is a table's list (`list-made`), and nothing else of the table goes into it
 abbrev pub listOf : Bool → ℕ → Contents → List ℕ
-listOf msf n c =
-    headed (c .first) (c .last) (written msf (from n (c .tracks)) ++ described msf (c .leadFlags) AA (c .leadOut))
+listOf msf n c = headed (c .first) (c .last) (written msf (from n (c .tracks)) ++ entryBytes msf (leadEntry c))
 
 -- ---- the tables that it does not tell apart
 

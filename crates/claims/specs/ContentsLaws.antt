@@ -12,10 +12,10 @@ use Rattle.ground.specs.Number.{word32, bytes32-exact}
 use Rattle.address.specs.Address.{MsfAnswer, last as lastAddress, minuteOf, secondOf, frameOf, shownAddress}
 use Rattle.address.specs.Laws.{toMsf-at}
 use Rattle.table.specs.Layout.{descriptors, rows, pointAt, isTrack}
-use Rattle.toc.specs.Shown.{described, describedRow, isShown, shownTrack, shownTracks}
+use Rattle.toc.specs.Shown.{describedRow, isShown, shownTrack, shownTracks}
 use Rattle.toc.specs.ShownLaws.{described-length}
-use Rattle.toc.specs.Answer.{AA, headed, format0}
-use Rattle.claims.specs.Contents.{listWith, Entry, Contents, entryAt, entries, contentsOf, from, written, listOf}
+use Rattle.toc.specs.Answer.{headed, format0}
+use Rattle.claims.specs.Contents.{listWith, Entry, Contents, entryAt, entries, contentsOf, from, entryBytes, written, leadEntry, listOf}
 
 -- ---- the list is made of the contents
 
@@ -33,8 +33,8 @@ written-append : (msf : Bool) (x y : List Entry) → written msf (x ++ y) ≡ wr
 unfolding written
 written-append msf [] y = refl
 written-append msf (e ∷ x) y =
-    ap (λ (l : List ℕ). described msf (e .flags) (e .number) (e .start) ++ l) (written-append msf x y)
-    ∙ sym (append-assoc (described msf (e .flags) (e .number) (e .start)) (written msf x) (written msf y))
+    ap (λ (l : List ℕ). entryBytes msf e ++ l) (written-append msf x y)
+    ∙ sym (append-assoc (entryBytes msf e) (written msf x) (written msf y))
 
 -- of one descriptor
 shown-written : (msf : Bool) (n : ℕ) (d : List ℕ) (j : ℕ)
@@ -106,30 +106,26 @@ shown-tells true {a} {b} p q h =
 
 -- so does an entry
 described-tells : (msf : Bool) (e f : Entry) {x y : List ℕ} → Placed e → Placed f
-    → described msf (e .flags) (e .number) (e .start) ++ x ≡ described msf (f .flags) (f .number) (f .start) ++ y → (e ≡ f) × (x ≡ y)
+    → entryBytes msf e ++ x ≡ entryBytes msf f ++ y → (e ≡ f) × (x ≡ y)
 described-tells msf e f p q h =
     let a = ap (λ (l : List ℕ). getD l 1 0) h in
     let b = ap (λ (l : List ℕ). getD l 2 0) h in
     let r = shown-tells msf p q (ap (drop 4) h) in
     (λ i. record { flags = a i; number = b i; start = r .0 i }, r .1)
 
--- the lead-out as an entry
-abbrev lead : ℕ → ℕ → Entry
-lead flags out = record { flags = flags; number = AA; start = out }
-
 written-length : (msf : Bool) (e : Entry) (es : List Entry) → 8 ≤ length (written msf (e ∷ es))
 unfolding written
 written-length msf e es =
-    let a = length-append (described msf (e .flags) (e .number) (e .start)) (written msf es) in
+    let a = length-append (entryBytes msf e) (written msf es) in
     let b = described-length msf (e .flags) (e .number) (e .start) in
     omega arith
 
 -- the lead-out stands behind the tracks: with it a list of tracks is longer than it alone
 longer : (msf : Bool) (e : Entry) (es : List Entry) (f g : Entry)
-    → described msf (f .flags) (f .number) (f .start) ≡ written msf (e ∷ es) ++ described msf (g .flags) (g .number) (g .start) → ⊥
+    → entryBytes msf f ≡ written msf (e ∷ es) ++ entryBytes msf g → ⊥
 longer msf e es f g h =
     let a = ap length h in
-    let b = length-append (written msf (e ∷ es)) (described msf (g .flags) (g .number) (g .start)) in
+    let b = length-append (written msf (e ∷ es)) (entryBytes msf g) in
     let c = described-length msf (f .flags) (f .number) (f .start) in
     let d = described-length msf (g .flags) (g .number) (g .start) in
     let w = written-length msf e es in
@@ -137,7 +133,7 @@ longer msf e es f g h =
 
 -- the tracks with an entry behind them tell all of these
 written-tells : (msf : Bool) (x y : List Entry) (e f : Entry) → Each Placed x → Each Placed y → Placed e → Placed f
-    → written msf x ++ described msf (e .flags) (e .number) (e .start) ≡ written msf y ++ described msf (f .flags) (f .number) (f .start)
+    → written msf x ++ entryBytes msf e ≡ written msf y ++ entryBytes msf f
     → (x ≡ y) × (e ≡ f)
 unfolding written
 written-tells msf [] [] e f a b p q h =
@@ -145,8 +141,8 @@ written-tells msf [] [] e f a b p q h =
 written-tells msf [] (g ∷ y) e f a b p q h = absurd (longer msf g y e f h)
 written-tells msf (g ∷ x) [] e f a b p q h = absurd (longer msf g x f e (sym h))
 written-tells msf (g ∷ x) (k ∷ y) e f (cons s a) (cons r b) p q h =
-    let d = described msf (g .flags) (g .number) (g .start) in
-    let c = described msf (k .flags) (k .number) (k .start) in
+    let d = entryBytes msf g in
+    let c = entryBytes msf k in
     let u = described-tells msf g k s r (sym (append-assoc d (written msf x) _) ∙ h ∙ append-assoc c (written msf y) _) in
     let v = written-tells msf x y e f a b p q (u .1) in
     (λ i. u .0 i ∷ v .0 i, v .1)
@@ -168,7 +164,7 @@ from-all x = from-low 0 (each-any x (λ e. omega arith))
 -- then the list is that of N 0
 pub list-low : (msf : Bool) (n : ℕ) (c : Contents) → Each (λ e. n ≤ e .number) (c .tracks) → listOf msf n c ≡ listOf msf 0 c
 list-low msf n c h =
-    ap (λ (x : List Entry). headed (c .first) (c .last) (written msf x ++ described msf (c .leadFlags) AA (c .leadOut)))
+    ap (λ (x : List Entry). headed (c .first) (c .last) (written msf x ++ entryBytes msf (leadEntry c)))
     (from-low n h ∙ sym (from-all (c .tracks)))
 
 -- contents whose addresses are in range are told by the list that they make
@@ -178,6 +174,5 @@ list-tells msf c k a b h =
     let p = ap (λ (l : List ℕ). getD l 2 0) h in
     let q = ap (λ (l : List ℕ). getD l 3 0) h in
     let w = rw (from-all (c .tracks), from-all (k .tracks)) at (ap (drop 4) h) in
-    let r = written-tells msf (c .tracks) (k .tracks) (lead (c .leadFlags) (c .leadOut)) (lead (k .leadFlags) (k .leadOut))
-    (a .tracks) (b .tracks) (a .lead) (b .lead) w in
+    let r = written-tells msf (c .tracks) (k .tracks) (leadEntry c) (leadEntry k) (a .tracks) (b .tracks) (a .lead) (b .lead) w in
     λ i. record { first = p i; last = q i; tracks = r .0 i; leadFlags = r .1 i .flags; leadOut = r .1 i .start }
