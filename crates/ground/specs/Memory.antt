@@ -69,6 +69,12 @@ laid-length {m} {b} l = ap length (l .bytes) ∙ fill-length m b
 pub laid-within : {m b m′ : List ℕ} {r : ℕ} → Laid m b r m′ → r ≤ length m′
 laid-within {m} {b} {m′} {r} l = let e = laid-length l in let k = l .count in omega arith
 
+-- bytes that fit are all laid, and stand in front
+pub laid-fits : {m b m′ : List ℕ} {r : ℕ} → Laid m b r m′ → length b ≤ length m → (r ≡ length b) × (take r m′ ≡ b)
+laid-fits {m} {b} {m′} {r} l h =
+    let e : r ≡ length b = let k = l .count in omega arith in
+    (e, ap (take r) (l .bytes ∙ fill-fits m b h) ∙ ap (λ (n : ℕ). take n (b ++ drop (length b) m)) e ∙ take-append-seam b (drop (length b) m))
+
 -- two results of one laying are one
 pub laid-only : {m b m₁ m₂ : List ℕ} {r s : ℕ} → Laid m b r m₁ → Laid m b s m₂ → (r ≡ s) × (m₁ ≡ m₂)
 laid-only k l = (k .count ∙ sym (l .count), k .bytes ∙ sym (l .bytes))

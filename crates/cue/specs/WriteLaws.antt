@@ -1,0 +1,53 @@
+-- The laws of the call: each way in which a sheet is answered, and what the output memory then holds.
+use mathlib.Core.Path.{_≡_, sym, ap, _∙_}
+use mathlib.Core.Bool.{true, false}
+use mathlib.Core.List.{List}
+use Prim.Native.Nat.{ℕ, _%_, _≤_, _<_}
+use native.Mathlib.Omega.{arith}
+use borrow.Author.Tests.{eq-eqb, ne-eqb, lt-ltb, le-ltb}
+use lib.ListN.{length}
+use Rattle.ground.specs.Tests.{when, unless}
+use Rattle.ground.specs.Memory.{Laid, fill-none, laid-fits}
+use Rattle.table.specs.Layout.{bound}
+use Rattle.disc.specs.Rules.{fault, isFit}
+use Rattle.cue.specs.declared.write.Written.{Written}
+use Rattle.cue.specs.Sheet.{entrySize, isDescribed}
+use Rattle.cue.specs.Made.{tableOf}
+use Rattle.cue.specs.Write.{Answer, refuse, notWhole, unfit, noRoom, handOut, wholeAnswer, answer, writtenOf, Turned}
+
+-- nothing is written
+pub turned-refuse : (n : ℕ) (m : List ℕ) {r : Written} → r ≡ writtenOf (refuse n) → Turned (refuse n) m r m
+turned-refuse n m e = record { outcome = e; memory = sym (fill-none m) }
+
+-- a fit table that the memory holds
+pub handOut-fit :
+    {t m m′ : List ℕ} {n : ℕ} → fault t ≡ 0 → length t ≤ length m → Laid m t n m′ → Turned (handOut t) m (record { number = 0; len = n }) m′
+unfolding handOut isFit
+handOut-fit {t} {m} h k l =
+    rw (when _ _ _ (eq-eqb _ _ h)) (record { outcome = ap (λ (n : ℕ). record { number = 0; len = n }) (laid-fits l k .0); memory = l .bytes })
+
+pub handOut-unfit : (t m : List ℕ) {r : Written} → (fault t ≡ 0 → ⊥) → r ≡ writtenOf (refuse unfit) → Turned (handOut t) m r m
+unfolding handOut isFit
+handOut-unfit t m h e = rw (unless _ _ _ (ne-eqb _ _ h)) (turned-refuse unfit m e)
+
+-- a sheet of whole entries
+pub wholeAnswer-described : (s : List ℕ) → isDescribed s ≡ true → wholeAnswer s ≡ handOut (tableOf s)
+unfolding wholeAnswer
+wholeAnswer-described s h = when _ _ _ h
+
+pub wholeAnswer-not : (s : List ℕ) → isDescribed s ≡ false → wholeAnswer s ≡ refuse unfit
+unfolding wholeAnswer
+wholeAnswer-not s h = unless _ _ _ h
+
+-- 14, then 12
+pub answer-noRoom : (s : List ℕ) {m : ℕ} → m < bound → answer s m ≡ refuse noRoom
+unfolding answer
+answer-noRoom s h = when _ _ _ (lt-ltb _ _ h)
+
+pub answer-whole : (s : List ℕ) {m : ℕ} → bound ≤ m → length s % entrySize ≡ 0 → answer s m ≡ wholeAnswer s
+unfolding answer
+answer-whole s h k = unless _ _ _ (le-ltb _ _ h) ∙ when _ _ _ (eq-eqb _ _ k)
+
+pub answer-notWhole : (s : List ℕ) {m : ℕ} → bound ≤ m → (length s % entrySize ≡ 0 → ⊥) → answer s m ≡ refuse notWhole
+unfolding answer
+answer-notWhole s h k = unless _ _ _ (le-ltb _ _ h) ∙ unless _ _ _ (ne-eqb _ _ k)
