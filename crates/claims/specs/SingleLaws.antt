@@ -7,8 +7,8 @@ use Prim.Native.Nat.{ℕ, zero, suc, _+_, _-_, _≤_, _<_}
 use native.Mathlib.Omega.{arith}
 use native.Mathlib.Decide.{ℕ-discrete}
 use Rattle.ground.specs.Tests.{if_then_else_, either}
-use Rattle.table.specs.Layout.{lastSession, descriptors, rows, pointAt, isTrack}
-use Rattle.table.specs.RowLaws.{isTrack-true}
+use Rattle.table.specs.Layout.{lastSession, descriptors, rows, pointAt, A0, A1, A2, isTrack}
+use Rattle.table.specs.RowLaws.{isTrack-true, isTrack-over}
 use Rattle.sessions.specs.Session.{first, session}
 use Rattle.disc.specs.Rules.{leadOut}
 use Rattle.disc.specs.RulesLaws.{Fit, isFit-true, fit-numbered, fit-session}
@@ -19,7 +19,7 @@ use Rattle.tracks.specs.declared.track.Track.{Track}
 use Rattle.tracks.specs.declared.track.Ask.{Ask}
 use Rattle.tracks.specs.Track.{outAt, noTrack, trackAt, nextFound, found}
 use Rattle.tracks.specs.TrackLaws.{wanted-not, nextFound-on}
-use Rattle.tracks.specs.SpreadLaws.{A0-noTrack, A1-noTrack, A2-noTrack, fit-track-row}
+use Rattle.tracks.specs.SpreadLaws.{fit-track-row}
 use Rattle.claims.specs.Contents.{Entry, Contents, entryAt, entries, contentsOf, Single}
 use Rattle.claims.specs.ContentsLaws.{Placed, Each, nil, cons, each-append, Ranged}
 
@@ -162,7 +162,7 @@ module _ {t : List ℕ} (s : Single t) where
       let u = i .low in let v = i .order in let w = i .high in
       let n = fit-row is-fit {k = 0} {i = 3} z (omega arith) in
       first-entry d (rows d)
-      (tested 0 (l .a0 .point) A0-noTrack) (tested 1 (l .a1 .point) A1-noTrack) (tested 2 (l .a2 .point) A2-noTrack)
+      (tested 0 (l .a0 .point) (isTrack-over A0 (omega arith))) (tested 1 (l .a1 .point) (isTrack-over A1 (omega arith))) (tested 2 (l .a2 .point) (isTrack-over A2 (omega arith)))
       (tested 3 (l .track 0 (omega arith) .point) (isTrack-true (first (session d 0) + 0) (omega arith) (omega arith))) (omega arith)
       ∙ ap (λ (x : List ℕ). entryAt x 3) (sym (session-none d))
       ∙ ap (λ (k : ℕ). entryAt (session d k) 3) (let o = s .one in omega arith)

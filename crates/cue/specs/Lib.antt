@@ -1,7 +1,10 @@
 pub mod Sheet
 pub mod Made
 pub mod Write
+pub mod Held
 pub mod SheetLaws
 pub mod SpanLaws
 pub mod MadeLaws
 pub mod WriteLaws
+pub mod HeldLaws
+pub mod MadeFit

@@ -10,7 +10,7 @@ use borrow.Author.Tests.{le-leb, lt-leb, eq-eqb, eqb-true, ne-eqb}
 use lib.ListN.{length, getD, take, drop, length-drop}
 use lib.Seq.{getD-drop, getD-take, length-take-le}
 use lib.Dec.{leb, eqb}
-use Rattle.ground.specs.Tests.{_and_, _or_, if_then_else_, and-head, and-both, and-off, or-left, or-right, or-else, when, unless}
+use Rattle.ground.specs.Tests.{_and_, _or_, if_then_else_, and-head, and-both, and-off, and-late, or-left, or-right, or-else, when, unless}
 use Rattle.address.specs.Address.{isMsf}
 use Rattle.address.specs.Laws.{InRange, isMsf-range}
 use Rattle.table.specs.Layout.{row, A0, A1, A2, B0, C0, isTrack, isExtra}
@@ -62,6 +62,11 @@ startOf-frames r = refl
 pub isTrack-true : (p : ℕ) → 1 ≤ p → p ≤ 99 → isTrack p ≡ true
 unfolding isTrack
 isTrack-true p h k = and-both _ _ (le-leb _ _ h) (le-leb _ _ k)
+
+-- none of A0h, A1h, A2h, B0h and C0h is one
+pub isTrack-over : (p : ℕ) → 99 < p → isTrack p ≡ false
+unfolding isTrack
+isTrack-over p h = sym (and-late _ _ (sym (lt-leb _ _ h)))
 
 pub isExtra-B0 : {p : ℕ} → p ≡ B0 → isExtra p ≡ true
 unfolding isExtra

@@ -6,9 +6,9 @@ use Prim.Native.Nat.{ℕ, zero, suc, _+_, _≤_, _<_}
 use native.Mathlib.Omega.{arith}
 use native.Mathlib.Nat.{lt-of-not-le}
 use native.Mathlib.Decide.{decLe, ℕ-discrete}
-use Rattle.ground.specs.Tests.{_and_}
 use Rattle.table.specs.Layout.{lastSession, descriptors, rows, pointAt, A0, A1, A2, B0, C0, isTrack}
 use Rattle.table.specs.Row.{addressAt}
+use Rattle.table.specs.RowLaws.{isTrack-over}
 use Rattle.sessions.specs.Session.{tracks, session}
 use Rattle.sessions.specs.SessionLaws.{rowsBefore}
 use Rattle.disc.specs.Rules.{leadOut, trackStart}
@@ -34,26 +34,6 @@ pub record LeadRow (t : List ℕ) (j : ℕ) : Type 0 where
   pub k : ℕ
   pub below : k < lastSession t
   pub lead : addressAt (descriptors t) j ≡ leadOut (session (descriptors t) k)
-
-pub A0-noTrack : isTrack A0 ≡ false
-unfolding isTrack _and_
-A0-noTrack = refl
-
-pub A1-noTrack : isTrack A1 ≡ false
-unfolding isTrack _and_
-A1-noTrack = refl
-
-pub A2-noTrack : isTrack A2 ≡ false
-unfolding isTrack _and_
-A2-noTrack = refl
-
-B0-noTrack : isTrack B0 ≡ false
-unfolding isTrack _and_
-B0-noTrack = refl
-
-C0-noTrack : isTrack C0 ≡ false
-unfolding isTrack _and_
-C0-noTrack = refl
 
 module _ {t : List ℕ} (f : Fit t) where
   -- from a session's A2 on its address is the lead-out of each descriptor
@@ -88,11 +68,11 @@ module _ {t : List ℕ} (f : Fit t) where
           let w : isTrack a ≡ true = rw (sym point ∙ q) at h in let z : _≡_ {A = ℕ} 0 1 = cc in absurd (omega arith)
 
       told : Kind (session (descriptors t) (p .k)) (p .i) → TrackRow t j
-      told (isA0 e q) = never A0 A0-noTrack q
-      told (isA1 e q) = never A1 A1-noTrack q
-      told (isA2 e q) = never A2 A2-noTrack q
-      told (isB0 e q) = never B0 B0-noTrack q
-      told (isC0 e q) = never C0 C0-noTrack q
+      told (isA0 e q) = never A0 (isTrack-over A0 (omega arith)) q
+      told (isA1 e q) = never A1 (isTrack-over A1 (omega arith)) q
+      told (isA2 e q) = never A2 (isTrack-over A2 (omega arith)) q
+      told (isB0 e q) = never B0 (isTrack-over B0 (omega arith)) q
+      told (isC0 e q) = never C0 (isTrack-over C0 (omega arith)) q
       told (isTrackAfter m e b q) =
           let w : j ≡ rowsBefore (descriptors t) (p .k) + (3 + m) = p .place ∙ ap (λ (x : ℕ). rowsBefore (descriptors t) (p .k) + x) e in
           record {
