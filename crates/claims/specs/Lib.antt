@@ -10,6 +10,7 @@ pub mod Waiting
 pub mod Cancel
 pub mod TrackList
 pub mod TrackListNeeds
+pub mod CueSheet
 pub mod Marked
 pub mod Played
 pub mod Paged

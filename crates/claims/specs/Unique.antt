@@ -71,6 +71,8 @@ use Rattle.toc.specs.Answer.{tocBytes, tocBad}
 use Rattle.outcome.specs.declared.Outcome.{Outcome}
 use Rattle.outcome.specs.Outcome.{Answered, refused, checked, granted, finished}
 use Rattle.target.specs.Packet.{answer}
+use Rattle.cue.specs.declared.write.Written.{Written}
+use Rattle.cue.specs.Write.{answer as answerSheet, Turned}
 
 -- ---- the shapes of a promise, a law each
 
@@ -493,3 +495,9 @@ unique-cleared class limit m r s = value-once
 pub unique-packet : (d : Drive) (p t l m m₁ m₂ : List ℕ) (r s : Outcome)
     → Answered (answer d p t l (length m)) m r m₁ → Answered (answer d p t l (length m)) m s m₂ → (r ≡ s) × (m₁ ≡ m₂)
 unique-packet d p t l m m₁ m₂ r s = answer-once
+
+-- ---- cue
+
+pub unique-write-table : (s m m₁ m₂ : List ℕ) (r t : Written)
+    → Turned (answerSheet s (length m)) m r m₁ → Turned (answerSheet s (length m)) m t m₂ → (r ≡ t) × (m₁ ≡ m₂)
+unique-write-table s m m₁ m₂ r t a b = (value-once (a .outcome) (b .outcome), value-once (a .memory) (b .memory))

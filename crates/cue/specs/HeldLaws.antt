@@ -10,8 +10,8 @@ use native.Mathlib.Decide.{ℕ-discrete}
 use lib.ListN.{length, getD, length-append, List·getD-append}
 use lib.Seq.{getD-append-seam}
 use Rattle.ground.specs.Tests.{if_then_else_, when, unless}
-use Rattle.table.specs.Layout.{lastSession, descriptors, rows, pointAt, A0, A1, A2, B0, C0, isTrack}
-use Rattle.table.specs.RowLaws.{isTrack-true, isTrack-over}
+use Rattle.table.specs.Layout.{lastSession, descriptors, rows, pointAt, A0, A1, A2, B0, C0, isTrack, isExtra}
+use Rattle.table.specs.RowLaws.{isTrack-true, isTrack-over, isExtra-not}
 use Rattle.sessions.specs.Session.{first, tracks, one, b0s, c0s, count, starts}
 use Rattle.sessions.specs.SessionLaws.{IsSession, rowsBefore}
 use Rattle.disc.specs.RulesLaws.{Fit, fit-end-rows, fit-session}
@@ -79,7 +79,7 @@ module _ {t : List ℕ} (f : Fit t) (o : lastSession t ≡ 1) where
   unfolding starts
   single-session = fit-session f {k = 0} (omega arith)
 
-  single-kind : (i : ℕ) → i < count (descriptors t) → Kind (descriptors t) i
+  pub single-kind : (i : ℕ) → i < count (descriptors t) → Kind (descriptors t) i
   unfolding starts one
   single-kind i l = fit-kind f {k = 0} {i = i} (omega arith) l
 
@@ -110,6 +110,21 @@ module _ {t : List ℕ} (f : Fit t) (o : lastSession t ≡ 1) where
         | isTrackAfter m e b p ↦ absurd (omega arith)
         | isB0 e p ↦ ap isTrack p ∙ isTrack-over B0 (omega arith)
         | isC0 e p ↦ ap isTrack p ∙ isTrack-over C0 (omega arith)
+      ]
+
+  -- where it ends with its last track it has no B0h and no C0h
+  pub single-plain : rows (descriptors t) ≡ 3 + tracks (descriptors t) → (i : ℕ) → i < rows (descriptors t) → isExtra (pointAt (descriptors t) i) ≡ false
+  single-plain e i l =
+      let r = single-rows in
+      let s = single-session in
+      let a = s .order in let b = s .high in
+      elim (single-kind i (omega arith)) [
+        | isA0 q p ↦ isExtra-not (pointAt (descriptors t) i) (λ z. omega arith) (λ z. omega arith)
+        | isA1 q p ↦ isExtra-not (pointAt (descriptors t) i) (λ z. omega arith) (λ z. omega arith)
+        | isA2 q p ↦ isExtra-not (pointAt (descriptors t) i) (λ z. omega arith) (λ z. omega arith)
+        | isTrackAfter m q b p ↦ isExtra-not (pointAt (descriptors t) i) (λ z. omega arith) (λ z. omega arith)
+        | isB0 q p ↦ absurd (omega arith)
+        | isC0 q p ↦ absurd (omega arith)
       ]
 
   -- the track after i others

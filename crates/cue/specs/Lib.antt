@@ -8,3 +8,4 @@ pub mod MadeLaws
 pub mod WriteLaws
 pub mod HeldLaws
 pub mod MadeFit
+pub mod Examples

@@ -5,14 +5,15 @@ use mathlib.Core.Bool.{Bool, true, false}
 use mathlib.Core.List.{List, [], _∷_}
 use Prim.Native.Nat.{ℕ, zero, suc, _+_, _-_, _*_, _/_, _%_, _≤_, _<_}
 use native.Mathlib.Omega.{arith}
-use native.Mathlib.Nat.{zero-add}
+use native.Mathlib.Nat.{zero-add, lt-of-not-le}
+use native.Mathlib.Decide.{decLe, ℕ-discrete}
 use borrow.Author.Tests.{le-leb, leb-true, eq-eqb, eqb-true}
 use lib.Dec.{leb, eqb}
 use lib.ListN.{length, getD, drop, List·getD-eq-default}
 use lib.Seq.{ext-getD}
 use Rattle.ground.specs.Tests.{_and_, _or_, every, and-head, and-tail, and-both, every-at, every-all, every-more, every-none}
 use Rattle.ground.specs.Number.{bytes16-exact}
-use Rattle.table.specs.Layout.{bound, header, row, lastSession, descriptors, rows, flagsAt, pointAt, pminAt, psecAt, pframeAt, A0, A1, A2, B0, C0}
+use Rattle.table.specs.Layout.{bound, header, row, lastSession, descriptors, rows, flagsAt, pointAt, pminAt, psecAt, pframeAt, A0, A1, A2, B0, C0, isExtra}
 use Rattle.table.specs.Row.{rowFrom, rowAt, framesOf, framesAt, names, simple, headA0, headA1}
 use Rattle.table.specs.RowLaws.{rowFrom-drop}
 use Rattle.table.specs.Asked.{kept, a0Kept, a1Kept, climbs, holds}
@@ -25,12 +26,12 @@ use Rattle.disc.specs.RulesLaws.{Fit, isFit-true}
 use Rattle.disc.specs.Walk.{headsKept, floorAt, trackKept, tracksKept, extrasKept, sessionKept, floorOf, nextOf, stepKept, walkKept}
 use Rattle.disc.specs.WalkFit.{fit-walk, walk-fit}
 use Rattle.cue.specs.declared.entry.Track.{Track}
-use Rattle.cue.specs.Sheet.{AA, noTrack, firstOf, lastFrom, lastOf, isNumbered}
+use Rattle.cue.specs.Sheet.{AA, noTrack, firstOf, lastFrom, lastOf, followsFrom, follows, isNumbered}
 use Rattle.cue.specs.SheetLaws.{Numbered, isNumbered-parts}
 use Rattle.cue.specs.Made.{rowsOf, bodyOf, tableWith}
 use Rattle.cue.specs.MadeLaws.{bodyOf-length, tableWith-length}
 use Rattle.cue.specs.Held.{placedAt, trackAt, heldLeadOut, Holds}
-use Rattle.cue.specs.HeldLaws.{upTo, upTo-length, upTo-at, single-session, single-number, single-tracks}
+use Rattle.cue.specs.HeldLaws.{upTo, upTo-length, upTo-at, single-plain, single-number, single-tracks}
 
 -- ---- the first and the last track by their places
 
@@ -341,3 +342,78 @@ made-holds ts out n a f = record {
       ∙ ap (λ (r : Row). record { flags = r .flags; number = AA; minute = r .pmin; second = r .psec; frame = r .pframe }) (body-A2 ts out)
       ∙ (λ i. record { flags = out .flags; number = sym a i; minute = out .minute; second = out .second; frame = out .frame });
 }
+
+-- ---- what else is written
+
+module _ (ts : List Track) (out : Track) where
+  -- A0 and A1 have the first and the last track's control, and the disc type is 0
+  pub made-A0-flags : flagsAt (descriptors (tableWith ts out)) 0 ≡ firstOf ts .flags
+  unfolding tableWith bodyOf
+  made-A0-flags = refl
+
+  pub made-A1-flags : flagsAt (descriptors (tableWith ts out)) 1 ≡ lastOf ts .flags
+  unfolding tableWith bodyOf
+  made-A1-flags = refl
+
+  pub made-type : psecAt (descriptors (tableWith ts out)) 0 ≡ 0
+  unfolding tableWith bodyOf
+  made-type = refl
+
+  pub made-count : rows (descriptors (tableWith ts out)) ≡ 3 + length ts
+  made-count = let e = ap length (made-rows ts out) ∙ bodyOf-length ts out in omega arith
+
+  -- MIN, SEC and FRAME are 0 in each descriptor
+  pub made-times : (j : ℕ) → j < rows (descriptors (tableWith ts out)) → let r = rowAt (descriptors (tableWith ts out)) j in
+      (r .min ≡ 0) × (r .sec ≡ 0) × (r .frame ≡ 0)
+  made-times j l =
+      let n = made-count in
+      rw (made-rows ts out) (elim (decLe 3 j) [
+        | yes h ↦ (let z : j ≡ 3 + (j - 3) = omega arith in let e = ap (rowAt (bodyOf ts out)) z ∙ body-track ts out (j - 3) (omega arith) in timeless e)
+        | no h ↦ elim (ℕ-discrete j 0) [
+          | yes z ↦ timeless (ap (rowAt (bodyOf ts out)) z ∙ body-A0 ts out)
+          | no y ↦ elim (ℕ-discrete j 1) [
+            | yes z ↦ timeless (ap (rowAt (bodyOf ts out)) z ∙ body-A1 ts out)
+            | no x ↦ (let k = lt-of-not-le h in let z : j ≡ 2 = omega arith in timeless (ap (rowAt (bodyOf ts out)) z ∙ body-A2 ts out))
+          ]
+        ]
+      ])
+    where
+      timeless : {r : Row} {flags point m s f : ℕ} → r ≡ rowMade flags point m s f → (r .min ≡ 0) × (r .sec ≡ 0) × (r .frame ≡ 0)
+      timeless e = (ap (λ (r : Row). r .min) e, ap (λ (r : Row). r .sec) e, ap (λ (r : Row). r .frame) e)
+
+  -- no B0h and no C0h
+  pub made-plain : isNumbered ts ≡ true → isFit (tableWith ts out) ≡ true → (j : ℕ) → j < rows (descriptors (tableWith ts out))
+      → isExtra (pointAt (descriptors (tableWith ts out)) j) ≡ false
+  made-plain n f j l =
+      let c = numbered-count ts out n in
+      single-plain (isFit-true f) (made-one ts out) (made-count ∙ ap (λ (k : ℕ). 3 + k) (sym c ∙ ap tracks (sym (made-rows ts out)))) j l
+
+-- ---- the tracks of any fit table of one session are numbered
+
+follows-at : (t : Track) (ts : List Track) → ((i : ℕ) → i < length ts → getD ts i noTrack .number ≡ t .number + 1 + i) → followsFrom t ts ≡ true
+unfolding followsFrom
+follows-at t [] f = refl
+follows-at t (u ∷ ts) f =
+    let e : u .number ≡ t .number + 1 = let z = f 0 (omega arith) in omega arith in
+    and-both _ _ (eq-eqb _ _ e) (follows-at u ts (λ i l. let z : getD ts i noTrack .number ≡ t .number + 1 + suc i = f (suc i) (omega arith) in omega arith))
+
+pub held-numbered : {t : List ℕ} {ts : List Track} {out : Track} → Holds t ts out → isNumbered ts ≡ true
+unfolding isNumbered follows
+held-numbered {t} {ts} {out} h =
+    let a = made-first h in let b = made-last h in
+    let p = body-first ts out in let q = body-last ts out in
+    let c = walked-low h in let d = walked-order h in let e = walked-high h in
+    and-both _ _ (le-leb 1 (firstOf ts .number) (omega arith)) (and-both _ _ (le-leb (lastOf ts .number) 99 (omega arith)) (run ts refl))
+  where
+    number : (us : List Track) → us ≡ ts → (j : ℕ) → j < length us → getD us j noTrack .number ≡ first (descriptors t) + j
+    number us e j l =
+        let n = ap length e ∙ made-length h in
+        ap (λ (u : Track). u .number) (ap (λ (x : List Track). getD x j noTrack) e ∙ made-at h j (omega arith))
+        ∙ single-number (is-fit h) (h .one) j (omega arith)
+
+    run : (us : List Track) → us ≡ ts → follows us ≡ true
+    run [] e = refl
+    run (u ∷ us) e = follows-at u us (λ i l.
+        let y : u .number ≡ first (descriptors t) + 0 = number (u ∷ us) e 0 (omega arith) in
+        let z : getD us i noTrack .number ≡ first (descriptors t) + suc i = number (u ∷ us) e (suc i) (omega arith) in
+        omega arith)

@@ -1,9 +1,11 @@
 -- The laws of the call: each way in which a sheet is answered, and what the output memory then holds.
-use mathlib.Core.Path.{_≡_, sym, ap, _∙_}
-use mathlib.Core.Bool.{true, false}
+use mathlib.Core.Path.{_≡_, refl, sym, ap, _∙_}
+use mathlib.Core.Bool.{Bool, true, false}
 use mathlib.Core.List.{List}
 use Prim.Native.Nat.{ℕ, _%_, _≤_, _<_}
 use native.Mathlib.Omega.{arith}
+use native.Mathlib.Nat.{lt-of-not-le}
+use native.Mathlib.Decide.{decLe, ℕ-discrete}
 use borrow.Author.Tests.{eq-eqb, ne-eqb, lt-ltb, le-ltb}
 use lib.ListN.{length}
 use Rattle.ground.specs.Tests.{when, unless}
@@ -51,3 +53,31 @@ answer-whole s h k = unless _ _ _ (le-ltb _ _ h) ∙ when _ _ _ (eq-eqb _ _ k)
 pub answer-notWhole : (s : List ℕ) {m : ℕ} → bound ≤ m → (length s % entrySize ≡ 0 → ⊥) → answer s m ≡ refuse notWhole
 unfolding answer
 answer-notWhole s h k = unless _ _ _ (le-ltb _ _ h) ∙ unless _ _ _ (ne-eqb _ _ k)
+
+-- ---- the five ways in which a sheet is answered
+
+pub data Case (s : List ℕ) (m : ℕ) : Type 0 where
+  short : m < bound → answer s m ≡ refuse noRoom → Case s m
+  broken : bound ≤ m → (length s % entrySize ≡ 0 → ⊥) → answer s m ≡ refuse notWhole → Case s m
+  other : bound ≤ m → length s % entrySize ≡ 0 → isDescribed s ≡ false → answer s m ≡ refuse unfit → Case s m
+  none : bound ≤ m → length s % entrySize ≡ 0 → isDescribed s ≡ true → isFit (tableOf s) ≡ false → answer s m ≡ refuse unfit → Case s m
+  made : bound ≤ m → length s % entrySize ≡ 0 → isDescribed s ≡ true → isFit (tableOf s) ≡ true
+      → answer s m ≡ record { number = 0; bytes = tableOf s } → Case s m
+
+pub answer-cases : (s : List ℕ) (m : ℕ) → Case s m
+unfolding handOut
+answer-cases s m = elim (decLe bound m) [
+  | yes h ↦ elim (ℕ-discrete (length s % entrySize) 0) [
+    | yes k ↦ described h k (isDescribed s) refl
+    | no k ↦ broken h k (answer-notWhole s h k)
+  ]
+  | no h ↦ short (lt-of-not-le h) (answer-noRoom s (lt-of-not-le h))
+]
+  where
+    fits : bound ≤ m → length s % entrySize ≡ 0 → isDescribed s ≡ true → (b : Bool) → isFit (tableOf s) ≡ b → Case s m
+    fits h k d true e = made h k d e (answer-whole s h k ∙ wholeAnswer-described s d ∙ when _ _ _ e)
+    fits h k d false e = none h k d e (answer-whole s h k ∙ wholeAnswer-described s d ∙ unless _ _ _ e)
+
+    described : bound ≤ m → length s % entrySize ≡ 0 → (b : Bool) → isDescribed s ≡ b → Case s m
+    described h k true d = fits h k d (isFit (tableOf s)) refl
+    described h k false d = other h k d (answer-whole s h k ∙ wholeAnswer-not s d)

@@ -1,7 +1,7 @@
 -- `cue::made::put_tracks` meets its contract: the descriptors of the entries gone over are laid, and the next one's goes into the rest
 -- that begins where they ended (`laid-more`, `rowsOf-entry`).
 use mathlib.Core.Path.{_≡_, refl, sym, ap, _∙_}
-use mathlib.Core.List.{List, _++_}
+use mathlib.Core.List.{_++_}
 use Prim.Native.Nat.{ℕ, _≤_, _-_, _+_, _/_}
 use native.Mathlib.Omega.{arith}
 use borrow.Author.Needs.{needs}

@@ -1,18 +1,15 @@
-use Rattle.cue.specs.Sheet.{isLeadIn}
-use Rattle.ground.specs.Tests.{and-on, and-off}
-use borrow.Author.Tests.{eq-eqb, ne-eqb}
+-- `cue::sheet::is_lead_in` meets its contract: TNO first, then index, as the definition tests them.
 use mathlib.Core.Path.{refl}
+use borrow.Author.Tests.{eq-eqb, ne-eqb}
+use Rattle.ground.specs.Tests.{and-on, and-off}
+use Rattle.cue.specs.Sheet.{isLeadIn}
 use Rattle.cue.proofs.sheet.is_lead_in.Statement.{statement}
 use Rattle.cue.proofs.sheet.is_lead_in.Tie as tie
-use Rattle.cue.proofs.sheet.is_lead_in.Reads as reads
-use Rattle.cue.proofs.sheet.is_lead_in.Lts as lts
 
--- src/sheet.rt:31:9
 returns : tie.Need-returns
 unfolding isLeadIn
 returns c = and-on _ _ (eq-eqb _ _ (c .before .if1 .taken)) refl
 
--- src/sheet.rt:27:1
 returns-2 : tie.Need-returns-2
 unfolding isLeadIn
 returns-2 c = and-off _ _ (ne-eqb _ _ (c .if1 .left))
