@@ -17,6 +17,7 @@ use Rattle.deck.specs.declared.Deck.{Deck}
 use Rattle.drive.specs.declared.state.Drive.{Drive}
 use Rattle.disc.specs.Part.{unfit}
 use Rattle.outcome.specs.declared.Outcome.{Outcome}
+use Rattle.cue.specs.declared.write.Written.{Written}
 
 abbrev pub lineEnd : List ℕ
 lineEnd = 10 ∷ []
@@ -98,9 +99,13 @@ unfoldable pub addressLine : ℕ → ℕ → List ℕ
 addressLine number a = call 99 number next spaced (decimal a) next lineEnd
 
 -- `LEN SUM`
-unfoldable pub partText : List ℕ → List ℕ
-partText part = spaced (decimal (length part)) next sumText part
+unfoldable pub summedText : ℕ → List ℕ → List ℕ
+summedText n s = spaced (decimal n) next sumText s
 
 -- `s N LEN SUM`
 unfoldable pub partLine : ℕ → ℕ → List ℕ → List ℕ
-partLine number rule part = ruledCall 115 number rule next partText part next lineEnd
+partLine number rule part = ruledCall 115 number rule next summedText (length part) part next lineEnd
+
+-- K12: `t N LEN SUM`, "SUM of the whole memory afterwards"
+unfoldable pub writtenLine : Written → List ℕ → List ℕ
+writtenLine w memory = call 116 (w .number) next summedText (w .len) memory next lineEnd

@@ -4,12 +4,14 @@ use crate::line::put_moved;
 use crate::line::put_msf;
 use crate::line::put_packet;
 use crate::line::put_part;
+use crate::line::put_written;
 use address::Block;
 use address::Msf;
 use address::to_block;
 use address::to_msf;
 use attention::Unit;
 use attention::sense::Sense;
+use cue::write::write_table;
 use deck::Deck;
 use disc::part::session_part;
 use disc::part::session_refusal;
@@ -340,6 +342,14 @@ fn call_part(body: &[u8], bench: Bench, table: &[u8], line: &mut [u8]) -> Turn {
     bad(bench, line)
 }
 
+// Kind 14: a cue sheet, turned into the memory as it is lent.
+fn call_sheet(body: &[u8], bench: Bench, memory: &mut [u8], line: &mut [u8]) -> Turn {
+    let n = least(bench.memory, memory.len());
+    let lent = &mut memory[..n];
+    let w = write_table(body, lent);
+    printed(put_written(w, lent, line), bench)
+}
+
 // A record of the kind, met.
 pub(crate) fn meet(
     kind: u8,
@@ -361,6 +371,7 @@ pub(crate) fn meet(
         10 => call_part(body, bench, table, line),
         12 => call_move(body, bench, line),
         13 => set_list(body, bench, list),
+        14 => call_sheet(body, bench, memory, line),
         _ => bad(bench, line),
     }
 }

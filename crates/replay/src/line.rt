@@ -1,4 +1,5 @@
 // The lines that a call prints.
+use cue::write::Written;
 use deck::Deck;
 use disc::part::UNFIT;
 use drive::state::Drive;
@@ -18,7 +19,7 @@ use print::sum::adler32;
 ghost use mathlib.Core.Path.{_≡_};
 ghost use Rattle.ground.specs.Memory.{Laid};
 ghost use Rattle.replay.specs.Line.{digit as Line·digit};
-ghost use Rattle.replay.specs.Line.{playText, pageText, keptText, stateText, call, ruleText, ruledCall, sumText, decimals, movedLine, outcomeText, memoryText, packetLine, msfLine, addressLine, partText, partLine};
+ghost use Rattle.replay.specs.Line.{playText, pageText, keptText, stateText, call, ruleText, ruledCall, sumText, decimals, movedLine, outcomeText, memoryText, packetLine, msfLine, addressLine, summedText, partLine, writtenLine};
 
 // A flag as '0' or '1'.
 fn digit(b: bool) -> u8
@@ -190,12 +191,12 @@ pub(crate) fn put_address(number: u8, a: usize, out: &mut [u8]) -> usize
     at
 }
 
-// A part's length and sum.
-fn next_part(part: &[u8], out: &mut [u8]) -> usize
-    ensures { λ r. ⌜ Laid (now (out .entry)) (partText (now (part .entry))) r (now (out .exit)) ⌝ }
+// A length, and the sum of bytes.
+fn next_summed(len: usize, s: &[u8], out: &mut [u8]) -> usize
+    ensures { λ r. ⌜ Laid (now (out .entry)) (summedText len (now (s .entry))) r (now (out .exit)) ⌝ }
 {
-    let mut at = next_decimal(part.len(), out);
-    at += next_sum(part, &mut out[at..]);
+    let mut at = next_decimal(len, out);
+    at += next_sum(s, &mut out[at..]);
     at
 }
 
@@ -204,7 +205,17 @@ pub(crate) fn put_part(number: u8, rule: u8, part: &[u8], out: &mut [u8]) -> usi
     ensures { λ r. ⌜ Laid (now (out .entry)) (partLine number rule (now (part .entry))) r (now (out .exit)) ⌝ }
 {
     let mut at = put_ruled(b's', number, rule, out);
-    at += next_part(part, &mut out[at..]);
+    at += next_summed(part.len(), part, &mut out[at..]);
+    at += copy_front(b"\n", &mut out[at..]);
+    at
+}
+
+// The line of a cue sheet, with the memory afterwards.
+pub(crate) fn put_written(w: Written, memory: &[u8], out: &mut [u8]) -> usize
+    ensures { λ r. ⌜ Laid (now (out .entry)) (writtenLine w (now (memory .entry))) r (now (out .exit)) ⌝ }
+{
+    let mut at = put_call(b't', w.number, out);
+    at += next_summed(w.len, memory, &mut out[at..]);
     at += copy_front(b"\n", &mut out[at..]);
     at
 }

@@ -7,7 +7,7 @@ use Rattle.replay.proofs.line.put_part.Tie as tie
 
 returns : tie.Need-returns
 unfolding partLine
-returns c = laid-more (laid-more (c .before .before .before .before .before .before .before .before .before .before .before .put-ruled .ensures) (c .before .before .before .before .before .before .before .next-part .ensures)) (c .before .before .copy-front .ensures)
+returns c = laid-more (laid-more (c .before .before .before .before .before .before .before .before .before .before .before .put-ruled .ensures) (c .before .before .before .before .before .before .before .next-summed .ensures)) (c .before .before .copy-front .ensures)
 
 pub put-part-spec : {M : Type 1} → statement M
 put-part-spec =
