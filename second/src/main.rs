@@ -7,11 +7,12 @@ use std::path::Path;
 use std::process::ExitCode;
 
 use second::cases::{bad, made, pairs};
-use second::{appendix, examples, files, listing, replay, stored, tally};
+use second::{appendix, cue, examples, files, listing, replay, stored, tally};
 
 const USAGE: &str = "usage: second replay
        second tally
        second listing TABLE PACKETS
+       second cue SHEET
        second make-replay SEED CALLS
        second make-listing SEED COUNT DIR
        second stored ROOT
@@ -41,6 +42,13 @@ fn run(words: &[&str]) -> io::Result<ExitCode> {
             let (table, packets) = (fs::read(table)?, fs::read(packets)?);
             print(listing::print(&table, &packets).as_bytes())?;
         }
+        ["cue", sheet] => match cue::program(&fs::read(sheet)?) {
+            Ok(table) => print(&table)?,
+            Err(line) => {
+                eprint!("{line}");
+                return Ok(ExitCode::from(1));
+            }
+        },
         ["make-replay", seed, calls] => {
             let stream = bad::random_stream(number(seed)?, number(calls)? as usize);
             print(&stream.bytes)?;

@@ -24,10 +24,17 @@ pub enum Refusal {
     BadAddress,
     /// "a session asked for is 0 or over S"
     NoSession,
+    /// K12: "a length not a multiple of 8"
+    SheetLength,
+    /// K12: "no fit table has those tracks, controls and addresses or the entries
+    /// aren't as described here"
+    UnfitSheet,
+    /// K12: "output memory under 6,538 bytes"
+    SmallOutput,
 }
 
 impl Refusal {
-    /// 1 to 8 and 10: where K9 took one away, "Other numbers stay."
+    /// 1 to 8, 10 and 12 to 14: where K9 took one away, "Other numbers stay."
     pub fn number(self) -> u8 {
         match self {
             Refusal::PacketLength => 1,
@@ -39,6 +46,9 @@ impl Refusal {
             Refusal::CannotLift => 7,
             Refusal::BadAddress => 8,
             Refusal::NoSession => 10,
+            Refusal::SheetLength => 12,
+            Refusal::UnfitSheet => 13,
+            Refusal::SmallOutput => 14,
         }
     }
 

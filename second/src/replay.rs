@@ -5,6 +5,7 @@ use std::fmt::Write;
 
 use crate::address::{self, Msf};
 use crate::adler::adler32;
+use crate::cue;
 use crate::drive::State;
 use crate::limits::REPLAY_BODY;
 use crate::mode_page::ModePage;
@@ -28,6 +29,7 @@ pub const PART: u8 = 10;
 pub const POWER_ON_WITHOUT_CHANGE: u8 = 11;
 pub const MOVE_ON: u8 = 12;
 pub const LIST: u8 = 13;
+pub const CUE_SHEET: u8 = 14;
 
 /// Whether a record of this kind is a call, and so has a line of its own: the
 /// others set what the calls behind them meet.
@@ -222,6 +224,7 @@ impl Bench {
                 let line = format!("s {number} {} {:08X}", part.len(), adler32(part));
                 self.line(line);
             }
+            (CUE_SHEET, sheet) => self.cue_sheet(sheet),
             _ => return Err(BadRecord),
         }
         Ok(())
@@ -243,6 +246,14 @@ impl Bench {
         let number = number(result.err());
         self.state = result.unwrap_or(refused);
         self.line(format!("{letter} {number} {}", state_text(self.state)));
+    }
+
+    /// K12: "kind 14, a cue sheet (the body), turned into the response memory as it
+    /// stands; line `t N LEN SUM`, SUM of the whole memory afterwards".
+    fn cue_sheet(&mut self, sheet: &[u8]) {
+        let result = cue::turn(sheet, &mut self.memory);
+        let (number, length) = (number(result.err()), result.unwrap_or(0));
+        self.line(format!("t {number} {length} {:08X}", adler32(&self.memory)));
     }
 
     fn packet(&mut self, packet: &[u8]) {

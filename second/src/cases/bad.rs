@@ -8,11 +8,11 @@ use crate::rng::Rng;
 /// Records that end the run, each a bit of raw stream.
 pub fn bad_records() -> Vec<(&'static str, Vec<u8>)> {
     let mut list: Vec<(&'static str, Vec<u8>)> = Vec::new();
-    for kind in [14, 24, 100, 128, 255] {
+    for kind in [15, 24, 100, 128, 255] {
         list.push(("unknown kind", vec![kind, 0, 0]));
         list.push(("unknown kind with a body", vec![kind, 0, 1, 0]));
     }
-    for kind in [0, 1, 7, 10, 11, 12, 13, 14] {
+    for kind in [0, 1, 7, 10, 11, 12, 13, 14, 15] {
         list.push(("kind alone", vec![kind]));
         list.push(("half a length", vec![kind, 0]));
         list.push(("no body", vec![kind, 0, 1]));
@@ -23,7 +23,8 @@ pub fn bad_records() -> Vec<(&'static str, Vec<u8>)> {
     list.push(("table cut off", vec![1, 0, 59, 0, 57, 1, 1]));
     list.push(("packet cut off", vec![7, 0, 12, 0]));
     list.push(("list cut off", vec![13, 0, 16, 0, 0]));
-    for kind in [1, 2, 7, 11, 12, 13, 14] {
+    list.push(("sheet cut off", vec![14, 0, 8, 1, 0, 0]));
+    for kind in [1, 2, 7, 11, 12, 13, 14, 15] {
         for length in [8_192u16, 8_193, 65_535] {
             let mut long = vec![kind];
             long.extend(length.to_be_bytes());
@@ -78,6 +79,7 @@ pub fn end(stream: &mut Stream, rng: &mut Rng, seed: u64) {
             "table cut off",
             "packet cut off",
             "list cut off",
+            "sheet cut off",
         ],
         5 => &["flag"],
         6 => &["body that does not suit"],

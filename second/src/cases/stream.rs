@@ -7,6 +7,8 @@ use crate::replay;
 pub struct Stream {
     pub bytes: Vec<u8>,
     pub calls: usize,
+    /// The cue sheets (K12) among them.
+    pub sheets: usize,
 }
 
 impl Stream {
@@ -20,12 +22,14 @@ impl Stream {
         self.bytes.extend(length.to_be_bytes());
         self.bytes.extend(body);
         self.calls += usize::from(replay::is_call(kind));
+        self.sheets += usize::from(kind == replay::CUE_SHEET);
     }
 
     /// The records of another stream, behind these.
     pub fn join(&mut self, other: &Stream) {
         self.bytes.extend(&other.bytes);
         self.calls += other.calls;
+        self.sheets += other.sheets;
     }
 
     pub fn state(&mut self, state: State) {
@@ -105,5 +109,10 @@ impl Stream {
 
     pub fn part(&mut self, session: u8) {
         self.record(replay::PART, &[session]);
+    }
+
+    /// K12's cue sheet.
+    pub fn cue_sheet(&mut self, sheet: &[u8]) {
+        self.record(replay::CUE_SHEET, sheet);
     }
 }
