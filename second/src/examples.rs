@@ -1,9 +1,12 @@
 //! The example files for the README.
 
 use crate::cases::draft;
+use crate::cases::mmc_sheets::samples;
 use crate::cases::packets::{capacity, read10, request_sense, test_ready, toc, Packet};
 use crate::cases::sheet::{disc_e, two_sessions};
+use crate::cue;
 use crate::files::File;
+use crate::listing;
 
 /// "Table E with 00h, 03h (length 18), 25h and READ(10) 149 for 2, unused
 /// bytes 0".
@@ -59,8 +62,35 @@ pub fn t134() -> Vec<Packet> {
     ]
 }
 
-pub fn files() -> Vec<File> {
+/// For the tables of cue sheets (K12): a 00h, the track list by block and by M:S:F, format
+/// 2, and the capacity.
+pub fn tracks() -> Vec<Packet> {
     vec![
+        test_ready(),
+        toc(false, 0, 0, 804),
+        toc(true, 0, 0, 804),
+        toc(false, 2, 0, 804),
+        capacity(),
+    ]
+}
+
+/// 000's samples of cue sheets, and what the listing program prints for the table of each
+/// and these packets, or the refusal's line.
+fn cue_sheets() -> Vec<File> {
+    let mut files = vec![("tracks.packets".to_string(), tracks().concat())];
+    for (name, cue) in samples() {
+        let listed = match cue::program(&cue.bytes()) {
+            Ok(table) => listing::print(&table, &tracks().concat()),
+            Err(line) => line,
+        };
+        files.push((format!("{name}.cue"), cue.bytes()));
+        files.push((format!("{name}.listing"), listed.into()));
+    }
+    files
+}
+
+pub fn files() -> Vec<File> {
+    let mut files = vec![
         ("disc-e.table".into(), disc_e().bytes()),
         ("four.packets".into(), four().concat()),
         ("marked.packets".into(), marked().concat()),
@@ -68,5 +98,7 @@ pub fn files() -> Vec<File> {
         ("sessions.packets".into(), sessions().concat()),
         ("sff-8020i-t134.table".into(), draft::t134().bytes()),
         ("sff-8020i-t134.packets".into(), t134().concat()),
-    ]
+    ];
+    files.extend(cue_sheets());
+    files
 }

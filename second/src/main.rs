@@ -6,7 +6,7 @@ use std::io::{self, Read, Write};
 use std::path::Path;
 use std::process::ExitCode;
 
-use second::cases::{bad, made, pairs};
+use second::cases::{bad, cue_files, made, pairs};
 use second::{appendix, cue, examples, files, listing, replay, stored, tally};
 
 const USAGE: &str = "usage: second replay
@@ -15,6 +15,7 @@ const USAGE: &str = "usage: second replay
        second cue SHEET
        second make-replay SEED CALLS
        second make-listing SEED COUNT DIR
+       second make-cue SEED COUNT DIR
        second stored ROOT
        second check ROOT
        second examples DIR
@@ -55,6 +56,9 @@ fn run(words: &[&str]) -> io::Result<ExitCode> {
         }
         ["make-listing", seed, count, dir] => {
             make_listing(number(seed)?, number(count)?, Path::new(dir))?;
+        }
+        ["make-cue", seed, count, dir] => {
+            make_cue(number(seed)?, number(count)?, Path::new(dir))?;
         }
         ["stored", root] => {
             let files = stored::files();
@@ -116,6 +120,14 @@ fn number(word: &str) -> io::Result<u64> {
 fn make_listing(seed: u64, count: u64, dir: &Path) -> io::Result<()> {
     for i in 0..count {
         files::write(dir, &pairs::pair(seed, i).listed(&format!("{i:04}")))?;
+    }
+    Ok(())
+}
+
+/// Writes DIR/NNNN.cue and DIR/NNNN.expected.
+fn make_cue(seed: u64, count: u64, dir: &Path) -> io::Result<()> {
+    for i in 0..count {
+        files::write(dir, &cue_files::turned(seed, i, &format!("{i:04}")))?;
     }
     Ok(())
 }

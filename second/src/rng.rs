@@ -1,6 +1,7 @@
 //! A small generator of its own (SplitMix64): the same seed always gives the
 //! same cases.
 
+#[derive(Clone)]
 pub struct Rng(u64);
 
 impl Rng {

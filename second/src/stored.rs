@@ -5,10 +5,12 @@ use std::path::Path;
 
 use crate::appendix;
 use crate::cases::bad;
+use crate::cases::cue_sheet::ninety_nine;
 use crate::cases::pairs::{each_rule, stored_pair};
 use crate::cases::picked;
 use crate::cases::random;
 use crate::cases::stream::Stream;
+use crate::cue;
 use crate::examples;
 use crate::files::File;
 use crate::listing;
@@ -18,8 +20,8 @@ use crate::rng::Rng;
 /// The seed of everything stored; 5 modulo 8 ends the stream with a bad flag.
 pub const SEED: u64 = 0x01C_D0D;
 
-/// Calls in the stored stream, the picked ones among them.
-pub const CALLS: usize = 41_700;
+/// Calls in the stored stream, the picked ones among them; K12's cue sheets come on top.
+pub const CALLS: usize = 41_600;
 
 pub fn stored_stream() -> Stream {
     let mut stream = Stream::new();
@@ -37,6 +39,8 @@ pub fn files() -> Vec<File> {
     let pair = stored_pair(SEED);
     let printed = listing::print(&pair.table, &pair.packets);
     let expected = replay::run(&stream);
+    let sheet = ninety_nine().bytes();
+    let turned = cue::program(&sheet).expect("it has a table");
     let mut files = vec![
         ("crates/replay/stdin".into(), stream),
         ("crates/replay/stdout".into(), expected.into()),
@@ -44,6 +48,9 @@ pub fn files() -> Vec<File> {
         ("crates/listing/data/table".into(), pair.table),
         ("crates/listing/data/packets".into(), pair.packets),
         ("crates/listing/stdout".into(), printed.into()),
+        ("crates/cuefile/args".into(), "sheet\n".into()),
+        ("crates/cuefile/data/sheet".into(), sheet),
+        ("crates/cuefile/stdout".into(), turned),
     ];
     for (pair, rule) in each_rule().into_iter().zip(1..) {
         files.extend(pair.listed(&format!("second/listings/rule-{rule}")));

@@ -2,12 +2,13 @@
 //! (K6), how many power-ons it has, by form and by what they meet (K3), how many
 //! plays, 42h and outside calls, by status (K2), how many 5Ah, by page control,
 //! and 55h, by outcome (K4), how many 4Ah, by class and by outcome, and presses
-//! under lock (K7), how many pairs of calls that may cancel (K8), and how many calls
-//! are met by twin tables, by command (K10).
+//! under lock (K7), how many pairs of calls that may cancel (K8), how many calls are met
+//! by twin tables, by command (K10), and how many cue sheets, by outcome (K12).
 
 use std::fmt::Write;
 
 use crate::cases::twin_tables::{are_twins, is_format_2};
+use crate::cue;
 use crate::events::{is_event, EXTERNAL, MEDIA, NO_EVENT};
 use crate::mode_page::{PAGE, SETTINGS};
 use crate::play::STATUSES;
@@ -546,9 +547,53 @@ fn met(body: &[u8], line: &str) -> usize {
     }
 }
 
+/// What a stream has of K12: the cue sheets, by what becomes of them.
+#[derive(Clone, Copy, Debug, Default, PartialEq, Eq)]
+pub struct Sheets {
+    pub written: usize,
+    /// Those that 12 refuses, and those that 14 does.
+    pub lengths: usize,
+    pub memories: usize,
+    /// Those that 13 refuses: not as described, and described but with no fit table.
+    pub undescribed: usize,
+    pub unfit: usize,
+}
+
+/// A sheet's line has its number; whether it is described stands in its body.
+pub fn sheets(stream: &[u8]) -> Sheets {
+    let lines = replay::run(stream);
+    let mut lines = lines.lines();
+    let (mut rest, mut sheets) = (stream, Sheets::default());
+    while let Ok((kind, body, after)) = take_record(rest) {
+        rest = after;
+        if !replay::is_call(kind) {
+            continue;
+        }
+        let Some(line) = lines.next() else { break };
+        if let Some(words) = line.strip_prefix("t ") {
+            *sheets.of(words, body) += 1;
+        }
+    }
+    sheets
+}
+
+impl Sheets {
+    /// The count that a sheet with this line belongs to.
+    fn of(&mut self, line: &str, body: &[u8]) -> &mut usize {
+        match line.split(' ').next() {
+            Some("12") => &mut self.lengths,
+            Some("13") if cue::is_described(body) => &mut self.unfit,
+            Some("13") => &mut self.undescribed,
+            Some("14") => &mut self.memories,
+            _ => &mut self.written,
+        }
+    }
+}
+
 /// A header and a line for each rule, then one and a line for each form, then
 /// K2's: plays and pauses, then a line for each status; then K4's two packets and
-/// K7's one, with the presses under lock; then K8's pairs; last K10's twins.
+/// K7's one, with the presses under lock; then K8's pairs and K10's twins; last K12's
+/// sheets.
 pub fn print(stream: &[u8]) -> String {
     let mut out = "rule tables packets parts\n".to_string();
     for (met, rule) in of(stream).iter().zip(1..) {
@@ -575,6 +620,7 @@ pub fn print(stream: &[u8]) -> String {
     print_events(&mut out, &events(stream));
     print_pairs(&mut out, &pairs(stream));
     print_twins(&mut out, &twins(stream));
+    print_sheets(&mut out, &sheets(stream));
     out
 }
 
@@ -680,4 +726,17 @@ fn print_twins(out: &mut String, twins: &Twins) {
     out.push_str(&format!("met {}\n", MET.join(" ")));
     let counts = met.map(|count| count.to_string());
     out.push_str(&format!("met {}\n", counts.join(" ")));
+}
+
+fn print_sheets(out: &mut String, sheets: &Sheets) {
+    let Sheets {
+        written,
+        lengths,
+        memories,
+        undescribed,
+        unfit,
+    } = sheets;
+    out.push_str("sheets written 12 13-not-described 13-no-fit-table 14\n");
+    let line = format!("sheets {written} {lengths} {undescribed} {unfit} {memories}\n");
+    out.push_str(&line);
 }

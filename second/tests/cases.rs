@@ -35,7 +35,8 @@ fn covers_all(lines: &str) {
     let (kinds, told) = seen(lines);
     for kind in [
         "o 0", "q 0", "b 0", "b 2", "b 5", "d 0", "d 2", "d 6", "u 0", "u 2", "u 7", "p 0", "p 1",
-        "p 2", "p 3", "a 0", "a 8", "c 0", "c 8", "s 0", "s 10", "m 0", "m 2",
+        "p 2", "p 3", "a 0", "a 8", "c 0", "c 8", "s 0", "s 10", "m 0", "m 2", "t 0", "t 12",
+        "t 13", "t 14",
     ] {
         assert!(kinds.contains(kind), "{kind}");
     }

@@ -1188,5 +1188,5 @@ twins 1 28 1 0 1 2
 met 43h-0 43h-1 43h-other 25h-2Bh READ PLAY 42h other refused
 met 1 1 1 1 1 1 1 2 1
 ";
-    assert!(tally::print(&stream.bytes).ends_with(tail));
+    assert!(tally::print(&stream.bytes).contains(tail));
 }

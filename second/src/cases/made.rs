@@ -2,15 +2,18 @@
 //! what one of them makes can be looked at apart from the others.
 
 use crate::cases::breaks::{self, Break};
+use crate::cases::cue_sheet::ninety_nine;
 use crate::cases::draft;
 use crate::cases::packets::Packet;
 use crate::cases::pairs::{self, Pair};
 use crate::cases::sheet::{disc_e, two_sessions, Sheet};
 use crate::cases::stream::Stream;
 use crate::cases::{
-    mode_five, picked, picked_audio, picked_cancel, picked_codes, picked_event, picked_fields,
-    picked_mode, picked_power, picked_state, picked_tables, picked_twins, random, several,
+    cue_files, mmc_sheets, mode_five, picked, picked_audio, picked_cancel, picked_codes,
+    picked_cue, picked_cue_entries, picked_event, picked_fields, picked_mode, picked_power,
+    picked_state, picked_tables, picked_twins, random, several,
 };
+use crate::cue;
 use crate::examples;
 use crate::files::File;
 use crate::rng::Rng;
@@ -23,6 +26,9 @@ const DRAWN_SCENES: usize = 60;
 /// Pairs of files: two turns of the ten shapes.
 const PAIRS: u64 = 20;
 
+/// Files of cue sheets: three turns of the twenty shapes.
+const SHEETS: u64 = 60;
+
 enum Maker {
     /// Calls, from the very start of a run.
     Start(fn(&mut Stream)),
@@ -33,9 +39,11 @@ enum Maker {
     /// Packets for the listing program, with the sheet of their table.
     Packets(fn() -> Sheet, fn() -> Vec<Packet>),
     Pairs(fn() -> Vec<Pair>),
+    /// Cue sheets for the program that turns a file into a table (K12).
+    Sheets(fn() -> Vec<Vec<u8>>),
 }
 
-use Maker::{Calls, Packets, Pairs, Start, Tables};
+use Maker::{Calls, Packets, Pairs, Sheets, Start, Tables};
 
 /// A maker under the name of its file and function.
 macro_rules! named {
@@ -50,7 +58,7 @@ macro_rules! named {
     };
 }
 
-const MAKERS: [(&str, Maker); 141] = [
+const MAKERS: [(&str, Maker); 171] = [
     named!(Start, picked_state::from_nothing),
     named!(Calls, picked_state::attentions),
     named!(Calls, picked_state::senses),
@@ -164,6 +172,31 @@ const MAKERS: [(&str, Maker); 141] = [
     named!(Calls, picked_twins::list_cut),
     named!(Calls, picked_twins::unequal_apart),
     named!(Calls, picked_twins::parts_apart),
+    named!(Calls, picked_cue::sheets_written),
+    named!(Calls, picked_cue::sheet_lengths),
+    named!(Calls, picked_cue::output_memories),
+    named!(Calls, picked_cue::refusals_in_order),
+    named!(Calls, picked_cue::memory_kept),
+    named!(Calls, picked_cue::long_sheets),
+    named!(Calls, picked_cue::nothing_else_moved),
+    named!(Calls, picked_cue::written_and_lent),
+    named!(Calls, picked_cue_entries::controls),
+    named!(Calls, picked_cue_entries::adrs),
+    named!(Calls, picked_cue_entries::forms_and_scms),
+    named!(Calls, picked_cue_entries::lead_ins),
+    named!(Calls, picked_cue_entries::lead_in_anything),
+    named!(Calls, picked_cue_entries::lead_outs),
+    named!(Calls, picked_cue_entries::passed_over),
+    named!(Calls, picked_cue_entries::second_lead_ins),
+    named!(Calls, picked_cue_entries::no_tracks_between),
+    named!(Calls, picked_cue_entries::track_orders),
+    named!(Calls, picked_cue_entries::track_numbers),
+    named!(Calls, picked_cue_entries::without_track),
+    named!(Calls, picked_cue_entries::track_addresses),
+    named!(Calls, picked_cue_entries::lead_out_addresses),
+    named!(Calls, picked_cue_entries::starts_rise),
+    named!(Calls, picked_cue_entries::lead_out_behind),
+    named!(Calls, mmc_sheets::mmc_samples),
     named!(random::fill, Calls(drawn)),
     named!(
         random::trace_scene,
@@ -194,6 +227,10 @@ const MAKERS: [(&str, Maker); 141] = [
         Calls(|stream| scenes(stream, random::twin_scene))
     ),
     named!(
+        random::sheet_scene,
+        Calls(|stream| scenes(stream, random::sheet_scene))
+    ),
+    named!(
         random::broken_scene,
         Calls(|stream| scenes(stream, random::broken_scene))
     ),
@@ -219,6 +256,13 @@ const MAKERS: [(&str, Maker); 141] = [
         Packets(two_sessions, examples::sessions)
     ),
     named!(examples::t134, Packets(draft::t134, examples::t134)),
+    named!(examples::tracks, Pairs(sample_pairs)),
+    named!(Sheets, mmc_sheets::sample_files),
+    named!(
+        cue_sheet::ninety_nine,
+        Sheets(|| vec![ninety_nine().bytes()])
+    ),
+    named!(cue_files::file, Sheets(sixty)),
 ];
 
 fn drawn(stream: &mut Stream) {
@@ -240,8 +284,25 @@ pub fn names() -> impl Iterator<Item = &'static str> {
     MAKERS.iter().map(|(name, _)| *name)
 }
 
+/// The tables of 000's samples, with the packets that ask for them.
+fn sample_pairs() -> Vec<Pair> {
+    let sheets = mmc_sheets::sample_files().into_iter();
+    let tables = sheets.filter_map(|sheet| cue::table_of(&sheet).ok());
+    let pair = |table| Pair {
+        table,
+        packets: examples::tracks().concat(),
+    };
+    tables.map(pair).collect()
+}
+
+fn sixty() -> Vec<Vec<u8>> {
+    (0..SHEETS)
+        .map(|number| cue_files::file(SEED, number))
+        .collect()
+}
+
 /// What the maker of this name makes: `stream`, or `NNNN.table` and
-/// `NNNN.packets` for each pair.
+/// `NNNN.packets` for each pair, or `NNNN.cue` for each sheet.
 pub fn made(name: &str) -> Option<Vec<File>> {
     let (_, maker) = MAKERS.iter().find(|(one, _)| *one == name)?;
     Some(match *maker {
@@ -257,6 +318,10 @@ pub fn made(name: &str) -> Option<Vec<File>> {
             packets: packets().concat(),
         }]),
         Pairs(pairs) => files_of(pairs()),
+        Sheets(sheets) => (0..)
+            .zip(sheets())
+            .map(|(i, sheet)| (format!("{i:04}.cue"), sheet))
+            .collect(),
     })
 }
 

@@ -2,9 +2,12 @@
 
 pub mod bad;
 pub mod breaks;
+pub mod cue_files;
+pub mod cue_sheet;
 pub mod draft;
 pub mod fits;
 pub mod made;
+pub mod mmc_sheets;
 pub mod mode_five;
 pub mod packets;
 pub mod pairs;
@@ -12,6 +15,8 @@ pub mod picked;
 pub mod picked_audio;
 pub mod picked_cancel;
 pub mod picked_codes;
+pub mod picked_cue;
+pub mod picked_cue_entries;
 pub mod picked_event;
 pub mod picked_fields;
 pub mod picked_mode;

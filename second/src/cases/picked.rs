@@ -2,8 +2,9 @@
 
 use crate::cases::stream::Stream;
 use crate::cases::{
-    picked_audio, picked_cancel, picked_codes, picked_event, picked_fields, picked_mode,
-    picked_power, picked_state, picked_tables, picked_twins,
+    mmc_sheets, picked_audio, picked_cancel, picked_codes, picked_cue, picked_cue_entries,
+    picked_event, picked_fields, picked_mode, picked_power, picked_state, picked_tables,
+    picked_twins,
 };
 
 /// Every hand-picked case, from the very start of a run.
@@ -121,6 +122,31 @@ pub fn all(stream: &mut Stream) {
     picked_twins::list_cut(stream);
     picked_twins::unequal_apart(stream);
     picked_twins::parts_apart(stream);
+    picked_cue::sheets_written(stream);
+    picked_cue::sheet_lengths(stream);
+    picked_cue::output_memories(stream);
+    picked_cue::refusals_in_order(stream);
+    picked_cue::memory_kept(stream);
+    picked_cue::long_sheets(stream);
+    picked_cue::nothing_else_moved(stream);
+    picked_cue::written_and_lent(stream);
+    picked_cue_entries::controls(stream);
+    picked_cue_entries::adrs(stream);
+    picked_cue_entries::forms_and_scms(stream);
+    picked_cue_entries::lead_ins(stream);
+    picked_cue_entries::lead_in_anything(stream);
+    picked_cue_entries::lead_outs(stream);
+    picked_cue_entries::passed_over(stream);
+    picked_cue_entries::second_lead_ins(stream);
+    picked_cue_entries::no_tracks_between(stream);
+    picked_cue_entries::track_orders(stream);
+    picked_cue_entries::track_numbers(stream);
+    picked_cue_entries::without_track(stream);
+    picked_cue_entries::track_addresses(stream);
+    picked_cue_entries::lead_out_addresses(stream);
+    picked_cue_entries::starts_rise(stream);
+    picked_cue_entries::lead_out_behind(stream);
+    mmc_sheets::mmc_samples(stream);
 }
 
 /// Kinds 8 and 9 at all boundaries.

@@ -1,6 +1,7 @@
 //! Random scenes: each sets up a bench and makes a run of calls on it.
 
 use crate::address::to_msf;
+use crate::cases::cue_sheet::any_sheet;
 use crate::cases::packets::{
     any_audio, any_event_status, any_list, any_mode, any_packet, capacity, event_status,
     mode_select, mode_sense, one_of_each, pause, play, position, prevent, read12, request_sense,
@@ -12,6 +13,7 @@ use crate::cases::sheet::{any_fit, fit, longest, small_fit, Sheet};
 use crate::cases::spoil::{any_broken, spoil};
 use crate::cases::stream::Stream;
 use crate::cases::twin_tables::{is_format_2, one_session, twin_of};
+use crate::cue;
 use crate::drive::State;
 use crate::events::NO_EVENT;
 use crate::limits::TOP_ADDRESS;
@@ -21,10 +23,16 @@ use crate::rng::Rng;
 use crate::sense::{self, Sense, TRIPLES};
 use crate::table::{self, Mode};
 
-/// Adds scenes until the stream has at least this many calls.
+/// Adds scenes until the stream has at least this many calls, not counting cue sheets.
+/// Those (K12) are drawn apart and come on top: the other scenes are what they would be
+/// without them.
 pub fn fill(stream: &mut Stream, rng: &mut Rng, calls: usize) {
-    while stream.calls < calls {
+    let mut apart = Rng::new(rng.clone().word());
+    while stream.calls - stream.sheets < calls {
         scene(stream, rng);
+        if apart.one_in(16) {
+            sheet_scene(stream, &mut apart);
+        }
     }
 }
 
@@ -754,6 +762,30 @@ fn history(run: &mut Stream, rng: &mut Rng, marks: &Marks) {
             9 => run.packet(&any_event_status(rng)),
             10 => select(run, rng),
             _ => run.packet(&told_packet(rng, marks)),
+        }
+    }
+}
+
+/// Cue sheets (K12), half of them to be written, into one memory and another, too short
+/// now and then; the table of some lent and met by a packet.
+pub fn sheet_scene(stream: &mut Stream, rng: &mut Rng) {
+    lend_memory(stream, rng);
+    for _ in 0..rng.range(12, 40) {
+        let short = rng.one_in(20);
+        if short {
+            let length = rng.pick(&[0, 1, 4_360, MEMORY - 1, MEMORY - 1, MEMORY - 1]);
+            stream.memory(length, rng.byte());
+        }
+        let sheet = any_sheet(rng);
+        stream.cue_sheet(&sheet);
+        if short || rng.one_in(30) {
+            lend_memory(stream, rng);
+        }
+        if let (true, Ok(table)) = (rng.one_in(40), cue::table_of(&sheet)) {
+            stream.table(&table);
+            let marks = Marks::of(table::read(&table).ok().as_ref());
+            stream.state(loaded_state(rng, &marks));
+            stream.packet(&told_packet(rng, &marks));
         }
     }
 }

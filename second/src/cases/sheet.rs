@@ -59,7 +59,8 @@ pub const FREE: [[u8; 7]; 9] = [
     [0, 0, 0, 0, 5, 0x30, 1],
 ];
 
-fn place(block: u32) -> [u8; 3] {
+/// The M:S:F of a block.
+pub fn place(block: u32) -> [u8; 3] {
     let time = address::to_msf(block).expect("cases stay in the range");
     [time.m, time.s, time.f]
 }
@@ -367,7 +368,7 @@ fn bits(rng: &mut Rng, mood: usize) -> u8 {
 }
 
 /// n rising addresses: packed, close together, or over the whole range.
-fn places(rng: &mut Rng, n: usize) -> Vec<u32> {
+pub fn places(rng: &mut Rng, n: usize) -> Vec<u32> {
     let top = TOP_ADDRESS;
     match rng.below(5) {
         0 => (0..n as u32).collect(),
