@@ -23,7 +23,7 @@ impl Cue {
     /// control, and lead-out.
     pub fn lay_out(first: u8, tracks: &[(u32, u8)], lead_out: (u32, u8)) -> Cue {
         let mut lines = vec![line(tracks[0].1, 0, 0, [0; 3])];
-        for (&(block, control), number) in tracks.iter().zip(first..) {
+        for (&(block, control), number) in tracks.iter().zip(first..=u8::MAX) {
             lines.push(line(control, number, 1, place(block)));
         }
         lines.push(line(lead_out.1, LEAD_OUT, 1, place(lead_out.0)));
