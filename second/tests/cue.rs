@@ -78,7 +78,7 @@ fn due(sheet: &[u8], memory: usize) -> Result<Vec<u8>, u8> {
     if memory < 6_538 {
         return Err(14);
     }
-    if sheet.len() % 8 != 0 {
+    if !sheet.len().is_multiple_of(8) {
         return Err(12);
     }
     due_table(sheet).ok_or(13)
@@ -138,7 +138,7 @@ fn changed(change: impl FnOnce(&mut Cue)) -> u8 {
 
 // ---- one sheet, byte by byte
 
-/// Table E's tracks as a sheet: Table E, but A1 and A2 as they stand there, byte by byte.
+/// Table E's tracks as a sheet give Table E; the three tracks this table, byte by byte.
 #[test]
 fn table_e_from_a_sheet() {
     assert_eq!(table_of(&two_tracks()), disc_e().bytes());
@@ -422,7 +422,7 @@ fn lead_in_is_not_looked_at() {
 }
 
 /// "AAh index 1 last": every other TNO or index is 13, and so are a sheet without it and
-/// one with anything but a second lead-out behind: and with that too.
+/// one with anything behind it, a second lead-out too.
 #[test]
 fn last_is_the_lead_out() {
     for byte in 0..=255 {
@@ -936,7 +936,7 @@ fn tables_with(rng: &mut Rng, sheet: &[u8]) -> Vec<Vec<u8>> {
             table.extend(row(0x10 | entry[0] >> 4, entry[1], &entry[5..]));
         }
         for (point, bit) in [(0xB0, 1), (0xC0, 2)] {
-            if round / 12 & bit != 0 {
+            if (round / 12) & bit != 0 {
                 table.extend(row(0x50, point, &[1, 2, 3]));
             }
         }
@@ -1296,7 +1296,7 @@ fn facts_of(sheet: &[u8], memory: usize, number: &str) -> Vec<String> {
         .err()
         .map(|one| one.number());
     facts.push(format!("of itself {}: {number}", unfit.unwrap_or(0)));
-    if memory < BOUND || sheet.len() % 8 != 0 || sheet.len() < 24 {
+    if memory < BOUND || !sheet.len().is_multiple_of(8) || sheet.len() < 24 {
         return facts;
     }
     let entries: Vec<&[u8]> = sheet.chunks(8).collect();

@@ -11,7 +11,7 @@ pub fn file(seed: u64, number: u64) -> Vec<u8> {
     let mut rng = Rng::new(seed.wrapping_mul(0x1_0003).wrapping_add(number));
     let rng = &mut rng;
     match number % 20 {
-        0 if number % 60 == 0 => Vec::new(),
+        0 if number.is_multiple_of(60) => Vec::new(),
         0 => {
             let length = rng.range(1, ENTRY);
             rng.bytes(length)

@@ -38,7 +38,7 @@ pub fn written() -> Vec<Cue> {
     ]
 }
 
-/// Each of them in a fresh memory, then all of them in one.
+/// Each of them in a fresh memory, then the shorter ones in one.
 pub fn sheets_written(stream: &mut Stream) {
     for (cue, fill) in written()
         .iter()
@@ -239,7 +239,8 @@ pub fn lend_and_ask(stream: &mut Stream, sheet: &[u8]) {
     }
 }
 
-/// The tables of the sheets that are written, each lent to a loaded drive.
+/// The tables of the sheets that are written, each lent to a loaded drive; of the two with
+/// 99 tracks one will do.
 pub fn written_and_lent(stream: &mut Stream) {
     for cue in written().iter().filter(|cue| cue.lines.len() != 101) {
         lend_and_ask(stream, &cue.bytes());
