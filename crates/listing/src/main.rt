@@ -1,5 +1,4 @@
 // The listing program: meets a file of packets with a file that holds a disc table, and prints a line for each packet.
-mod file;
 mod line;
 
 use attention::Unit;
@@ -8,7 +7,7 @@ use attention::sense::sense_at;
 use deck::Deck;
 use deck::NO_EVENT;
 use drive::state::Drive;
-use file::load;
+use input::load;
 use libc::STDERR_FILENO;
 use libc::STDOUT_FILENO;
 use line::put_line;

@@ -1,4 +1,4 @@
-// A file that an argument names, read into lent memory.
+// A file that an argument names, read into lent memory. What a file holds is the system's to say, so nothing is promised of the bytes.
 
 // How many bytes were read, and whether nothing failed.
 pub struct Loaded {
@@ -34,7 +34,7 @@ fn read_all(fd: i32, buf: &mut [u8]) -> Loaded {
 }
 
 // Reads the start of the file that argument i names, as much as buf holds. Where that fails, a line on standard error says why.
-pub(crate) fn load(i: usize, buf: &mut [u8]) -> Loaded {
+pub fn load(i: usize, buf: &mut [u8]) -> Loaded {
     let mut path = io::buffer();
     let n = os::arg(i, &mut path);
     if os::errno() != 0 {

@@ -1,11 +1,11 @@
--- `listing::file::read_all` is safe and ends: each turn reads at least one byte more.
+-- `input::read_all` is safe and ends: each turn reads at least one byte more.
 use mathlib.Core.Path.{_≡_, refl}
 use Prim.Native.Nat.{_≤_, _-_}
 use native.Mathlib.Omega.{arith}
 use lib.ListN.{length}
 use borrow.Author.Needs.{needs}
-use Rattle.listing.proofs.file.read_all.Statement.{statement}
-use Rattle.listing.proofs.file.read_all.Tie as tie
+use Rattle.input.proofs.read_all.Statement.{statement}
+use Rattle.input.proofs.read_all.Tie as tie
 
 abbrev Inv-loop : tie.InvT-loop
 Inv-loop fd buf₀ at₀ buf at = (at ≤ length buf) × (length buf ≡ length buf₀)
