@@ -14,7 +14,7 @@ use Rattle.sessions.specs.Session.{one, size, listed, numbered, isSession, star
 use Rattle.disc.specs.Rules.{rule1, rule2, eachRow, rises, outBefore, beginsAfter, rising, rule7, firstBroken, lateRules, rowRules, fault, isFit}
 use Rattle.disc.specs.Examples.{tableE}
 use Rattle.cue.specs.Sheet as Sheet
-use Rattle.cue.specs.Sheet.{isLeadIn, isLeadOut, begun, tracksIn, firstOf, lastFrom, lastOf, isFramed, everyAdr, followsFrom, isNumbered, isDescribed}
+use Rattle.cue.specs.Sheet.{isLeadIn, isLeadOut, begun, tracksIn, firstOf, lastFrom, lastOf, isFramed, hasAdr, everyAdr, followsFrom, isNumbered, isDescribed}
 use Rattle.cue.specs.Made.{rowsOf, bodyOf, tableWith}
 use Rattle.cue.specs.Write.{handOut, wholeAnswer, answer}
 
@@ -154,10 +154,10 @@ tested [] = true
 tested (c ∷ cs) = eqb (answer (c .sheet) (c .memory) .number) (c .number) and tested cs
 
 pub examples-tested : tested cases ≡ true
-unfolding tested _and_ _or_ every if_then_else_ isMsf isTrack isExtra startOf names simple free plain headA0 headA1 headed addressed rowTest one size listed numbered isSession starts before follows inPlace inOrder rule1 rule2 eachRow rises outBefore beginsAfter rising rule7 firstBroken lateRules rowRules fault isFit isLeadIn isLeadOut begun tracksIn firstOf lastFrom lastOf isFramed everyAdr followsFrom Sheet.follows isNumbered isDescribed rowsOf bodyOf tableWith handOut wholeAnswer answer
+unfolding tested _and_ _or_ every if_then_else_ isMsf isTrack isExtra startOf names simple free plain headA0 headA1 headed addressed rowTest one size listed numbered isSession starts before follows inPlace inOrder rule1 rule2 eachRow rises outBefore beginsAfter rising rule7 firstBroken lateRules rowRules fault isFit isLeadIn isLeadOut begun tracksIn firstOf lastFrom lastOf isFramed hasAdr everyAdr followsFrom Sheet.follows isNumbered isDescribed rowsOf bodyOf tableWith handOut wholeAnswer answer
 examples-tested = refl
 
 -- byte by byte
 pub sheetE-table : answer sheetE bound .bytes ≡ tableE
-unfolding _and_ _or_ every if_then_else_ isMsf isTrack isExtra startOf names simple free plain headA0 headA1 headed addressed rowTest one size listed numbered isSession starts before follows inPlace inOrder rule1 rule2 eachRow rises outBefore beginsAfter rising rule7 firstBroken lateRules rowRules fault isFit isLeadIn isLeadOut begun tracksIn firstOf lastFrom lastOf isFramed everyAdr followsFrom Sheet.follows isNumbered isDescribed rowsOf bodyOf tableWith handOut wholeAnswer answer
+unfolding _and_ _or_ every if_then_else_ isMsf isTrack isExtra startOf names simple free plain headA0 headA1 headed addressed rowTest one size listed numbered isSession starts before follows inPlace inOrder rule1 rule2 eachRow rises outBefore beginsAfter rising rule7 firstBroken lateRules rowRules fault isFit isLeadIn isLeadOut begun tracksIn firstOf lastFrom lastOf isFramed hasAdr everyAdr followsFrom Sheet.follows isNumbered isDescribed rowsOf bodyOf tableWith handOut wholeAnswer answer
 sheetE-table = refl

@@ -9,7 +9,7 @@ use lib.ListN.{length, take}
 use Rattle.ground.specs.Tests.{if_then_else_}
 use Rattle.ground.specs.Number.{bytes16}
 use Rattle.ground.specs.Memory.{Laid, laid-fits}
-use Rattle.table.specs.Layout.{A0, A1, A2}
+use Rattle.table.specs.Layout.{bound, A0, A1, A2}
 use Rattle.cue.specs.declared.entry.Track.{Track}
 use Rattle.cue.specs.declared.entry.Entry.{Entry}
 use Rattle.cue.specs.declared.sheet.Span.{Span}
@@ -77,11 +77,11 @@ pub tableWith-length : (ts : List Track) (out : Track) → length (tableWith ts 
 unfolding tableWith
 tableWith-length ts out = let e = bodyOf-length ts out in omega arith
 
--- the tracks of a described sheet fit into the 1,126 bytes of 99, and are all laid
+-- the table of at most 99 tracks is far below the bound, and all of it is laid
 pub tableWith-whole :
     {p : Span} (ts : List Track) → p ≡ spanOf ts → isRun p ≡ true → (out : Track) {m m′ : List ℕ} {r : ℕ}
-    → Laid m (tableWith ts out) r m′ → length m ≡ 1126
-    → (r ≡ length (tableWith ts out)) × (take r m′ ≡ tableWith ts out) × (length (tableWith ts out) ≤ 1126)
+    → Laid m (tableWith ts out) r m′ → length m ≡ bound
+    → (r ≡ length (tableWith ts out)) × (take r m′ ≡ tableWith ts out) × (length (tableWith ts out) ≤ bound)
 tableWith-whole ts e h out l k =
     let c = isRun-counted ts e h in
     let n = tableWith-length ts out in

@@ -90,8 +90,11 @@ unfoldable pub isFramed : List ℕ → Bool
 isFramed s = leb 2 (entries s) and isLeadIn (entryAt s 0) and isLeadOut (entryAt s (entries s - 1))
 
 -- "every ADR is 1": of the lead-in and of what is passed over too
+unfoldable pub hasAdr : Entry → Bool
+hasAdr e = eqb (e .track .flags / 16) 1
+
 unfoldable pub everyAdr : List ℕ → Bool
-everyAdr s = every (entries s) (λ i. eqb (entryAt s i .track .flags / 16) 1)
+everyAdr s = every (entries s) (λ i. hasAdr (entryAt s i))
 
 -- "in rising order": each number is one more than the one before, so each track is there once
 unfoldable pub followsFrom : Track → List Track → Bool

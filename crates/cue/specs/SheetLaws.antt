@@ -1,16 +1,17 @@
 -- The laws of a sheet: its tracks entry by entry, how they are numbered, and a described sheet's parts.
 use mathlib.Core.Path.{_≡_, ap}
-use mathlib.Core.Bool.{true}
+use mathlib.Core.Bool.{true, false}
 use mathlib.Core.List.{List, [], _∷_, _++_}
 use Prim.Native.Nat.{ℕ, _+_, _-_, _/_, _≤_}
 use native.Mathlib.Omega.{arith}
 use native.Mathlib.Numerals.{add-one}
-use borrow.Author.Tests.{leb-true, eqb-true}
+use borrow.Author.Tests.{leb-true, eqb-true, ne-eqb}
 use lib.Dec.{leb, eqb}
 use lib.ListN.{length}
 use Rattle.ground.specs.Tests.{_and_, every, and-head, and-tail}
 use Rattle.cue.specs.declared.entry.Track.{Track}
-use Rattle.cue.specs.Sheet.{entryAt, entries, isLeadIn, isLeadOut, begun, tracksIn, tracksOf, firstOf, lastFrom, lastOf, isFramed, everyAdr, followsFrom, follows, isNumbered, isDescribed}
+use Rattle.cue.specs.declared.entry.Entry.{Entry}
+use Rattle.cue.specs.Sheet.{entryAt, entries, isLeadIn, isLeadOut, begun, tracksIn, tracksOf, firstOf, lastFrom, lastOf, isFramed, hasAdr, everyAdr, followsFrom, follows, isNumbered, isDescribed}
 
 -- one entry more
 pub tracksIn-more : (s : List ℕ) (j : ℕ) → tracksIn s (j + 1) ≡ tracksIn s j ++ begun (entryAt s (j + 1))
@@ -43,6 +44,10 @@ isNumbered-parts (t ∷ ts) h =
     record { low = leb-true _ _ (and-head _ _ h); high = leb-true _ _ (and-head _ _ u); count = omega arith; some = omega arith }
 
 -- ---- a described sheet
+
+pub hasAdr-other : (e : Entry) → (e .track .flags / 16 ≡ 1 → ⊥) → hasAdr e ≡ false
+unfolding hasAdr
+hasAdr-other e h = ne-eqb _ _ h
 
 pub record Described (s : List ℕ) : Type 0 where
   pub two : 2 ≤ entries s

@@ -12,6 +12,7 @@ use Rattle.ground.specs.Tests.{when, unless}
 use Rattle.ground.specs.Memory.{Laid, fill-none, laid-fits}
 use Rattle.table.specs.Layout.{bound}
 use Rattle.disc.specs.Rules.{fault, isFit}
+use Rattle.disc.specs.RulesLaws.{fault-first}
 use Rattle.cue.specs.declared.write.Written.{Written}
 use Rattle.cue.specs.Sheet.{entrySize, isDescribed}
 use Rattle.cue.specs.Made.{tableOf}
@@ -20,6 +21,10 @@ use Rattle.cue.specs.Write.{Answer, refuse, notWhole, unfit, noRoom, han
 -- nothing is written
 pub turned-refuse : (n : ℕ) (m : List ℕ) {r : Written} → r ≡ writtenOf (refuse n) → Turned (refuse n) m r m
 turned-refuse n m e = record { outcome = e; memory = sym (fill-none m) }
+
+-- there are seven rules
+pub fault-most : (t : List ℕ) {n : ℕ} → n ≡ fault t → n ≤ 7
+fault-most t e = let m = fault-first t .most in omega arith
 
 -- a fit table that the memory holds
 pub handOut-fit :
@@ -42,17 +47,17 @@ unfolding wholeAnswer
 wholeAnswer-not s h = unless _ _ _ h
 
 -- 14, then 12
-pub answer-noRoom : (s : List ℕ) {m : ℕ} → m < bound → answer s m ≡ refuse noRoom
+pub answer-noRoom : (s : List ℕ) (m : ℕ) → m < bound → answer s m ≡ refuse noRoom
 unfolding answer
-answer-noRoom s h = when _ _ _ (lt-ltb _ _ h)
+answer-noRoom s m h = when _ _ _ (lt-ltb _ _ h)
 
-pub answer-whole : (s : List ℕ) {m : ℕ} → bound ≤ m → length s % entrySize ≡ 0 → answer s m ≡ wholeAnswer s
+pub answer-whole : (s : List ℕ) (m : ℕ) → bound ≤ m → length s % entrySize ≡ 0 → answer s m ≡ wholeAnswer s
 unfolding answer
-answer-whole s h k = unless _ _ _ (le-ltb _ _ h) ∙ when _ _ _ (eq-eqb _ _ k)
+answer-whole s m h k = unless _ _ _ (le-ltb _ _ h) ∙ when _ _ _ (eq-eqb _ _ k)
 
-pub answer-notWhole : (s : List ℕ) {m : ℕ} → bound ≤ m → (length s % entrySize ≡ 0 → ⊥) → answer s m ≡ refuse notWhole
+pub answer-notWhole : (s : List ℕ) (m : ℕ) → bound ≤ m → (length s % entrySize ≡ 0 → ⊥) → answer s m ≡ refuse notWhole
 unfolding answer
-answer-notWhole s h k = unless _ _ _ (le-ltb _ _ h) ∙ unless _ _ _ (ne-eqb _ _ k)
+answer-notWhole s m h k = unless _ _ _ (le-ltb _ _ h) ∙ unless _ _ _ (ne-eqb _ _ k)
 
 -- ---- the five ways in which a sheet is answered
 
@@ -69,15 +74,15 @@ unfolding handOut
 answer-cases s m = elim (decLe bound m) [
   | yes h ↦ elim (ℕ-discrete (length s % entrySize) 0) [
     | yes k ↦ described h k (isDescribed s) refl
-    | no k ↦ broken h k (answer-notWhole s h k)
+    | no k ↦ broken h k (answer-notWhole s m h k)
   ]
-  | no h ↦ short (lt-of-not-le h) (answer-noRoom s (lt-of-not-le h))
+  | no h ↦ short (lt-of-not-le h) (answer-noRoom s m (lt-of-not-le h))
 ]
   where
     fits : bound ≤ m → length s % entrySize ≡ 0 → isDescribed s ≡ true → (b : Bool) → isFit (tableOf s) ≡ b → Case s m
-    fits h k d true e = made h k d e (answer-whole s h k ∙ wholeAnswer-described s d ∙ when _ _ _ e)
-    fits h k d false e = none h k d e (answer-whole s h k ∙ wholeAnswer-described s d ∙ unless _ _ _ e)
+    fits h k d true e = made h k d e (answer-whole s m h k ∙ wholeAnswer-described s d ∙ when _ _ _ e)
+    fits h k d false e = none h k d e (answer-whole s m h k ∙ wholeAnswer-described s d ∙ unless _ _ _ e)
 
     described : bound ≤ m → length s % entrySize ≡ 0 → (b : Bool) → isDescribed s ≡ b → Case s m
     described h k true d = fits h k d (isFit (tableOf s)) refl
-    described h k false d = other h k d (answer-whole s h k ∙ wholeAnswer-not s d)
+    described h k false d = other h k d (answer-whole s m h k ∙ wholeAnswer-not s d)

@@ -6,14 +6,11 @@ use crate::entry::Track;
 use crate::entry::entry_at;
 use ground::number::wide;
 ghost use mathlib.Core.Path.{_≡_};
-ghost use Rattle.cue.specs.Sheet.{isLeadIn, isLeadOut, isFramed, everyAdr, tracksOf};
+ghost use Rattle.cue.specs.Sheet.{isLeadIn, isLeadOut, isFramed, hasAdr, everyAdr, tracksOf};
 ghost use Rattle.cue.specs.SpanLaws.{noSpan, isNext, withTrack, withEntry, spanOf, isRun};
 
 // The lead-out's number.
 pub const AA: u8 = 0xAA;
-
-// The ADR of every entry.
-pub const ADR: u8 = 1;
 
 // The tracks gone over so far: whether there is one, the first, the last, and whether each number is one more than the one before.
 pub struct Span {
@@ -56,14 +53,25 @@ pub(crate) fn is_framed(s: &[u8]) -> bool
     false
 }
 
-// The ADR of each entry is 1, of those that are passed over too.
+// The ADR of an entry is 1, whatever its index.
+fn has_adr(e: Entry) -> bool
+    ensures { λ r. ⌜ r ≡ hasAdr e ⌝ }
+{
+    let adr = e.track.flags / 16;
+    match adr {
+        1 => true,
+        _ => false,
+    }
+}
+
+// That of each entry is, of those that are passed over too.
 pub(crate) fn every_adr(s: &[u8]) -> bool
     ensures { λ r. ⌜ r ≡ everyAdr (now (s .entry)) ⌝ }
 {
     let n = s.len() / ENTRY;
     let mut i = 0;
     while i < n {
-        if entry_at(s, i).track.flags / 16 == ADR {
+        if has_adr(entry_at(s, i)) {
             i += 1;
         } else {
             return false;

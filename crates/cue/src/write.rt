@@ -9,13 +9,14 @@ use crate::sheet::is_framed;
 use crate::sheet::is_run;
 use crate::sheet::span_of;
 use disc::disc::fault;
-use ground::memory::copy_front;
+use ground::memory::put_cut;
 use table::layout::BOUND;
 ghost use mathlib.Core.Path.{_≡_};
 ghost use mathlib.Core.Bool.{true};
 ghost use Prim.Native.Nat.{_≤_};
-ghost use lib.ListN.{length};
+ghost use lib.ListN.{length, take};
 ghost use Rattle.table.specs.Layout.{bound};
+ghost use Rattle.disc.specs.Rules.{fault};
 ghost use Rattle.cue.specs.Sheet.{tracksOf, isDescribed};
 ghost use Rattle.cue.specs.Made.{tableWith};
 ghost use Rattle.cue.specs.SpanLaws.{spanOf, isRun};
@@ -28,9 +29,6 @@ pub const NOT_WHOLE: u8 = 12;
 pub const UNFIT: u8 = 13;
 
 pub const NO_ROOM: u8 = 14;
-
-// The most bytes of a table of one session without B0h and C0h: 99 tracks.
-const MOST: usize = 1126;
 
 // The refusal's number or 0, and how many bytes were written.
 pub struct Written {
@@ -45,13 +43,13 @@ fn refuse(number: u8) -> Written
     Written { number, len: 0 }
 }
 
-// The table t, if it is fit.
-fn hand_out(t: &[u8], mem: &mut [u8]) -> Written
-    requires { ⌜ length (now t) ≤ length (now mem) ⌝ }
-    ensures { λ r. ⌜ Turned (handOut (now (t .entry))) (now (mem .entry)) r (now (mem .exit)) ⌝ }
+// The first n bytes of the room, if they are a fit table: `broken` is the first rule that they break, or 0.
+fn hand_out(room: &[u8], n: usize, broken: u8, mem: &mut [u8]) -> Written
+    requires { ⌜ (broken ≡ fault (take n (now room))) × (length (take n (now room)) ≤ length (now mem)) ⌝ }
+    ensures { λ r. ⌜ Turned (handOut (take n (now (room .entry)))) (now (mem .entry)) r (now (mem .exit)) ⌝ }
 {
-    if fault(t) == 0 {
-        let len = copy_front(t, mem);
+    if broken == 0 {
+        let len = put_cut(room, n, mem);
         return Written { number: 0, len };
     }
     refuse(UNFIT)
@@ -62,9 +60,10 @@ fn write_made(s: &[u8], span: Span, out: Track, mem: &mut [u8]) -> Written
     requires { ⌜ (span ≡ spanOf (tracksOf (now s))) × (isRun span ≡ true) × (bound ≤ length (now mem)) ⌝ }
     ensures { λ r. ⌜ Turned (handOut (tableWith (tracksOf (now (s .entry))) out)) (now (mem .entry)) r (now (mem .exit)) ⌝ }
 {
-    let mut room = [0u8; MOST];
+    let mut room = [0u8; BOUND];
     let n = put_table(s, span, out, &mut room);
-    hand_out(&room[..n], mem)
+    let broken = fault(&room[..n]);
+    hand_out(&room, n, broken, mem)
 }
 
 // The sheet is as described; span is of its tracks.

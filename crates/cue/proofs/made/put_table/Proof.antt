@@ -1,5 +1,5 @@
--- `cue::made::put_table` meets its contract: the numbers count the tracks (`isRun-counted`), so header, heads and tracks laid one after the other are the table
--- (`tableWith-laid`).
+-- `cue::made::put_table` meets its contract: the numbers count the tracks (`isRun-counted`), so header, heads and tracks laid one after
+-- the other are the table (`tableWith-laid`).
 use mathlib.Core.Path.{_≡_}
 use Prim.Native.Nat.{_+_, _-_}
 use native.Mathlib.Omega.{arith}

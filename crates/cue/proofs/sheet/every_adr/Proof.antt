@@ -1,20 +1,18 @@
 -- `cue::sheet::every_adr` meets its contract: the entries gone over have ADR 1, and the first that has another decides.
-use mathlib.Core.Path.{_≡_, refl, sym, ap}
+use mathlib.Core.Path.{_≡_, refl, sym, ap, _∙_}
 use mathlib.Core.Bool.{true}
 use Prim.Native.Nat.{_≤_, _-_, _/_}
 use native.Mathlib.Omega.{arith}
-use borrow.Author.Tests.{eq-eqb, ne-eqb}
-use lib.Dec.{eqb}
+use borrow.Author.Needs.{needs}
 use lib.ListN.{length}
 use denote.Ref.{now}
 use Rattle.ground.specs.Tests.{every, every-none, every-more, every-breaks}
-use Rattle.cue.specs.declared.entry.Entry.{Entry}
-use Rattle.cue.specs.Sheet.{entryAt, entries, everyAdr}
+use Rattle.cue.specs.Sheet.{entryAt, entries, hasAdr, everyAdr}
 use Rattle.cue.proofs.sheet.every_adr.Statement.{statement}
 use Rattle.cue.proofs.sheet.every_adr.Tie as tie
 
 abbrev Inv-loop : tie.InvT-loop
-Inv-loop s n i₀ i = (i ≤ n) × (n ≡ length s / 8) × (every i (λ k. eqb (entryAt s k .track .flags / 16) 1) ≡ true)
+Inv-loop s n i₀ i = (i ≤ n) × (n ≡ length s / 8) × (every i (λ k. hasAdr (entryAt s k)) ≡ true)
 
 abbrev μ-loop : tie.MeasureT-loop
 μ-loop s n i₀ i = n - i
@@ -24,14 +22,14 @@ loop-holds c = (omega arith, refl, every-none _)
 
 loop-again : tie.Need-loop-again Inv-loop μ-loop
 loop-again c =
-    let e = ap (λ (x : Entry). x .track .flags) (c .before .before .entry-at .ensures) in
-    (omega arith, refl, every-more _ _ (c .before .before .before .before .loop .inv .2) (eq-eqb _ _ (rw e at (c .if1 .taken))))
+    let h = ap hasAdr (sym (c .before .before .entry-at .ensures)) ∙ sym (c .before .has-adr .ensures) ∙ c .if1 .taken in
+    (omega arith, refl, every-more _ _ (c .before .before .before .before .loop .inv .2) h)
 
 returns : tie.Need-returns Inv-loop μ-loop
 unfolding everyAdr
 returns c =
-    let e = ap (λ (x : Entry). x .track .flags) (c .before .before .entry-at .ensures) in
-    every-breaks _ _ _ (omega arith) (ne-eqb _ _ (rw e at (c .if1 .left)))
+    let h = ap hasAdr (sym (c .before .before .entry-at .ensures)) ∙ sym (c .before .has-adr .ensures) ∙ c .if1 .left in
+    every-breaks _ _ _ (omega arith) h
 
 returns-2 : tie.Need-returns-2 Inv-loop μ-loop
 unfolding everyAdr
@@ -43,4 +41,5 @@ returns-2 c =
 pub every-adr-spec : {M : Type 1} → statement M
 every-adr-spec =
     tie.close
-    (tie.spec Inv-loop μ-loop loop-holds (λ c κs. omega arith) (λ c. omega arith) (λ c. omega arith) loop-again returns returns-2)
+    (tie.spec Inv-loop μ-loop loop-holds (λ c κs. omega arith) (λ c κs. search needs) (λ c. omega arith) (λ c. omega arith) loop-again returns
+    returns-2)
