@@ -1,6 +1,6 @@
 -- A fit table of one session holds the tracks of its descriptors behind A0, A1 and A2, in their order, and no others.
 use mathlib.Core.Path.{_≡_, refl, sym, ap, _∙_}
-use mathlib.Core.Bool.{Bool, true, false}
+use mathlib.Core.Bool.{true, false}
 use mathlib.Core.List.{List, [], _∷_, _++_, append-nil}
 use Prim.Native.Nat.{ℕ, zero, suc, _+_, _-_, _≤_, _<_}
 use native.Mathlib.Omega.{arith}
@@ -9,7 +9,7 @@ use native.Mathlib.Nat.{zero-add}
 use native.Mathlib.Decide.{ℕ-discrete}
 use lib.ListN.{length, getD, length-append, List·getD-append}
 use lib.Seq.{getD-append-seam}
-use Rattle.ground.specs.Tests.{if_then_else_, when, unless}
+use Rattle.ground.specs.Tests.{when, unless}
 use Rattle.table.specs.Layout.{lastSession, descriptors, rows, pointAt, A0, A1, A2, B0, C0, isTrack, isExtra}
 use Rattle.table.specs.RowLaws.{isTrack-true, isTrack-over, isExtra-not}
 use Rattle.sessions.specs.Session.{first, tracks, one, b0s, c0s, count, starts}

@@ -1,20 +1,20 @@
 -- Where a fit table of one session has those tracks, controls and addresses, the table made of them is fit: the walk over it asks nothing
 -- that the walk over the other has not answered. And the table made of numbered tracks, read back, holds them.
 use mathlib.Core.Path.{_≡_, refl, sym, ap, _∙_}
-use mathlib.Core.Bool.{Bool, true, false}
+use mathlib.Core.Bool.{true, false}
 use mathlib.Core.List.{List, [], _∷_}
 use Prim.Native.Nat.{ℕ, zero, suc, _+_, _-_, _*_, _/_, _%_, _≤_, _<_}
 use native.Mathlib.Omega.{arith}
 use native.Mathlib.Nat.{zero-add, lt-of-not-le}
 use native.Mathlib.Decide.{decLe, ℕ-discrete}
 use borrow.Author.Tests.{le-leb, leb-true, eq-eqb, eqb-true}
-use lib.Dec.{leb, eqb}
-use lib.ListN.{length, getD, drop, List·getD-eq-default}
+use lib.Dec.{leb}
+use lib.ListN.{length, getD, List·getD-eq-default}
 use lib.Seq.{ext-getD}
-use Rattle.ground.specs.Tests.{_and_, _or_, every, and-head, and-tail, and-both, every-at, every-all, every-more, every-none}
+use Rattle.ground.specs.Tests.{_and_, _or_, and-head, and-tail, and-both, every-at, every-all}
 use Rattle.ground.specs.Number.{bytes16-exact}
 use Rattle.table.specs.Layout.{bound, header, row, lastSession, descriptors, rows, flagsAt, pointAt, pminAt, psecAt, pframeAt, A0, A1, A2, B0, C0, isExtra}
-use Rattle.table.specs.Row.{rowFrom, rowAt, framesOf, framesAt, names, simple, headA0, headA1}
+use Rattle.table.specs.Row.{rowFrom, rowAt, framesOf, names, simple, headA0, headA1}
 use Rattle.table.specs.RowLaws.{rowFrom-drop}
 use Rattle.table.specs.Asked.{kept, a0Kept, a1Kept, climbs, holds}
 use Rattle.table.specs.AskedLaws.{extraPassed-other}
@@ -27,7 +27,7 @@ use Rattle.disc.specs.Walk.{headsKept, floorAt, trackKept, tracksKept, extrasKe
 use Rattle.disc.specs.WalkFit.{fit-walk, walk-fit}
 use Rattle.cue.specs.declared.entry.Track.{Track}
 use Rattle.cue.specs.Sheet.{AA, noTrack, firstOf, lastFrom, lastOf, followsFrom, follows, isNumbered}
-use Rattle.cue.specs.SheetLaws.{Numbered, isNumbered-parts}
+use Rattle.cue.specs.SheetLaws.{isNumbered-parts}
 use Rattle.cue.specs.Made.{rowsOf, bodyOf, tableWith}
 use Rattle.cue.specs.MadeLaws.{bodyOf-length, tableWith-length}
 use Rattle.cue.specs.Held.{placedAt, trackAt, heldLeadOut, Holds}

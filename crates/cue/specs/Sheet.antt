@@ -52,13 +52,15 @@ isLeadIn e = eqb (e .track .number) 0 and eqb (e .index) 0
 unfoldable pub isLeadOut : Entry → Bool
 isLeadOut e = eqb (e .track .number) AA and eqb (e .index) 1
 
+-- the last entry
 abbrev pub leadOutOf : List ℕ → Track
 leadOutOf s = entryAt s (entries s - 1) .track
 
--- "index 1 of each track"; "between, other indexes are passed over": the tracks of the first j entries behind the lead-in
+-- "index 1 of each track"; "other indexes are passed over": what begins at an entry
 unfoldable pub begun : Entry → List Track
 begun e = if eqb (e .index) 1 then e .track ∷ [] else []
 
+-- "between": the tracks of the first j entries behind the lead-in
 unfoldable pub tracksIn : List ℕ → ℕ → List Track
 tracksIn s zero = []
 tracksIn s (suc j) = tracksIn s j ++ begun (entryAt s (j + 1))

@@ -6,9 +6,8 @@ use Prim.Native.Nat.{ℕ, _+_, _-_, _/_, _≤_}
 use native.Mathlib.Omega.{arith}
 use native.Mathlib.Numerals.{add-one}
 use borrow.Author.Tests.{leb-true, eqb-true, ne-eqb}
-use lib.Dec.{leb, eqb}
 use lib.ListN.{length}
-use Rattle.ground.specs.Tests.{_and_, every, and-head, and-tail}
+use Rattle.ground.specs.Tests.{_and_, and-head, and-tail}
 use Rattle.cue.specs.declared.entry.Track.{Track}
 use Rattle.cue.specs.declared.entry.Entry.{Entry}
 use Rattle.cue.specs.Sheet.{entryAt, entries, isLeadIn, isLeadOut, begun, tracksIn, tracksOf, firstOf, lastFrom, lastOf, isFramed, hasAdr, everyAdr, followsFrom, follows, isNumbered, isDescribed}

@@ -2,17 +2,15 @@
 use mathlib.Core.Path.{_≡_, refl, sym, ap, _∙_}
 use mathlib.Core.Bool.{Bool, true, false}
 use mathlib.Core.List.{List, [], _∷_, _++_, append-nil}
-use Prim.Native.Nat.{ℕ, zero, suc, _+_, _-_, _≤_, _<_}
+use Prim.Native.Nat.{ℕ, _+_, _-_, _≤_}
 use native.Mathlib.Omega.{arith}
-use native.Mathlib.Numerals.{add-one}
-use borrow.Author.Tests.{leb-true, eqb-true}
 use lib.Dec.{leb, eqb}
 use lib.ListN.{length}
-use Rattle.ground.specs.Tests.{_and_, if_then_else_, and-head, and-tail, and-assoc, when, unless}
+use Rattle.ground.specs.Tests.{_and_, if_then_else_, and-assoc}
 use Rattle.cue.specs.declared.entry.Track.{Track}
 use Rattle.cue.specs.declared.entry.Entry.{Entry}
 use Rattle.cue.specs.declared.sheet.Span.{Span}
-use Rattle.cue.specs.SheetLaws.{tracksIn-more, Numbered, isNumbered-parts}
+use Rattle.cue.specs.SheetLaws.{tracksIn-more, isNumbered-parts}
 use Rattle.cue.specs.Sheet.{entryAt, begun, tracksIn, noTrack, firstOf, lastFrom, lastOf, followsFrom, follows, isNumbered}
 
 -- ---- what is kept

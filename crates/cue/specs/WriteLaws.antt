@@ -16,7 +16,7 @@ use Rattle.disc.specs.RulesLaws.{fault-first}
 use Rattle.cue.specs.declared.write.Written.{Written}
 use Rattle.cue.specs.Sheet.{entrySize, isDescribed}
 use Rattle.cue.specs.Made.{tableOf}
-use Rattle.cue.specs.Write.{Answer, refuse, notWhole, unfit, noRoom, handOut, wholeAnswer, answer, writtenOf, Turned}
+use Rattle.cue.specs.Write.{refuse, notWhole, unfit, noRoom, handOut, wholeAnswer, answer, writtenOf, Turned}
 
 -- nothing is written
 pub turned-refuse : (n : ℕ) (m : List ℕ) {r : Written} → r ≡ writtenOf (refuse n) → Turned (refuse n) m r m
