@@ -1,7 +1,7 @@
 -- K12, "Masters arrive as cue sheets": what is written for a sheet, which sheets are refused, and what the output memory then holds.
 use mathlib.Core.Path.{_≡_, refl, sym, ap, _∙_}
 use mathlib.Core.Logic.{_↔_, _⊎_, inl, inr, ⊎-elim}
-use mathlib.Core.Bool.{true, false, true≢false}
+use mathlib.Core.Bool.{Bool, true, false, true≢false}
 use mathlib.Core.List.{List, _++_}
 use Prim.Native.Nat.{ℕ, _+_, _*_, _/_, _%_, _≤_, _<_}
 use native.Mathlib.Omega.{arith}
@@ -9,21 +9,22 @@ use native.Mathlib.Nat.{lt-of-not-le}
 use native.Mathlib.Decide.{decLe}
 use borrow.Author.Tests.{eqb-true}
 use lib.ListN.{length, drop}
-use Rattle.ground.specs.Tests.{and-head}
+use Rattle.ground.specs.Tests.{_and_, and-head, and-tail, and-both, and-off, and-assoc}
 use Rattle.ground.specs.Memory.{fill, fill-fits, fill-none}
 use Rattle.table.specs.Layout.{bound, descriptors, rows, flagsAt, pointAt, psecAt, isExtra}
 use Rattle.table.specs.Row.{rowAt}
 use Rattle.disc.specs.Rules.{isFit}
 use Rattle.disc.specs.RulesLaws.{isFit-true, fit-sized}
 use Rattle.cue.specs.declared.write.Written.{Written}
-use Rattle.cue.specs.Sheet.{AA, swapped, tracksOf, leadOutOf, isLeadOut, firstOf, lastOf, isNumbered, isDescribed}
+use Rattle.cue.specs.Sheet.{AA, swapped, tracksOf, leadOutOf, isLeadOut, firstOf, lastOf, isFramed, everyAdr, isNumbered, isDescribed}
 use Rattle.cue.specs.SheetLaws.{isDescribed-parts}
 use Rattle.cue.specs.Made.{tableOf}
 use Rattle.cue.specs.MadeLaws.{tableWith-length}
 use Rattle.cue.specs.MadeFit.{made-fit, made-holds, made-A0-flags, made-A1-flags, made-type, made-times, made-plain, held-numbered}
 use Rattle.cue.specs.Write.{Answer, refuse, answer, Turned}
 use Rattle.cue.specs.WriteLaws.{short, broken, other, none, made, answer-cases}
-use Rattle.cue.specs.Held.{Holds}
+use Rattle.cue.specs.Held.{Holds, Bytes}
+use Rattle.cue.specs.BytesLaws.{tableOf-bytes}
 
 -- ---- the table of a sheet
 
@@ -156,6 +157,24 @@ cue-numbers s m = elim (answer-cases s m) [
 -- that a described sheet's tracks are f, f + 1, .. l, from 1 to 99, asks no more of it than a fit table does
 pub cue-numbering : (s t : List ℕ) → Holds t (tracksOf s) (leadOutOf s) → isNumbered (tracksOf s) ≡ true
 cue-numbering s t h = held-numbered h
+
+-- so 13 may be said with less in "as described": the lead-in first, the lead-out last, and every ADR
+pub cue-13-framed : (s : List ℕ) (m : ℕ)
+    → (answer s m .number ≡ 13) ↔ ((bound ≤ m) × (length s % 8 ≡ 0) × ((isFramed s and everyAdr s ≡ false) ⊎ NoTable s))
+unfolding isDescribed
+cue-13-framed s m = (
+  λ h. let c = cue-13 s m .0 h in (c .0, c .1, ⊎-elim (split (isFramed s and everyAdr s) refl) inr (c .2)),
+  λ h. cue-13 s m .1 (h .0, h .1, ⊎-elim (λ n. inl (sym (and-assoc _ _ _) ∙ sym (and-off _ _ n))) inr (h .2)),
+)
+  where
+    split : (b : Bool) → isFramed s and everyAdr s ≡ b → isDescribed s ≡ false → (isFramed s and everyAdr s ≡ false) ⊎ NoTable s
+    split false e n = inl e
+    split true e n = inr (λ t h.
+        true≢false (sym (and-both _ _ (and-head _ _ e) (and-both _ _ (and-tail _ _ e) (cue-numbering s t h))) ∙ n))
+
+-- and the table of a sheet of bytes is one of bytes: `NoTable` says no less where it is read of these alone
+pub cue-bytes : (s : List ℕ) → Bytes s → Bytes (tableOf s)
+cue-bytes s f = tableOf-bytes s f
 
 -- ---- the output memory
 

@@ -1,5 +1,5 @@
--- The sheet of disc E gives Table E, and the samples that MMC prints and many ways to miss a described sheet give their numbers: one statement
--- over one list, closed by computation.
+-- The samples that MMC prints and many ways to miss a described sheet give their numbers, one statement over one list, and the sheet of disc E
+-- gives Table E: closed by computation.
 use mathlib.Core.Path.{_≡_, refl}
 use mathlib.Core.Bool.{Bool, true}
 use mathlib.Core.List.{List, [], _∷_, _++_}
@@ -74,7 +74,19 @@ p6 =
     ++ at 0x01 0x06 0x00 0x05 0x00 0x00 ++ at 0x01 0x06 0x01 0x05 0x02 0x00 ++ at 0x01 0x07 0x00 0x08 0x00 0x00
     ++ at 0x01 0x07 0x01 0x08 0x02 0x00 ++ at 0x01 0xAA 0x01 0x10 0x00 0x00
 
--- Table 155 (4051 to 4063), its times as they are printed, taken for hex: frame 71h, second 53h
+-- Table P.1 (5444 to 5463): the catalogue code and the ISRC, of ADR 2 and 3, and decimal times; letters stand for I1 to IC
+abbrev p1 : List ℕ
+p1 =
+    (0x02 ∷ 0xC1 ∷ 0xC2 ∷ 0xC3 ∷ 0xC4 ∷ 0xC5 ∷ 0xC6 ∷ 0xC7 ∷ []) ++ (0x02 ∷ 0xC8 ∷ 0xC9 ∷ 0xCA ∷ 0xCB ∷ 0xCC ∷ 0xCD ∷ 0x00 ∷ [])
+    ++ at 0x01 0x00 0x00 0x00 0x00 0x00 ++ at 0x01 0x01 0x00 0x00 0x00 0x00 ++ at 0x01 0x01 0x01 0x00 0x02 0x00
+    ++ at 0x01 0x02 0x00 0x07 0x29 0x00 ++ at 0x01 0x02 0x01 0x07 0x31 0x00
+    ++ (0x03 ∷ 0x03 ∷ 0x41 ∷ 0x42 ∷ 0x43 ∷ 0x44 ∷ 0x45 ∷ 0x46 ∷ []) ++ (0x03 ∷ 0x03 ∷ 0x47 ∷ 0x48 ∷ 0x49 ∷ 0x4A ∷ 0x4B ∷ 0x4C ∷ [])
+    ++ at 0x01 0x03 0x00 0x14 0x18 0x03 ++ at 0x01 0x03 0x01 0x14 0x20 0x03 ++ at 0x01 0x04 0x01 0x19 0x06 0x00
+    ++ at 0x01 0x05 0x00 0x27 0x37 0x00 ++ at 0x01 0x05 0x01 0x27 0x40 0x00 ++ at 0x01 0x06 0x00 0x38 0x53 0x74
+    ++ at 0x01 0x06 0x01 0x38 0x55 0x74 ++ at 0x01 0x06 0x02 0x45 0x12 0x42 ++ at 0x01 0x06 0x03 0x48 0x33 0x09
+    ++ at 0x01 0x06 0x04 0x52 0x47 0x59 ++ at 0x01 0xAA 0x01 0x56 0x37 0x46
+
+-- Table 155 (4051 to 4063), its times as they are printed, taken for hex: frame 71h in track 2, second 55h in track 6
 abbrev t155 : List ℕ
 t155 =
     at 0x01 0x00 0x00 0x00 0x00 0x00 ++ at 0x01 0x01 0x00 0x00 0x00 0x00 ++ at 0x01 0x01 0x01 0x00 0x02 0x00
@@ -103,6 +115,7 @@ cases =
     ∷ (p5 gives 0)
     ∷ (p6 gives 0)
     ∷ (t155 gives 13)
+    ∷ (p1 gives 13)
     -- passed over: any other index, whatever its TNO, address and place, also AAh, and a second lead-in
     ∷ (between (at 0x41 1 0 0 0 0 ++ (dataTrack ++ (at 0x41 1 2 9 99 99 ++ (at 0x01 7 99 0 0 0 ++ audioTrack)))) gives 0)
     ∷ (between (dataTrack ++ (first ++ (at 0x01 0xAA 0 0 0 0 ++ audioTrack))) gives 0)
@@ -113,7 +126,7 @@ cases =
     ∷ (between (dataTrack ++ (at 0x03 2 0 0 3 0 ++ audioTrack)) gives 13)
     ∷ (between (at 0x40 1 1 0 2 0 ++ audioTrack) gives 13)
     ∷ ((first ++ (dataTrack ++ audioTrack)) ++ at 0x05 0xAA 1 0 6 0 gives 13)
-    -- no lead-in, no lead-out, neither, no track, nothing
+    -- no lead-in, no lead-out, one of them alone, no track, nothing
     ∷ ((dataTrack ++ audioTrack) ++ last gives 13)
     ∷ (first ++ (dataTrack ++ audioTrack) gives 13)
     ∷ ((first ++ (dataTrack ++ audioTrack)) ++ at 0x01 0xAA 0 0 6 0 gives 13)
@@ -152,11 +165,7 @@ unfoldable pub tested : List Case → Bool
 tested [] = true
 tested (c ∷ cs) = eqb (answer (c .sheet) (c .memory) .number) (c .number) and tested cs
 
-pub examples-tested : tested cases ≡ true
+-- the numbers, and Table E byte by byte
+pub examples-tested : (tested cases ≡ true) × (answer sheetE bound .bytes ≡ tableE)
 unfolding tested _and_ _or_ every if_then_else_ isMsf isTrack isExtra startOf names simple free plain headA0 headA1 headed addressed rowTest one size listed numbered isSession starts before follows inPlace inOrder rule1 rule2 eachRow rises outBefore beginsAfter rising rule7 firstBroken lateRules rowRules fault isFit isLeadIn isLeadOut begun tracksIn firstOf lastFrom lastOf isFramed hasAdr everyAdr followsFrom Sheet.follows isNumbered isDescribed rowsOf bodyOf tableWith handOut wholeAnswer answer
-examples-tested = refl
-
--- byte by byte
-pub sheetE-table : answer sheetE bound .bytes ≡ tableE
-unfolding _and_ _or_ every if_then_else_ isMsf isTrack isExtra startOf names simple free plain headA0 headA1 headed addressed rowTest one size listed numbered isSession starts before follows inPlace inOrder rule1 rule2 eachRow rises outBefore beginsAfter rising rule7 firstBroken lateRules rowRules fault isFit isLeadIn isLeadOut begun tracksIn firstOf lastFrom lastOf isFramed hasAdr everyAdr followsFrom Sheet.follows isNumbered isDescribed rowsOf bodyOf tableWith handOut wholeAnswer answer
-sheetE-table = refl
+examples-tested = (refl, refl)

@@ -2,7 +2,8 @@
 use mathlib.Core.Path.{_≡_}
 use mathlib.Core.Bool.{true}
 use mathlib.Core.List.{List, [], _∷_, _++_}
-use Prim.Native.Nat.{ℕ, zero, suc}
+use Prim.Native.Nat.{ℕ, zero, suc, _<_}
+use lib.ListN.{getD}
 use Rattle.ground.specs.Tests.{if_then_else_}
 use Rattle.table.specs.Layout.{lastSession, descriptors, rows, flagsAt, pointAt, pminAt, psecAt, pframeAt, isTrack}
 use Rattle.disc.specs.Rules.{isFit}
@@ -36,3 +37,7 @@ pub record Holds (t : List ℕ) (ts : List Track) (out : Track) : Type 0 where
   pub one : lastSession t ≡ 1
   pub tracks : heldTracks t ≡ ts
   pub leadOut : heldLeadOut t ≡ out
+
+-- a list of bytes
+pub record Bytes (l : List ℕ) : Type 0 where
+  pub small : (i : ℕ) → getD l i 0 < 256

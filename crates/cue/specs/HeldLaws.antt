@@ -88,7 +88,7 @@ module _ {t : List ℕ} (f : Fit t) (o : lastSession t ≡ 1) where
   unfolding starts rowsBefore
   single-rows = sym (fit-end-rows f) ∙ ap (rowsBefore (descriptors t)) o ∙ zero-add (count (descriptors t))
 
-  -- no track stands before the third descriptor, nor past the last track
+  -- no track stands among the first three, nor past the last track
   single-heads : (i : ℕ) → i < 3 → isTrack (pointAt (descriptors t) i) ≡ false
   single-heads i h = elim (single-kind i (omega arith)) [
     | isA0 e p ↦ ap isTrack p ∙ isTrack-over A0 (omega arith)

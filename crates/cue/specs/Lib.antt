@@ -8,4 +8,5 @@ pub mod MadeLaws
 pub mod WriteLaws
 pub mod HeldLaws
 pub mod MadeFit
+pub mod BytesLaws
 pub mod Examples

@@ -24,19 +24,19 @@ refuse n = record { number = n; bytes = [] }
 abbrev pub notWhole : ℕ
 notWhole = 12
 
-abbrev pub unfit : ℕ
-unfit = 13
+abbrev pub noTable : ℕ
+noTable = 13
 
 abbrev pub noRoom : ℕ
 noRoom = 14
 
 -- "The written table is fit"
 unfoldable pub handOut : List ℕ → Answer
-handOut t = if isFit t then record { number = 0; bytes = t } else refuse unfit
+handOut t = if isFit t then record { number = 0; bytes = t } else refuse noTable
 
 -- "no fit table has those tracks, controls and addresses or the entries aren't as described here": of a sheet of whole entries
 unfoldable pub wholeAnswer : List ℕ → Answer
-wholeAnswer s = if isDescribed s then handOut (tableOf s) else refuse unfit
+wholeAnswer s = if isDescribed s then handOut (tableOf s) else refuse noTable
 
 -- "Refusals, in order of test: 14 .., 12 .., 13 ..": of a sheet and the length of the output memory
 unfoldable pub answer : List ℕ → ℕ → Answer

@@ -16,7 +16,7 @@ use Rattle.disc.specs.RulesLaws.{fault-first}
 use Rattle.cue.specs.declared.write.Written.{Written}
 use Rattle.cue.specs.Sheet.{entrySize, isDescribed}
 use Rattle.cue.specs.Made.{tableOf}
-use Rattle.cue.specs.Write.{refuse, notWhole, unfit, noRoom, handOut, wholeAnswer, answer, writtenOf, Turned}
+use Rattle.cue.specs.Write.{refuse, notWhole, noTable, noRoom, handOut, wholeAnswer, answer, writtenOf, Turned}
 
 -- nothing is written
 pub turned-refuse : (n : ℕ) (m : List ℕ) {r : Written} → r ≡ writtenOf (refuse n) → Turned (refuse n) m r m
@@ -28,21 +28,21 @@ fault-most t e = let m = fault-first t .most in omega arith
 
 -- a fit table that the memory holds
 pub handOut-fit :
-    {t m m′ : List ℕ} {n : ℕ} → fault t ≡ 0 → length t ≤ length m → Laid m t n m′ → Turned (handOut t) m (record { number = 0; len = n }) m′
+    {t m m′ : List ℕ} {n r : ℕ} → fault t ≡ 0 → n ≡ length t → n ≤ length m → Laid m t r m′ → Turned (handOut t) m (record { number = 0; len = n }) m′
 unfolding handOut isFit
-handOut-fit {t} {m} h k l =
-    rw (when _ _ _ (eq-eqb _ _ h)) (record { outcome = ap (λ (n : ℕ). record { number = 0; len = n }) (laid-fits l k .0); memory = l .bytes })
+handOut-fit h e k l =
+    rw (when _ _ _ (eq-eqb _ _ h)) (record { outcome = ap (λ (n : ℕ). record { number = 0; len = n }) e; memory = l .bytes })
 
-pub handOut-unfit : (t m : List ℕ) {r : Written} → (fault t ≡ 0 → ⊥) → r ≡ writtenOf (refuse unfit) → Turned (handOut t) m r m
+pub handOut-unfit : (t m : List ℕ) {r : Written} → (fault t ≡ 0 → ⊥) → r ≡ writtenOf (refuse noTable) → Turned (handOut t) m r m
 unfolding handOut isFit
-handOut-unfit t m h e = rw (unless _ _ _ (ne-eqb _ _ h)) (turned-refuse unfit m e)
+handOut-unfit t m h e = rw (unless _ _ _ (ne-eqb _ _ h)) (turned-refuse noTable m e)
 
 -- a sheet of whole entries
 pub wholeAnswer-described : (s : List ℕ) → isDescribed s ≡ true → wholeAnswer s ≡ handOut (tableOf s)
 unfolding wholeAnswer
 wholeAnswer-described s h = when _ _ _ h
 
-pub wholeAnswer-not : (s : List ℕ) → isDescribed s ≡ false → wholeAnswer s ≡ refuse unfit
+pub wholeAnswer-not : (s : List ℕ) → isDescribed s ≡ false → wholeAnswer s ≡ refuse noTable
 unfolding wholeAnswer
 wholeAnswer-not s h = unless _ _ _ h
 
@@ -64,8 +64,8 @@ answer-notWhole s m h k = unless _ _ _ (le-ltb _ _ h) ∙ unless _ _ _ (ne-eqb _
 pub data Case (s : List ℕ) (m : ℕ) : Type 0 where
   short : m < bound → answer s m ≡ refuse noRoom → Case s m
   broken : bound ≤ m → (length s % entrySize ≡ 0 → ⊥) → answer s m ≡ refuse notWhole → Case s m
-  other : bound ≤ m → length s % entrySize ≡ 0 → isDescribed s ≡ false → answer s m ≡ refuse unfit → Case s m
-  none : bound ≤ m → length s % entrySize ≡ 0 → isDescribed s ≡ true → isFit (tableOf s) ≡ false → answer s m ≡ refuse unfit → Case s m
+  other : bound ≤ m → length s % entrySize ≡ 0 → isDescribed s ≡ false → answer s m ≡ refuse noTable → Case s m
+  none : bound ≤ m → length s % entrySize ≡ 0 → isDescribed s ≡ true → isFit (tableOf s) ≡ false → answer s m ≡ refuse noTable → Case s m
   made : bound ≤ m → length s % entrySize ≡ 0 → isDescribed s ≡ true → isFit (tableOf s) ≡ true
       → answer s m ≡ record { number = 0; bytes = tableOf s } → Case s m
 

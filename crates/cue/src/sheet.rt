@@ -20,7 +20,7 @@ pub struct Span {
     pub follows: bool,
 }
 
-// The lead-in, wherever it says that it lies.
+// The lead-in; its address is not looked at.
 fn is_lead_in(e: Entry) -> bool
     ensures { λ r. ⌜ r ≡ isLeadIn e ⌝ }
 {
@@ -64,7 +64,7 @@ fn has_adr(e: Entry) -> bool
     }
 }
 
-// That of each entry is, of those that are passed over too.
+// Every ADR is 1, of the entries that are passed over too.
 pub(crate) fn every_adr(s: &[u8]) -> bool
     ensures { λ r. ⌜ r ≡ everyAdr (now (s .entry)) ⌝ }
 {

@@ -22,11 +22,11 @@ ghost use Rattle.cue.specs.Made.{tableWith};
 ghost use Rattle.cue.specs.SpanLaws.{spanOf, isRun};
 ghost use Rattle.cue.specs.Write.{writtenOf, refuse, handOut, wholeAnswer, answer, Turned};
 
-// The refusals: a length that is not a multiple of 8; a sheet that is not as described, or that no fit table has; output memory under
-// 6,538 bytes.
+// The refusals: a length that is not a multiple of 8; a sheet that is not as described, or whose tracks, controls and addresses no fit
+// table has; output memory under 6,538 bytes.
 pub const NOT_WHOLE: u8 = 12;
 
-pub const UNFIT: u8 = 13;
+pub const NO_TABLE: u8 = 13;
 
 pub const NO_ROOM: u8 = 14;
 
@@ -45,14 +45,14 @@ fn refuse(number: u8) -> Written
 
 // The first n bytes of the room, if they are a fit table: `broken` is the first rule that they break, or 0.
 fn hand_out(room: &[u8], n: usize, broken: u8, mem: &mut [u8]) -> Written
-    requires { ⌜ (broken ≡ fault (take n (now room))) × (length (take n (now room)) ≤ length (now mem)) ⌝ }
+    requires { ⌜ (broken ≡ fault (take n (now room))) × (n ≡ length (take n (now room))) × (n ≤ length (now mem)) ⌝ }
     ensures { λ r. ⌜ Turned (handOut (take n (now (room .entry)))) (now (mem .entry)) r (now (mem .exit)) ⌝ }
 {
     if broken == 0 {
-        let len = put_cut(room, n, mem);
-        return Written { number: 0, len };
+        put_cut(room, n, mem);
+        return Written { number: 0, len: n };
     }
-    refuse(UNFIT)
+    refuse(NO_TABLE)
 }
 
 // The table made of the sheet's tracks and lead-out, if it is fit.
@@ -91,7 +91,7 @@ fn write_whole(s: &[u8], mem: &mut [u8]) -> Written
         let out = last.track;
         return write_made(s, span, out, mem);
     }
-    refuse(UNFIT)
+    refuse(NO_TABLE)
 }
 
 // Turns a sheet into a table: the bytes written are a fit table with the sheet's tracks, controls and addresses, and memory past them

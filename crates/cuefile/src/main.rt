@@ -1,6 +1,6 @@
 // Turns a file that holds a cue sheet into a disc table, on standard output.
+use cue::write::NO_TABLE;
 use cue::write::NOT_WHOLE;
-use cue::write::UNFIT;
 use cue::write::write_table;
 use input::load;
 use libc::STDERR_FILENO;
@@ -22,7 +22,7 @@ fn say_refused(number: u8) {
         say(b"refused 12: the sheet is not whole entries of 8 bytes\n");
         return;
     }
-    if number == UNFIT {
+    if number == NO_TABLE {
         say(
             b"refused 13: the sheet is not as described, or no fit table has its tracks, controls and addresses\n",
         );

@@ -6,7 +6,7 @@ use Rattle.cue.proofs.write.hand_out.Statement.{statement}
 use Rattle.cue.proofs.write.hand_out.Tie as tie
 
 returns : tie.Need-returns
-returns c = handOut-fit (sym (c .before .before .before .before .before .before .before .pre .0) ∙ c .before .before .before .before .if1 .taken) (c .before .before .before .before .before .before .before .pre .1) (c .before .before .put-cut .ensures)
+returns c = handOut-fit (sym (c .before .before .before .before .before .before .before .pre .0) ∙ c .before .before .before .before .if1 .taken) (c .before .before .before .before .before .before .before .pre .1) (c .before .before .before .before .before .before .before .pre .2) (c .before .before .put-cut .ensures)
 
 returns-2 : tie.Need-returns-2
 returns-2 c = handOut-unfit _ _ (λ e. c .before .if1 .left (c .before .before .before .before .pre .0 ∙ e)) (c .refuse .ensures)

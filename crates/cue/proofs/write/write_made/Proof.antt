@@ -26,7 +26,7 @@ hand-out-requires c κs =
     let l = ap length (w .1) in
     let q = p .2 in
     let k = w .2 in
-    (omega arith, omega arith)
+    (omega arith, w .0 ∙ ap length (sym (w .1)), omega arith)
 
 returns : tie.Need-returns
 returns c =
