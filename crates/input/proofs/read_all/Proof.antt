@@ -1,4 +1,4 @@
--- `input::read_all` is safe and ends: each turn reads at least one byte more.
+-- `input::read_all` meets its contract and ends: each turn reads at least one byte more, and none past the end.
 use mathlib.Core.Path.{_≡_, refl}
 use Prim.Native.Nat.{_≤_, _-_}
 use native.Mathlib.Omega.{arith}
