@@ -27,12 +27,11 @@ followsFrom-count t (u ∷ us) h =
     let r = followsFrom-count u us (and-tail _ _ h) in
     omega arith
 
--- there is one at least, from 1 to 99, and the numbers count them
+-- from 1 to 99, and the numbers count them
 pub record Numbered (ts : List Track) : Type 0 where
   pub low : 1 ≤ firstOf ts .number
   pub high : lastOf ts .number ≤ 99
   pub count : lastOf ts .number + 1 ≡ firstOf ts .number + length ts
-  pub some : 1 ≤ length ts
 
 pub isNumbered-parts : (ts : List Track) → isNumbered ts ≡ true → Numbered ts
 unfolding isNumbered firstOf lastOf follows
@@ -40,7 +39,7 @@ isNumbered-parts [] h = let l : 1 ≤ 0 = leb-true _ _ (and-head _ _ h) in absur
 isNumbered-parts (t ∷ ts) h =
     let u = and-tail _ _ h in
     let e = followsFrom-count t ts (and-tail _ _ u) in
-    record { low = leb-true _ _ (and-head _ _ h); high = leb-true _ _ (and-head _ _ u); count = omega arith; some = omega arith }
+    record { low = leb-true _ _ (and-head _ _ h); high = leb-true _ _ (and-head _ _ u); count = omega arith }
 
 -- ---- a described sheet
 
