@@ -10,6 +10,7 @@ use Rattle.print.specs.Front.{FrontOf}
 use Rattle.print.specs.Hex.{hexDigit, hexByte, hexes, shown}
 use Rattle.print.specs.Decimal.{decimal}
 use Rattle.print.specs.Joined.{spaced, _next_}
+use Rattle.print.specs.Numbers.{joined}
 use Rattle.print.specs.Sum.{adler32}
 
 -- text laid into lent memory: how many bytes went in, and what the memory holds then
@@ -24,6 +25,9 @@ unique-put-decimal n = laid-once (decimal n)
 
 pub unique-next-decimal : (n : ℕ) → Once (spaced (decimal n))
 unique-next-decimal n = laid-once (spaced (decimal n))
+
+pub unique-put-joined : (numbers : List ℕ) (mark : ℕ) → Once (joined mark numbers)
+unique-put-joined numbers mark = laid-once (joined mark numbers)
 
 -- the same machine value: place and length
 pub unique-front : (s r q : RefT (List ℕ)) (n : ℕ) → FrontOf s r n → FrontOf s q n → slice-vals r ≡ slice-vals q

@@ -2,4 +2,5 @@
 pub mod decimal;
 pub mod front;
 pub mod hex;
+pub mod numbers;
 pub mod sum;

@@ -1,0 +1,10 @@
+pub mod Count
+pub mod CountLaws
+pub mod Content
+pub mod Lengths
+pub mod LengthsLaws
+pub mod ContentLaws
+pub mod Totals
+pub mod TotalsLaws
+pub mod Stream
+pub mod StreamLaws

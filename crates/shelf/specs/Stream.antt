@@ -1,0 +1,58 @@
+-- "A program reads tables from standard input, each its data length plus 2 long": a stream of bytes cut into tables.
+use Prim.Native.Nat.{ℕ, zero, suc, _+_, _-_}
+use mathlib.Core.List.{List, [], _∷_, _++_}
+use lib.ListN.{length, take, drop}
+use lib.Dec.{leb}
+use Rattle.ground.specs.Tests.{if_then_else_}
+use Rattle.table.specs.Layout.{dataLength}
+use Rattle.shelf.specs.declared.totals.Totals.{Totals}
+use Rattle.shelf.specs.declared.totals.Counted.{Counted}
+use Rattle.shelf.specs.declared.stream.Passed.{Passed}
+use Rattle.shelf.specs.declared.stream.Passed.the-variants.{On, Over}
+use Rattle.shelf.specs.Totals.{sum, totalsOf, within, bounded}
+
+-- how long the table is that s begins with; a byte that is not there counts as 0
+abbrev pub tableLength : List ℕ → ℕ
+tableLength s = dataLength s + 2
+
+-- the whole tables that s begins with, n at most, and what is left behind them
+unfoldable pub wholesIn : ℕ → List ℕ → List (List ℕ)
+wholesIn zero s = []
+wholesIn (suc n) s =
+    if leb (tableLength s) (length s) then take (tableLength s) s ∷ wholesIn n (drop (tableLength s) s) else []
+
+unfoldable pub restIn : ℕ → List ℕ → List ℕ
+restIn zero s = s
+restIn (suc n) s = if leb (tableLength s) (length s) then restIn n (drop (tableLength s) s) else s
+
+-- all of them: there are no more than bytes
+unfoldable pub wholes : List ℕ → List (List ℕ)
+wholes s = wholesIn (length s) s
+
+unfoldable pub rest : List ℕ → List ℕ
+rest s = restIn (length s) s
+
+-- "A table cut off by the end counts": what is left is one, a single byte too
+unfoldable pub cutOff : List ℕ → List (List ℕ)
+cutOff [] = []
+cutOff (b ∷ s) = (b ∷ s) ∷ []
+
+-- the tables of a stream
+unfoldable pub tables : List ℕ → List (List ℕ)
+tables s = wholes s ++ cutOff (rest s)
+
+-- what a shelf holds whose stream is s
+unfoldable pub shelf : List ℕ → Totals
+shelf s = totalsOf (tables s)
+
+-- the same on top of what was counted before
+unfoldable pub counted : Totals → List ℕ → Counted
+counted a s = bounded (sum a (shelf s))
+
+-- totals, and how many bytes were counted for them
+unfoldable pub passedTo : Totals → ℕ → Passed
+passedTo a used = if within a then On a used else Over
+
+-- what was read so far: its whole tables are counted, and how many bytes they take is told
+unfoldable pub passed : Totals → List ℕ → Passed
+passed a s = passedTo (sum a (totalsOf (wholes s))) (length s - length (rest s))

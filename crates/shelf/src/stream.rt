@@ -1,0 +1,114 @@
+// A stream of tables, cut apart.
+use crate::totals::Counted;
+use crate::totals::Totals;
+use crate::totals::add;
+use crate::totals::count;
+use crate::totals::nothing;
+use ground::number::word16;
+ghost use mathlib.Core.Path.{_≡_};
+ghost use Prim.Native.Nat.{_-_, _≤_};
+ghost use lib.ListN.{length, take, drop};
+ghost use Rattle.ground.specs.Memory.{Laid};
+ghost use Rattle.shelf.specs.Totals.{nothing, sum};
+ghost use Rattle.shelf.specs.Stream.{counted, passedTo, passed};
+ghost use Rattle.shelf.specs.StreamLaws.{wholeLength, leftBy};
+
+// The totals with the whole tables counted, and how many bytes those took; or a total is past 64 bits.
+pub enum Passed {
+    On { totals: Totals, used: usize },
+    Over,
+}
+
+// How long the table is that s begins with, where it is whole; else 0.
+fn whole_length(s: &[u8]) -> usize
+    ensures { λ r. ⌜ r ≡ wholeLength (now (s .entry)) ⌝ }
+{
+    if s.len() < 2 {
+        return 0;
+    }
+    let n = word16(s[0], s[1]) + 2;
+    if n <= s.len() {
+        return n;
+    }
+    0
+}
+
+// What the whole tables come to that s begins with.
+fn wholes_of(s: &[u8]) -> Passed
+    ensures { λ r. ⌜ r ≡ passed nothing (now (s .entry)) ⌝ }
+{
+    let mut so_far = nothing();
+    let mut at = 0;
+    while at < s.len() {
+        let n = whole_length(&s[at..]);
+        if n == 0 {
+            break;
+        }
+        match count(so_far, &s[at..at + n]) {
+            Counted::Is(more) => {
+                so_far = more;
+                at += n;
+            }
+            Counted::TooLarge => {
+                return Passed::Over;
+            }
+        }
+    }
+    Passed::On {
+        totals: so_far,
+        used: at,
+    }
+}
+
+// The totals with what `used` bytes came to.
+fn with(totals: Totals, more: Totals, used: usize) -> Passed
+    ensures { λ r. ⌜ r ≡ passedTo (sum totals more) used ⌝ }
+{
+    match add(totals, more) {
+        Counted::Is(totals) => Passed::On { totals, used },
+        Counted::TooLarge => Passed::Over,
+    }
+}
+
+// Counts the whole tables that s begins with. What is left is shorter than the longest table.
+pub fn count_whole(totals: Totals, s: &[u8]) -> Passed
+    ensures same { λ r. ⌜ r ≡ passed totals (now (s .entry)) ⌝ }
+    ensures short { λ r. ⌜ leftBy r (length (now (s .entry))) ≤ 65536 ⌝ }
+{
+    match wholes_of(s) {
+        Passed::On { totals: more, used } => with(totals, more, used),
+        Passed::Over => Passed::Over,
+    }
+}
+
+// Counts all tables of s, the last of which may be cut off.
+pub fn count_all(totals: Totals, s: &[u8]) -> Counted
+    ensures { λ r. ⌜ r ≡ counted totals (now (s .entry)) ⌝ }
+{
+    match count_whole(totals, s) {
+        Passed::On { totals, used } => {
+            if used < s.len() {
+                return count(totals, &s[used..]);
+            }
+            Counted::Is(totals)
+        }
+        Passed::Over => Counted::TooLarge,
+    }
+}
+
+// Moves the bytes from `from` up to `end` to the front of the room, and tells how many they are.
+pub fn keep_rest(room: &mut [u8], from: usize, end: usize) -> usize
+    ensures { λ r. ⌜ Laid (now (room .entry)) (take (end - from) (drop from (now (room .entry)))) r (now (room .exit)) ⌝ }
+{
+    let mut i = 0;
+    let mut j = from;
+    while j < end {
+        if room.len() <= j {
+            return i;
+        }
+        room[i] = room[j];
+        i += 1;
+        j += 1;
+    }
+    i
+}
