@@ -3,7 +3,9 @@
 use crate::cases::draft;
 use crate::cases::mmc_sheets::samples;
 use crate::cases::packets::{capacity, read10, request_sense, test_ready, toc, Packet};
+use crate::cases::several::alone;
 use crate::cases::sheet::{disc_e, two_sessions};
+use crate::cases::shelf_files::printed;
 use crate::cue;
 use crate::files::File;
 use crate::listing;
@@ -89,6 +91,23 @@ fn cue_sheets() -> Vec<File> {
     files
 }
 
+/// A shelf of the discs above (K13): Table E, the two sessions, 004's Table 134, Table E with
+/// its second track where the first one starts (rule 7), the tables of 000's sheets, and
+/// Table E cut off behind its A0.
+pub fn shelf() -> Vec<u8> {
+    let mut tables = vec![
+        disc_e().bytes(),
+        two_sessions().bytes(),
+        draft::t134().bytes(),
+        alone(7),
+    ];
+    for (_, cue) in samples() {
+        tables.extend(cue::table_of(&cue.bytes()));
+    }
+    tables.push(disc_e().bytes()[..15].to_vec());
+    tables.concat()
+}
+
 pub fn files() -> Vec<File> {
     let mut files = vec![
         ("disc-e.table".into(), disc_e().bytes()),
@@ -100,5 +119,7 @@ pub fn files() -> Vec<File> {
         ("sff-8020i-t134.packets".into(), t134().concat()),
     ];
     files.extend(cue_sheets());
+    files.push(("shelf.tables".into(), shelf()));
+    files.push(("shelf.totals".into(), printed(&shelf()).into()));
     files
 }

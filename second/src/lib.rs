@@ -1,6 +1,6 @@
 //! An independent second program for the packet target of the build
-//! definition (called "01" in the comments; K1 to K10 and K12 are the change requests
-//! built on it). It shares no code with the target: the two meet through files only.
+//! definition (called "01" in the comments; K1 to K10, K12 and K13 are the change
+//! requests built on it). It shares no code with the target: the two meet through files only.
 
 pub mod address;
 pub mod adler;
@@ -21,6 +21,7 @@ pub mod refusal;
 pub mod replay;
 pub mod rng;
 pub mod sense;
+pub mod shelf;
 pub mod stored;
 pub mod sub_channel;
 pub mod table;

@@ -1,21 +1,28 @@
 //! The command line of the second program.
 
 use std::env;
-use std::fs;
+use std::fs::{self, File};
 use std::io::{self, Read, Write};
+use std::os::fd::AsFd;
 use std::path::Path;
 use std::process::ExitCode;
+use std::thread;
+use std::time::Duration;
 
-use second::cases::{bad, cue_files, made, pairs};
-use second::{appendix, cue, examples, files, listing, replay, stored, tally};
+use second::cases::{bad, cue_files, made, pairs, shelf_files};
+use second::rng::Rng;
+use second::{appendix, cue, examples, files, listing, replay, shelf, stored, tally};
 
 const USAGE: &str = "usage: second replay
        second tally
        second listing TABLE PACKETS
        second cue SHEET
+       second shelf
        second make-replay SEED CALLS
        second make-listing SEED COUNT DIR
        second make-cue SEED COUNT DIR
+       second make-shelf SEED COUNT DIR
+       second pieces SEED
        second stored ROOT
        second check ROOT
        second examples DIR
@@ -50,6 +57,13 @@ fn run(words: &[&str]) -> io::Result<ExitCode> {
                 return Ok(ExitCode::from(1));
             }
         },
+        ["shelf"] => match shelf::program(&mut io::stdin().lock()) {
+            Ok(lines) => print(lines.as_bytes())?,
+            Err(error) => {
+                eprintln!("standard input cannot be read: {error}");
+                return Ok(ExitCode::from(1));
+            }
+        },
         ["make-replay", seed, calls] => {
             let stream = bad::random_stream(number(seed)?, number(calls)? as usize);
             print(&stream.bytes)?;
@@ -60,6 +74,10 @@ fn run(words: &[&str]) -> io::Result<ExitCode> {
         ["make-cue", seed, count, dir] => {
             make_cue(number(seed)?, number(count)?, Path::new(dir))?;
         }
+        ["make-shelf", seed, count, dir] => {
+            make_shelf(number(seed)?, number(count)?, Path::new(dir))?;
+        }
+        ["pieces", seed] => pieces(&mut Rng::new(number(seed)?))?,
         ["stored", root] => {
             let files = stored::files();
             files::write(Path::new(root), &files)?;
@@ -120,6 +138,34 @@ fn number(word: &str) -> io::Result<u64> {
 fn make_listing(seed: u64, count: u64, dir: &Path) -> io::Result<()> {
     for i in 0..count {
         files::write(dir, &pairs::pair(seed, i).listed(&format!("{i:04}")))?;
+    }
+    Ok(())
+}
+
+/// Writes DIR/NNNN.tables and DIR/NNNN.expected.
+fn make_shelf(seed: u64, count: u64, dir: &Path) -> io::Result<()> {
+    for i in 0..count {
+        files::write(dir, &shelf_files::counted(seed, i, &format!("{i:04}")))?;
+    }
+    Ok(())
+}
+
+/// How long a piece is left alone: whoever reads it has time to take it before the next.
+const PAUSE: Duration = Duration::from_micros(50);
+
+/// Copies standard input in pieces of drawn sizes, each written by itself.
+fn pieces(rng: &mut Rng) -> io::Result<()> {
+    let bytes = input()?;
+    // Not `print`: what it writes to keeps the end of a piece until there is a line.
+    let mut out = File::from(io::stdout().as_fd().try_clone_to_owned()?);
+    let mut rest = &bytes[..];
+    while !rest.is_empty() {
+        let top = rng.pick(&[1, 2, 16, 300, 4_096, 4_096]);
+        let (piece, behind) = rest.split_at(rng.range(1, top).min(rest.len()));
+        out.write_all(piece)?;
+        out.flush()?;
+        thread::sleep(PAUSE);
+        rest = behind;
     }
     Ok(())
 }

@@ -13,6 +13,7 @@ use crate::packet;
 use crate::play::Play;
 use crate::refusal::Refusal;
 use crate::sense::Sense;
+use crate::shelf::{self, TooLarge, Totals};
 use crate::table;
 
 pub const STATE: u8 = 0;
@@ -30,6 +31,8 @@ pub const POWER_ON_WITHOUT_CHANGE: u8 = 11;
 pub const MOVE_ON: u8 = 12;
 pub const LIST: u8 = 13;
 pub const CUE_SHEET: u8 = 14;
+/// K13's; the kinds between are for requests still to come.
+pub const SHELF: u8 = 24;
 
 /// Whether a record of this kind is a call, and so has a line of its own: the
 /// others set what the calls behind them meet.
@@ -40,6 +43,9 @@ pub fn is_call(kind: u8) -> bool {
 /// Bytes of kind 0's body: five flags, the sense, K2's play record, K4's page and
 /// K7's event.
 pub const STATE_BYTES: usize = 20;
+
+/// Bytes at the front of kind 24's body: the thirteen totals that it counts on from.
+pub const SHELF_BYTES: usize = shelf::LINES * 8;
 
 /// "At the start every byte is 0": so the play status is 00h, and refusal 2
 /// covers it.
@@ -156,6 +162,15 @@ pub fn state_text(state: State) -> String {
     format!("{digits} {sense} {play} {mode} {}", state.event)
 }
 
+/// Kind 24's totals: 8 bytes each, high byte first, in the order of the lines.
+fn totals_of(bytes: &[u8]) -> Totals {
+    let mut totals = Totals::default();
+    for (total, word) in totals.0.iter_mut().zip(bytes.chunks_exact(8)) {
+        *total = u64::from_be_bytes(word.try_into().expect("a total is 8 bytes"));
+    }
+    totals
+}
+
 /// Capital hex, two digits a byte, "-" where no bytes.
 pub fn hex(bytes: &[u8]) -> String {
     if bytes.is_empty() {
@@ -225,6 +240,10 @@ impl Bench {
                 self.line(line);
             }
             (CUE_SHEET, sheet) => self.cue_sheet(sheet),
+            (SHELF, body) => {
+                let (totals, tables) = body.split_at_checked(SHELF_BYTES).ok_or(BadRecord)?;
+                self.shelf(totals_of(totals), tables);
+            }
             _ => return Err(BadRecord),
         }
         Ok(())
@@ -254,6 +273,16 @@ impl Bench {
         let result = cue::turn(sheet, &mut self.memory);
         let (number, length) = (number(result.err()), result.unwrap_or(0));
         self.line(format!("t {number} {length} {:08X}", adler32(&self.memory)));
+    }
+
+    /// K13: the tables of a stream counted on top of these totals, the line `t` and the
+    /// thirteen, or `t too large`.
+    fn shelf(&mut self, from: Totals, tables: &[u8]) {
+        let text = match shelf::count(from, tables) {
+            Ok(Totals(totals)) => totals.map(|total| total.to_string()).join(" "),
+            Err(TooLarge) => "too large".to_string(),
+        };
+        self.line(format!("t {text}"));
     }
 
     fn packet(&mut self, packet: &[u8]) {

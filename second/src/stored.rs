@@ -9,6 +9,7 @@ use crate::cases::cue_sheet::ninety_nine;
 use crate::cases::pairs::{each_rule, stored_pair};
 use crate::cases::picked;
 use crate::cases::random;
+use crate::cases::shelf_files::{printed as counted, stored_shelf};
 use crate::cases::stream::Stream;
 use crate::cue;
 use crate::examples;
@@ -20,14 +21,18 @@ use crate::rng::Rng;
 /// The seed of everything stored; 5 modulo 8 ends the stream with a bad flag.
 pub const SEED: u64 = 0x01C_D0D;
 
-/// Calls in the stored stream, the picked ones among them; K12's cue sheets come on top.
-pub const CALLS: usize = 41_600;
+/// Calls in the stored stream, the picked ones among them; K12's cue sheets and K13's
+/// shelves come on top.
+pub const CALLS: usize = 40_500;
+
+/// Drawn shelves come behind one scene in so many: most of those stored are picked.
+const SHELVES: usize = 150;
 
 pub fn stored_stream() -> Stream {
     let mut stream = Stream::new();
     picked::all(&mut stream);
     let mut rng = Rng::new(SEED);
-    random::fill(&mut stream, &mut rng, CALLS);
+    random::fill_with(&mut stream, &mut rng, CALLS, SHELVES);
     bad::end(&mut stream, &mut rng, SEED);
     stream
 }
@@ -41,6 +46,8 @@ pub fn files() -> Vec<File> {
     let expected = replay::run(&stream);
     let sheet = ninety_nine().bytes();
     let turned = cue::program(&sheet).expect("it has a table");
+    let shelf = stored_shelf();
+    let totals = counted(&shelf);
     let mut files = vec![
         ("crates/replay/stdin".into(), stream),
         ("crates/replay/stdout".into(), expected.into()),
@@ -51,6 +58,8 @@ pub fn files() -> Vec<File> {
         ("crates/cuefile/args".into(), "sheet\n".into()),
         ("crates/cuefile/data/sheet".into(), sheet),
         ("crates/cuefile/stdout".into(), turned),
+        ("crates/shelftotals/stdin".into(), shelf),
+        ("crates/shelftotals/stdout".into(), totals.into()),
     ];
     for (pair, rule) in each_rule().into_iter().zip(1..) {
         files.extend(pair.listed(&format!("second/listings/rule-{rule}")));

@@ -3,7 +3,8 @@
 //! plays, 42h and outside calls, by status (K2), how many 5Ah, by page control,
 //! and 55h, by outcome (K4), how many 4Ah, by class and by outcome, and presses
 //! under lock (K7), how many pairs of calls that may cancel (K8), how many calls are met
-//! by twin tables, by command (K10), and how many cue sheets, by outcome (K12).
+//! by twin tables, by command (K10), how many cue sheets, by outcome (K12), and what its
+//! shelves hold (K13).
 
 use std::fmt::Write;
 
@@ -12,7 +13,8 @@ use crate::cue;
 use crate::events::{is_event, EXTERNAL, MEDIA, NO_EVENT};
 use crate::mode_page::{PAGE, SETTINGS};
 use crate::play::STATUSES;
-use crate::replay::{self, take_record};
+use crate::replay::{self, take_record, SHELF_BYTES};
+use crate::shelf::{self, Item, Totals, FIT, TABLES, TRACKS, UNFIT};
 
 /// Of one rule: tables that a call was refused for, and those calls.
 #[derive(Clone, Copy, Debug, Default, PartialEq, Eq)]
@@ -189,7 +191,8 @@ pub fn modes(stream: &[u8]) -> Modes {
             break;
         };
         let words: Vec<&str> = line.split(' ').collect();
-        modes.unsound += usize::from(words[1] == "2" && !has_a_setting(&words, kind));
+        let refused = words[1] == "2" && kind != replay::SHELF;
+        modes.unsound += usize::from(refused && !has_a_setting(&words, kind));
         if kind == replay::PACKET && body.len() == 12 && [0x5A, 0x55].contains(&body[0]) {
             *modes.of(body, &words[1..3], &words[7..10].join("/")) += 1;
         }
@@ -258,8 +261,8 @@ pub fn events(stream: &[u8]) -> Events {
             break;
         };
         let words: Vec<&str> = line.split(' ').collect();
-        events.unsound +=
-            usize::from(words[1] == "2" && !event_in(&words, kind).is_some_and(is_event));
+        let refused = words[1] == "2" && kind != replay::SHELF;
+        events.unsound += usize::from(refused && !event_in(&words, kind).is_some_and(is_event));
         match (kind, body.first()) {
             (replay::BUTTON, _) if words[1] == "5" => {
                 let empty = usize::from(!words[2][1..].starts_with('1'));
@@ -570,7 +573,7 @@ pub fn sheets(stream: &[u8]) -> Sheets {
             continue;
         }
         let Some(line) = lines.next() else { break };
-        if let Some(words) = line.strip_prefix("t ") {
+        if let (replay::CUE_SHEET, Some(words)) = (kind, line.strip_prefix("t ")) {
             *sheets.of(words, body) += 1;
         }
     }
@@ -590,10 +593,65 @@ impl Sheets {
     }
 }
 
+/// What a stream has of K13: its shelves and what they hold.
+#[derive(Clone, Copy, Debug, Default, PartialEq, Eq)]
+pub struct Shelves {
+    pub streams: usize,
+    /// Tables of all of them, each counted from no totals.
+    pub tables: usize,
+    pub fit: usize,
+    /// Unfit ones, rule 1 first.
+    pub unfit: [usize; 7],
+    /// Tables cut off by the end, and whole ones over the bound; those over the bound and
+    /// cut off are among the former.
+    pub cut_off: usize,
+    pub over: usize,
+    /// Streams of which a total is too large.
+    pub too_large: usize,
+}
+
+/// The tables stand in a shelf's body, behind its totals; its line tells what became of
+/// these.
+pub fn shelves(stream: &[u8]) -> Shelves {
+    let lines = replay::run(stream);
+    let mut lines = lines.lines();
+    let (mut rest, mut shelves) = (stream, Shelves::default());
+    while let Ok((kind, body, after)) = take_record(rest) {
+        rest = after;
+        if !replay::is_call(kind) {
+            continue;
+        }
+        let Some(line) = lines.next().filter(|&line| line != "bad record") else {
+            break;
+        };
+        if kind == replay::SHELF {
+            shelves.streams += 1;
+            shelves.too_large += usize::from(line == "t too large");
+            shelves.count(&body[SHELF_BYTES..]);
+        }
+    }
+    shelves
+}
+
+impl Shelves {
+    fn count(&mut self, tables: &[u8]) {
+        for item in shelf::items(tables) {
+            let Totals(worth) = item.worth();
+            self.tables += worth[TABLES] as usize;
+            self.fit += worth[FIT] as usize;
+            for (unfit, more) in self.unfit.iter_mut().zip(&worth[UNFIT..TRACKS]) {
+                *unfit += *more as usize;
+            }
+            self.cut_off += usize::from(matches!(item, Item::CutOff { .. }));
+            self.over += usize::from(item == Item::Over);
+        }
+    }
+}
+
 /// A header and a line for each rule, then one and a line for each form, then
 /// K2's: plays and pauses, then a line for each status; then K4's two packets and
-/// K7's one, with the presses under lock; then K8's pairs and K10's twins; last K12's
-/// sheets.
+/// K7's one, with the presses under lock; then K8's pairs and K10's twins; then K12's
+/// sheets; last K13's shelves.
 pub fn print(stream: &[u8]) -> String {
     let mut out = "rule tables packets parts\n".to_string();
     for (met, rule) in of(stream).iter().zip(1..) {
@@ -621,6 +679,7 @@ pub fn print(stream: &[u8]) -> String {
     print_pairs(&mut out, &pairs(stream));
     print_twins(&mut out, &twins(stream));
     print_sheets(&mut out, &sheets(stream));
+    print_shelves(&mut out, &shelves(stream));
     out
 }
 
@@ -738,5 +797,21 @@ fn print_sheets(out: &mut String, sheets: &Sheets) {
     } = sheets;
     out.push_str("sheets written 12 13-not-described 13-no-fit-table 14\n");
     let line = format!("sheets {written} {lengths} {undescribed} {unfit} {memories}\n");
+    out.push_str(&line);
+}
+
+fn print_shelves(out: &mut String, shelves: &Shelves) {
+    let Shelves {
+        streams,
+        tables,
+        fit,
+        unfit,
+        cut_off,
+        over,
+        too_large,
+    } = shelves;
+    out.push_str("shelves streams tables fit 1 2 3 4 5 6 7 cut-off over-the-bound too-large\n");
+    let unfit = unfit.map(|count| count.to_string()).join(" ");
+    let line = format!("shelves {streams} {tables} {fit} {unfit} {cut_off} {over} {too_large}\n");
     out.push_str(&line);
 }

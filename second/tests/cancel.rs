@@ -1012,7 +1012,7 @@ fn lines_keep_the_laws() {
     }
     let [laid, lifted, packets, power_ons] = met;
     assert!(
-        laid > 60 && lifted > 60 && packets > 600 && power_ons > 100,
+        laid > 60 && lifted > 60 && packets > 600 && power_ons > 80,
         "{met:?}"
     );
 }

@@ -23,7 +23,12 @@ fn seen(lines: &str) -> (BTreeSet<String>, BTreeSet<String>) {
     let (mut kinds, mut told) = (BTreeSet::new(), BTreeSet::new());
     for line in lines.lines() {
         let words: Vec<&str> = line.split(' ').collect();
-        kinds.insert(words[..2].join(" "));
+        // A sheet's line has four words, a shelf's thirteen totals or none.
+        kinds.insert(match words[..] {
+            ["t", "too", "large"] => "t too".to_string(),
+            ["t", ..] if words.len() == 14 => "t totals".to_string(),
+            _ => words[..2].join(" "),
+        });
         if words[0] == "p" && words[2] == "02" {
             told.insert(words[7..10].join(" "));
         }
@@ -36,7 +41,7 @@ fn covers_all(lines: &str) {
     for kind in [
         "o 0", "q 0", "b 0", "b 2", "b 5", "d 0", "d 2", "d 6", "u 0", "u 2", "u 7", "p 0", "p 1",
         "p 2", "p 3", "a 0", "a 8", "c 0", "c 8", "s 0", "s 10", "m 0", "m 2", "t 0", "t 12",
-        "t 13", "t 14",
+        "t 13", "t 14", "t totals", "t too",
     ] {
         assert!(kinds.contains(kind), "{kind}");
     }
@@ -231,7 +236,7 @@ fn streams_meet_each_rule_often() {
                 packets,
                 parts,
             } = *met;
-            assert!(tables.min(packets).min(parts) > 100, "{rule} {met:?}");
+            assert!(tables.min(packets).min(parts) > 80, "{rule} {met:?}");
         }
     }
 }

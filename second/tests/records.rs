@@ -127,9 +127,10 @@ fn each_bad_record_ends_the_run() {
 
 /// K3: "kind 11 the second form", its body empty as kind 3's. K2: "kind 12, the
 /// outside call, body k (4 bytes)". K4: "kind 13, the parameter list lent from now
-/// on; prints nothing". K12: "kind 14, a cue sheet (the body)"; 15 is no kind yet.
+/// on; prints nothing". K12: "kind 14, a cue sheet (the body)". 15 to 23 are no kinds
+/// yet; K13's is 24, with thirteen totals before its tables.
 #[test]
-fn fourteen_is_the_last_kind() {
+fn kinds_are_0_to_14_and_24() {
     assert_eq!(run(&[3, 0, 0]), "o 0 00010 00 00 00 15 0 0 00 00 0\n");
     assert_eq!(run(&[11, 0, 0]), "q 0 00010 00 00 00 15 0 0 00 00 0\n");
     // At the start the play status is 00h: 2 refuses.
@@ -153,7 +154,13 @@ fn fourteen_is_the_last_kind() {
         record.resize(3 + usize::from(length), 1);
         assert_eq!(run(&record), "t 14 0 00000001\n");
     }
-    for unknown in 15..=255 {
+    for length in 0..=255 {
+        let mut record = vec![24, 0, length];
+        record.resize(3 + usize::from(length), 0);
+        let known = run(&record).starts_with("t ");
+        assert_eq!(known, length >= 104);
+    }
+    for unknown in (15..=255).filter(|&kind| kind != 24) {
         assert_eq!(run(&[unknown, 0, 0, 11, 0, 0]), "bad record\n");
         let body = [unknown, 0, 4, 0, 0, 0, 1];
         assert_eq!(run(&body), "bad record\n");
@@ -184,6 +191,7 @@ fn longest_sound_records() {
     stream.table(&[0; 8_191]);
     stream.list(&[0; 8_191]);
     stream.cue_sheet(&[0; 8_191]);
+    stream.record(24, &[0; 8_191]);
     stream.memory(8_191, 1);
     stream.packet(&[0; 8_191]);
     stream.packet(&[]);
@@ -191,7 +199,8 @@ fn longest_sound_records() {
     stream.list(&[]);
     stream.memory(0, 1);
     stream.cue_sheet(&[]);
-    assert_eq!(run(&stream.bytes).lines().count(), 4);
+    stream.record(24, &[0; 104]);
+    assert_eq!(run(&stream.bytes).lines().count(), 6);
 }
 
 #[test]

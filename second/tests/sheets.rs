@@ -1555,7 +1555,7 @@ fn tally_counts_sheets() {
     };
     assert_eq!(tally::sheets(&stream.bytes), due);
     let tail = "sheets written 12 13-not-described 13-no-fit-table 14\nsheets 2 2 1 2 1\n";
-    assert!(tally::print(&stream.bytes).ends_with(tail));
+    assert!(tally::print(&stream.bytes).contains(tail));
 }
 
 // ---- the program

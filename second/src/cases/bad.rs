@@ -8,11 +8,11 @@ use crate::rng::Rng;
 /// Records that end the run, each a bit of raw stream.
 pub fn bad_records() -> Vec<(&'static str, Vec<u8>)> {
     let mut list: Vec<(&'static str, Vec<u8>)> = Vec::new();
-    for kind in [15, 24, 100, 128, 255] {
+    for kind in [15, 23, 25, 128, 255] {
         list.push(("unknown kind", vec![kind, 0, 0]));
         list.push(("unknown kind with a body", vec![kind, 0, 1, 0]));
     }
-    for kind in [0, 1, 7, 10, 11, 12, 13, 14, 15] {
+    for kind in [0, 1, 7, 10, 11, 12, 13, 14, 15, 24] {
         list.push(("kind alone", vec![kind]));
         list.push(("half a length", vec![kind, 0]));
         list.push(("no body", vec![kind, 0, 1]));
@@ -24,7 +24,8 @@ pub fn bad_records() -> Vec<(&'static str, Vec<u8>)> {
     list.push(("packet cut off", vec![7, 0, 12, 0]));
     list.push(("list cut off", vec![13, 0, 16, 0, 0]));
     list.push(("sheet cut off", vec![14, 0, 8, 1, 0, 0]));
-    for kind in [1, 2, 7, 11, 12, 13, 14, 15] {
+    list.push(("shelf cut off", vec![24, 0, 104, 0, 0, 0]));
+    for kind in [1, 2, 7, 11, 12, 13, 14, 15, 24] {
         for length in [8_192u16, 8_193, 65_535] {
             let mut long = vec![kind];
             long.extend(length.to_be_bytes());
@@ -40,7 +41,7 @@ pub fn bad_records() -> Vec<(&'static str, Vec<u8>)> {
             list.push(("flag", wrong));
         }
     }
-    let unsuited: [(u8, &[usize]); 11] = [
+    let unsuited: [(u8, &[usize]); 12] = [
         (replay::STATE, &[0, 1, 7, 8, 9, 16, 17, 18, 19, 21]),
         (replay::MEMORY, &[0, 1, 2, 4]),
         (replay::POWER_ON, &[1, 8]),
@@ -52,6 +53,7 @@ pub fn bad_records() -> Vec<(&'static str, Vec<u8>)> {
         (replay::PART, &[0, 2]),
         (replay::POWER_ON_WITHOUT_CHANGE, &[1, 8]),
         (replay::MOVE_ON, &[0, 1, 3, 5, 8]),
+        (replay::SHELF, &[0, 1, 8, 96, 102, 103]),
     ];
     for (kind, lengths) in unsuited {
         for &length in lengths {
@@ -80,6 +82,7 @@ pub fn end(stream: &mut Stream, rng: &mut Rng, seed: u64) {
             "packet cut off",
             "list cut off",
             "sheet cut off",
+            "shelf cut off",
         ],
         5 => &["flag"],
         6 => &["body that does not suit"],

@@ -7,11 +7,12 @@ use crate::cases::draft;
 use crate::cases::packets::Packet;
 use crate::cases::pairs::{self, Pair};
 use crate::cases::sheet::{disc_e, two_sessions, Sheet};
+use crate::cases::shelf_files::stored_shelf;
 use crate::cases::stream::Stream;
 use crate::cases::{
     cue_files, mmc_sheets, mode_five, picked, picked_audio, picked_cancel, picked_codes,
     picked_cue, picked_cue_entries, picked_event, picked_fields, picked_mode, picked_power,
-    picked_state, picked_tables, picked_twins, random, several,
+    picked_shelf, picked_state, picked_tables, picked_twins, random, several, shelf_files,
 };
 use crate::cue;
 use crate::examples;
@@ -29,6 +30,9 @@ const PAIRS: u64 = 20;
 /// Files of cue sheets: three turns of the twenty shapes.
 const SHEETS: u64 = 60;
 
+/// Files of tables one after the other: two turns of the twenty shapes.
+const SHELVES: u64 = 40;
+
 enum Maker {
     /// Calls, from the very start of a run.
     Start(fn(&mut Stream)),
@@ -41,9 +45,11 @@ enum Maker {
     Pairs(fn() -> Vec<Pair>),
     /// Cue sheets for the program that turns a file into a table (K12).
     Sheets(fn() -> Vec<Vec<u8>>),
+    /// Tables one after the other for the program that counts a shelf (K13).
+    Shelves(fn() -> Vec<Vec<u8>>),
 }
 
-use Maker::{Calls, Packets, Pairs, Sheets, Start, Tables};
+use Maker::{Calls, Packets, Pairs, Sheets, Shelves, Start, Tables};
 
 /// A maker under the name of its file and function.
 macro_rules! named {
@@ -58,7 +64,7 @@ macro_rules! named {
     };
 }
 
-const MAKERS: [(&str, Maker); 171] = [
+const MAKERS: [(&str, Maker); 188] = [
     named!(Start, picked_state::from_nothing),
     named!(Calls, picked_state::attentions),
     named!(Calls, picked_state::senses),
@@ -197,6 +203,19 @@ const MAKERS: [(&str, Maker); 171] = [
     named!(Calls, picked_cue_entries::starts_rise),
     named!(Calls, picked_cue_entries::lead_out_behind),
     named!(Calls, mmc_sheets::mmc_samples),
+    named!(Calls, picked_shelf::shelf_ends),
+    named!(Calls, picked_shelf::cut_off_anywhere),
+    named!(Calls, picked_shelf::data_lengths),
+    named!(Calls, picked_shelf::over_the_bound),
+    named!(Calls, picked_shelf::longest_table),
+    named!(Calls, picked_shelf::unfit_by_rule),
+    named!(Calls, picked_shelf::every_kind),
+    named!(Calls, picked_shelf::two_streams),
+    named!(Calls, picked_shelf::totals_at_the_top),
+    named!(Calls, picked_shelf::many_past_the_top),
+    named!(Calls, picked_shelf::too_large_in_the_middle),
+    named!(Calls, picked_shelf::totals_in_order),
+    named!(Calls, picked_shelf::shelf_moves_nothing),
     named!(random::fill, Calls(drawn)),
     named!(
         random::trace_scene,
@@ -231,6 +250,10 @@ const MAKERS: [(&str, Maker); 171] = [
         Calls(|stream| scenes(stream, random::sheet_scene))
     ),
     named!(
+        random::shelf_scene,
+        Calls(|stream| scenes(stream, random::shelf_scene))
+    ),
+    named!(
         random::broken_scene,
         Calls(|stream| scenes(stream, random::broken_scene))
     ),
@@ -263,6 +286,9 @@ const MAKERS: [(&str, Maker); 171] = [
         Sheets(|| vec![ninety_nine().bytes()])
     ),
     named!(cue_files::file, Sheets(sixty)),
+    named!(examples::shelf, Shelves(|| vec![examples::shelf()])),
+    named!(shelf_files::stored_shelf, Shelves(|| vec![stored_shelf()])),
+    named!(shelf_files::file, Shelves(forty)),
 ];
 
 fn drawn(stream: &mut Stream) {
@@ -301,8 +327,15 @@ fn sixty() -> Vec<Vec<u8>> {
         .collect()
 }
 
+fn forty() -> Vec<Vec<u8>> {
+    (0..SHELVES)
+        .map(|number| shelf_files::file(SEED, number))
+        .collect()
+}
+
 /// What the maker of this name makes: `stream`, or `NNNN.table` and
-/// `NNNN.packets` for each pair, or `NNNN.cue` for each sheet.
+/// `NNNN.packets` for each pair, or `NNNN.cue` for each sheet, or `NNNN.tables` for each
+/// shelf.
 pub fn made(name: &str) -> Option<Vec<File>> {
     let (_, maker) = MAKERS.iter().find(|(one, _)| *one == name)?;
     Some(match *maker {
@@ -318,11 +351,17 @@ pub fn made(name: &str) -> Option<Vec<File>> {
             packets: packets().concat(),
         }]),
         Pairs(pairs) => files_of(pairs()),
-        Sheets(sheets) => (0..)
-            .zip(sheets())
-            .map(|(i, sheet)| (format!("{i:04}.cue"), sheet))
-            .collect(),
+        Sheets(sheets) => numbered(sheets(), "cue"),
+        Shelves(shelves) => numbered(shelves(), "tables"),
     })
+}
+
+/// Files under their numbers.
+fn numbered(files: Vec<Vec<u8>>, end: &str) -> Vec<File> {
+    let files = (0..).zip(files);
+    files
+        .map(|(i, bytes)| (format!("{i:04}.{end}"), bytes))
+        .collect()
 }
 
 /// Some makers take over memory and table from the one before them.

@@ -3,8 +3,8 @@
 use crate::cases::stream::Stream;
 use crate::cases::{
     mmc_sheets, picked_audio, picked_cancel, picked_codes, picked_cue, picked_cue_entries,
-    picked_event, picked_fields, picked_mode, picked_power, picked_state, picked_tables,
-    picked_twins,
+    picked_event, picked_fields, picked_mode, picked_power, picked_shelf, picked_state,
+    picked_tables, picked_twins,
 };
 
 /// Every hand-picked case, from the very start of a run.
@@ -147,6 +147,19 @@ pub fn all(stream: &mut Stream) {
     picked_cue_entries::starts_rise(stream);
     picked_cue_entries::lead_out_behind(stream);
     mmc_sheets::mmc_samples(stream);
+    picked_shelf::shelf_ends(stream);
+    picked_shelf::cut_off_anywhere(stream);
+    picked_shelf::data_lengths(stream);
+    picked_shelf::over_the_bound(stream);
+    picked_shelf::longest_table(stream);
+    picked_shelf::unfit_by_rule(stream);
+    picked_shelf::every_kind(stream);
+    picked_shelf::two_streams(stream);
+    picked_shelf::totals_at_the_top(stream);
+    picked_shelf::many_past_the_top(stream);
+    picked_shelf::too_large_in_the_middle(stream);
+    picked_shelf::totals_in_order(stream);
+    picked_shelf::shelf_moves_nothing(stream);
 }
 
 /// Kinds 8 and 9 at all boundaries.

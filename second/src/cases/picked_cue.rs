@@ -152,7 +152,7 @@ pub fn long_sheets(stream: &mut Stream) {
 }
 
 /// The drive with something in every part of its state, locked.
-fn full() -> State {
+pub fn full() -> State {
     State {
         lock: true,
         power: true,

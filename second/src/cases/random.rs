@@ -10,6 +10,7 @@ use crate::cases::packets::{
 use crate::cases::picked_power::FORMS;
 use crate::cases::picked_state::{strangers, MEMORY};
 use crate::cases::sheet::{any_fit, fit, longest, small_fit, Sheet};
+use crate::cases::shelf_stream::{any_shelf, any_totals};
 use crate::cases::spoil::{any_broken, spoil};
 use crate::cases::stream::Stream;
 use crate::cases::twin_tables::{is_format_2, one_session, twin_of};
@@ -23,15 +24,24 @@ use crate::rng::Rng;
 use crate::sense::{self, Sense, TRIPLES};
 use crate::table::{self, Mode};
 
-/// Adds scenes until the stream has at least this many calls, not counting cue sheets.
-/// Those (K12) are drawn apart and come on top: the other scenes are what they would be
-/// without them.
+/// Adds scenes until the stream has at least this many calls, not counting cue sheets and
+/// shelves. Those (K12, K13) are drawn apart and come on top: the other scenes are what they
+/// would be without them.
 pub fn fill(stream: &mut Stream, rng: &mut Rng, calls: usize) {
+    fill_with(stream, rng, calls, 16);
+}
+
+/// The same, with shelves behind one scene in so many.
+pub fn fill_with(stream: &mut Stream, rng: &mut Rng, calls: usize, shelves: usize) {
     let mut apart = Rng::new(rng.clone().word());
-    while stream.calls - stream.sheets < calls {
+    let mut farther = Rng::new(apart.clone().word());
+    while stream.calls - stream.sheets - stream.shelves < calls {
         scene(stream, rng);
         if apart.one_in(16) {
             sheet_scene(stream, &mut apart);
+        }
+        if farther.one_in(shelves) {
+            shelf_scene(stream, &mut farther);
         }
     }
 }
@@ -787,6 +797,16 @@ pub fn sheet_scene(stream: &mut Stream, rng: &mut Rng) {
             stream.state(loaded_state(rng, &marks));
             stream.packet(&told_packet(rng, &marks));
         }
+    }
+}
+
+/// Shelves (K13): a few tables each, from no totals, from some, and up to the end of 64
+/// bits.
+pub fn shelf_scene(stream: &mut Stream, rng: &mut Rng) {
+    for _ in 0..rng.range(12, 40) {
+        let tables = any_shelf(rng);
+        let totals = any_totals(rng, &tables);
+        stream.shelf(totals, &tables);
     }
 }
 

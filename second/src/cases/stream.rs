@@ -2,6 +2,7 @@
 
 use crate::drive::State;
 use crate::replay;
+use crate::shelf::Totals;
 
 #[derive(Default)]
 pub struct Stream {
@@ -9,6 +10,8 @@ pub struct Stream {
     pub calls: usize,
     /// The cue sheets (K12) among them.
     pub sheets: usize,
+    /// The shelves (K13) among them.
+    pub shelves: usize,
 }
 
 impl Stream {
@@ -23,6 +26,7 @@ impl Stream {
         self.bytes.extend(body);
         self.calls += usize::from(replay::is_call(kind));
         self.sheets += usize::from(kind == replay::CUE_SHEET);
+        self.shelves += usize::from(kind == replay::SHELF);
     }
 
     /// The records of another stream, behind these.
@@ -30,6 +34,7 @@ impl Stream {
         self.bytes.extend(&other.bytes);
         self.calls += other.calls;
         self.sheets += other.sheets;
+        self.shelves += other.shelves;
     }
 
     pub fn state(&mut self, state: State) {
@@ -114,5 +119,11 @@ impl Stream {
     /// K12's cue sheet.
     pub fn cue_sheet(&mut self, sheet: &[u8]) {
         self.record(replay::CUE_SHEET, sheet);
+    }
+
+    /// K13's tables, counted on top of these totals.
+    pub fn shelf(&mut self, from: Totals, tables: &[u8]) {
+        let totals = from.0.map(u64::to_be_bytes);
+        self.record(replay::SHELF, &[totals.as_flattened(), tables].concat());
     }
 }
