@@ -59,10 +59,7 @@ fn run(words: &[&str]) -> io::Result<ExitCode> {
         },
         ["shelf"] => match shelf::program(&mut io::stdin().lock()) {
             Ok(lines) => print(lines.as_bytes())?,
-            Err(error) => {
-                eprintln!("standard input cannot be read: {error}");
-                return Ok(ExitCode::from(1));
-            }
+            Err(error) => return Ok(unreadable(&error)),
         },
         ["make-replay", seed, calls] => {
             let stream = bad::random_stream(number(seed)?, number(calls)? as usize);
@@ -124,6 +121,12 @@ fn print(bytes: &[u8]) -> io::Result<()> {
     let mut out = io::stdout().lock();
     out.write_all(bytes)?;
     out.flush()
+}
+
+/// The line of a read error, and the status that goes with it.
+fn unreadable(error: &io::Error) -> ExitCode {
+    eprintln!("standard input cannot be read: {error}");
+    ExitCode::from(1)
 }
 
 fn problem(what: &str, word: &str) -> io::Error {

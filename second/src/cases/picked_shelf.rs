@@ -4,7 +4,7 @@
 use crate::cases::breaks::breaks;
 use crate::cases::draft::t134;
 use crate::cases::packets::{
-    capacity, event_status, inquiry, mode_sense, page_list, position, prevent, read10,
+    capacity, event_status, inquiry, mode_select, mode_sense, page_list, position, prevent, read10,
     request_sense, start_stop, test_ready, toc, EJECT,
 };
 use crate::cases::picked_cue::full;
@@ -384,6 +384,7 @@ pub fn shelf_moves_nothing(stream: &mut Stream) {
             test_ready(),
             test_ready(),
             position(false),
+            mode_select(16),
             mode_sense(0, 1, 16),
             capacity(),
             toc(false, 0, 0, 804),
