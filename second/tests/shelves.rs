@@ -87,7 +87,7 @@ fn plain_rule_4(rows: &[&[u8]], sessions: u8) -> bool {
 /// The first rule that a table breaks, or 0.
 fn plain_rule(table: &[u8]) -> usize {
     let length = table.len();
-    if !(4..=6_538).contains(&length) || (length - 4) % 11 != 0 {
+    if !(4..=6_538).contains(&length) || !(length - 4).is_multiple_of(11) {
         return 1;
     }
     if usize::from(table[0]) * 256 + usize::from(table[1]) + 2 != length {

@@ -187,8 +187,8 @@ pub fn any_totals(rng: &mut Rng, stream: &[u8]) -> Totals {
     }
     let line = rng.pick(&moved);
     match rng.below(4) {
-        0 => from[line] = to_the_top[line],
-        1 | 2 => from[line] = to_the_top[line].saturating_add(1),
+        0 | 1 => from[line] = to_the_top[line],
+        2 => from[line] = to_the_top[line].saturating_add(1),
         _ => {}
     }
     Totals(from)
