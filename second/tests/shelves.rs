@@ -152,20 +152,20 @@ fn plain_rule(table: &[u8]) -> usize {
     0
 }
 
-/// Every block from 0 on by itself: 0 for none, 1 for data, 2 for audio. Of the tracks of
-/// all sessions, in order, the later one has it; none has it from the lead-out on.
-fn painted(table: &[u8]) -> Vec<u8> {
-    let (mut blocks, mut out) = (Vec::new(), 0);
+/// Where each track of a fit table starts and whether it is data, and all borders: the
+/// tracks' starts and the lead-outs. The last border is L.
+fn marks(table: &[u8]) -> (Vec<(usize, bool)>, BTreeSet<usize>) {
+    let (mut tracks, mut borders) = (Vec::new(), BTreeSet::new());
     for row in table[4..].chunks(11) {
         let start = frames(&row[8..]).unwrap_or(0);
-        if row[3] == 0xA2 {
-            out = start;
-            blocks.resize(out, 0);
-        } else if row[3] < 0xA0 {
-            blocks[start..out].fill(if row[1] % 8 >= 4 { 1 } else { 2 });
+        if row[3] < 0xA0 {
+            tracks.push((start, row[1] % 8 >= 4));
+        }
+        if row[3] < 0xA0 || row[3] == 0xA2 {
+            borders.insert(start);
         }
     }
-    blocks
+    (tracks, borders)
 }
 
 /// The thirteen numbers of one table.
@@ -181,12 +181,14 @@ fn plain_worth(table: Option<&[u8]>) -> [u64; 13] {
     worth[1] = 1;
     let points = table[4..].chunks(11).map(|row| row[3]);
     worth[9] = points.filter(|&point| point < 0xA0).count() as u64;
-    for block in painted(table) {
-        worth[match block {
-            0 => 12,
-            1 => 10,
-            _ => 11,
-        }] += 1;
+    // A track has what lies below the next border; what is left of L is nobody's.
+    let (tracks, borders) = marks(table);
+    worth[12] = *borders.last().expect("there is a lead-out") as u64;
+    for (start, is_data) in tracks {
+        let end = borders.range(start + 1..).next().expect("a lead-out");
+        let blocks = (end - start) as u64;
+        worth[if is_data { 10 } else { 11 }] += blocks;
+        worth[12] -= blocks;
     }
     worth
 }
@@ -585,8 +587,24 @@ fn the_longest_table() {
 
 // ---- drawn streams
 
-/// Every table that the makers have, block by block with the program's own track of a
-/// block.
+/// Every block from 0 on by itself: 0 for none, 1 for data, 2 for audio. Of the tracks of
+/// all sessions, in order, the later one has it; none has it from the lead-out on.
+fn painted(table: &[u8]) -> Vec<u8> {
+    let (mut blocks, mut out) = (Vec::new(), 0);
+    for row in table[4..].chunks(11) {
+        let start = frames(&row[8..]).unwrap_or(0);
+        if row[3] == 0xA2 {
+            out = start;
+            blocks.resize(out, 0);
+        } else if row[3] < 0xA0 {
+            blocks[start..out].fill(if row[1] % 8 >= 4 { 1 } else { 2 });
+        }
+    }
+    blocks
+}
+
+/// Block by block, with the program's own track of a block and with tracks painted over one
+/// another.
 #[test]
 fn block_by_block() {
     let by_block = |table: &[u8]| {
@@ -620,6 +638,9 @@ fn block_by_block() {
     for sheet in sheets {
         let found = held(&sheet.bytes());
         assert_eq!(found[10..], by_block(&sheet.bytes()));
+        let blocks = painted(&sheet.bytes());
+        let of = |kind: u8| blocks.iter().filter(|&&block| block == kind).count() as u64;
+        assert_eq!(found[10..], [of(1), of(2), of(0)]);
     }
 }
 
@@ -1059,13 +1080,17 @@ fn facts_of_disc(table: &[u8]) -> Vec<String> {
         has(11),
         has(12)
     ));
-    let blocks = painted(table);
-    facts.push(format!("first block {}", blocks[0]));
-    let runs: Vec<&[u8]> = blocks.chunk_by(|a, b| a == b).collect();
-    if runs.iter().skip(1).any(|run| run[0] == 0) {
+    let (tracks, borders) = marks(table);
+    facts.push(match tracks[0] {
+        (0, true) => "begins with data".to_string(),
+        (0, false) => "begins with audio".to_string(),
+        _ => "begins with a gap".to_string(),
+    });
+    // Rule 7: the next session's first track is after the lead-out, not at it.
+    if table[3] > 1 {
         facts.push("a gap between sessions".to_string());
     }
-    facts.push(format!("L {}", blocks.len()));
+    facts.push(format!("L {}", borders.last().expect("a lead-out")));
     facts
 }
 
@@ -1093,9 +1118,9 @@ fn often() -> Vec<String> {
         "data true, audio true, none true",
         "data false, audio true, none true",
         "data true, audio false, none true",
-        "first block 0",
-        "first block 1",
-        "first block 2",
+        "begins with data",
+        "begins with audio",
+        "begins with a gap",
         "a gap between sessions",
     ]
     .map(String::from)
@@ -1445,7 +1470,7 @@ fn stored_run_of_the_program() {
         "data false, audio true, none false",
         "data true, audio true, none false",
         "data true, audio true, none true",
-        "first block 0",
+        "begins with a gap",
         "a gap between sessions",
         "L 449849",
     ]
