@@ -426,9 +426,9 @@ unfoldable pub leftBy : Passed → ℕ → ℕ
 leftBy (On a used) n = n - used
 leftBy Over n = 0
 
-pub leftBy-on : {r : Passed} {a : Totals} {used : ℕ} (n : ℕ) → r ≡ On a used → leftBy r n ≡ n - used
+pub leftBy-on : (a : Totals) (used n : ℕ) → leftBy (On a used) n ≡ n - used
 unfolding leftBy
-leftBy-on n e = rw e
+leftBy-on a used n = refl
 
 leftBy-over : (n : ℕ) → leftBy Over n ≡ 0
 unfolding leftBy
@@ -439,7 +439,7 @@ pub passed-left : (a : Totals) (s : List ℕ) → ((i : ℕ) → getD s i 0 < 25
 unfolding passed passedTo
 passed-left a s h =
     either (λ (r : Passed). leftBy r (length s) ≤ 65536) (within (sum a (totalsOf (wholes s))))
-    (λ w. let e = leftBy-on (length s) refl in
+    (λ w. let e = leftBy-on (sum a (totalsOf (wholes s))) (length s - length (rest s)) (length s) in
     let l = rest-length s in
     let t = rest-short s in
     let p : getD (rest s) 0 0 < 256 = byte 0 in
