@@ -12,10 +12,14 @@ unfoldable pub markAt : ℕ → ℕ → List ℕ
 markAt mark zero = []
 markAt mark (suc i) = mark ∷ []
 
+-- that, and the number's digits
+abbrev pub nextAt : ℕ → ℕ → ℕ → List ℕ
+nextAt mark i n = markAt mark i next decimal n
+
 -- the first i of the numbers
 unfoldable pub joinedTo : ℕ → List ℕ → ℕ → List ℕ
 joinedTo mark s zero = []
-joinedTo mark s (suc i) = joinedTo mark s i next markAt mark i next decimal (getD s i 0)
+joinedTo mark s (suc i) = joinedTo mark s i next nextAt mark i (getD s i 0)
 
 -- all of them
 abbrev pub joined : ℕ → List ℕ → List ℕ
@@ -36,6 +40,6 @@ pub joined-none : (mark : ℕ) (s : List ℕ) → joinedTo mark s 0 ≡ []
 unfolding joinedTo
 joined-none mark s = refl
 
-pub joined-next : (mark : ℕ) (s : List ℕ) (i : ℕ) → joinedTo mark s (i + 1) ≡ joinedTo mark s i next markAt mark i next decimal (getD s i 0)
+pub joined-next : (mark : ℕ) (s : List ℕ) (i : ℕ) → joinedTo mark s (i + 1) ≡ joinedTo mark s i next nextAt mark i (getD s i 0)
 unfolding joinedTo
 joined-next mark s i = rw add-one

@@ -2,7 +2,7 @@
 use crate::decimal::put_decimal;
 use ground::memory::copy_front;
 ghost use Rattle.ground.specs.Memory.{Laid};
-ghost use Rattle.print.specs.Numbers.{markAt, joined};
+ghost use Rattle.print.specs.Numbers.{markAt, nextAt, joined};
 
 // The mark before the number after i others: none before the first.
 fn put_mark(i: usize, mark: u8, out: &mut [u8]) -> usize
@@ -15,6 +15,15 @@ fn put_mark(i: usize, mark: u8, out: &mut [u8]) -> usize
     copy_front(&one, out)
 }
 
+// The number after i others, and the mark before it.
+fn put_next(i: usize, mark: u8, n: usize, out: &mut [u8]) -> usize
+    ensures { λ r. ⌜ Laid (now (out .entry)) (nextAt mark i n) r (now (out .exit)) ⌝ }
+{
+    let mut at = put_mark(i, mark, out);
+    at += put_decimal(n, &mut out[at..]);
+    at
+}
+
 // The numbers' digits, with the mark between each two.
 pub fn put_joined(numbers: &[u64], mark: u8, out: &mut [u8]) -> usize
     ensures { λ r. ⌜ Laid (now (out .entry)) (joined mark (now (numbers .entry))) r (now (out .exit)) ⌝ }
@@ -22,8 +31,7 @@ pub fn put_joined(numbers: &[u64], mark: u8, out: &mut [u8]) -> usize
     let mut at = 0;
     let mut i = 0;
     while i < numbers.len() {
-        at += put_mark(i, mark, &mut out[at..]);
-        at += put_decimal(numbers[i] as usize, &mut out[at..]);
+        at += put_next(i, mark, numbers[i] as usize, &mut out[at..]);
         i += 1;
     }
     at

@@ -414,8 +414,7 @@ module _ {t : List ℕ} (f : Fit t) {k at out ofData ofNone : ℕ} (c : Counted 
   -- all of them
   pub counted-all : lastSession t ≤ k → (ofData ≡ blocksIn (isMode Data) t) × (ofNone ≡ blocksIn isNone t)
   counted-all l =
-      let e = walked-all (c .walked) l in
-      (
+      let e = walked-all (c .walked) l in (
         c .dataBlocks ∙ ap (λ (x : ℕ). sumBelow x (λ j. modeBlocks Data (session (descriptors t) j))) e ∙ sym (fit-mode f Data),
         c .noneBlocks ∙ ap (λ (x : ℕ). sumBelow x (gapBefore (descriptors t))) e ∙ sym (fit-none f),
       )

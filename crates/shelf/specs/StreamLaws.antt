@@ -203,11 +203,10 @@ rest-end-in (suc n) s h = elim (decLe (tableLength s) (length s)) [
       let a = r .0 in
       let e : tableLength s + (length (drop (tableLength s) s) - length (rest (drop (tableLength s) s)))
       ≡ length s - length (rest (drop (tableLength s) s)) = omega arith in
-      rw (rest-next s g)
-      (
+      rw (rest-next s g) (
         omega arith,
         ap (λ (x : ℕ). drop x s) (sym e)
-        ∙ sym (drop-drop (length (drop (tableLength s) s) - length (rest (drop (tableLength s) s))) (tableLength s) s) ∙ r .1,
+            ∙ sym (drop-drop (length (drop (tableLength s) s) - length (rest (drop (tableLength s) s))) (tableLength s) s) ∙ r .1,
       ))
   | no g ↦ rest-here s (lt-of-not-le g)
 ]

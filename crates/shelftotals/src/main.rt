@@ -1,11 +1,16 @@
 // Counts the tables that standard input holds, and prints what they come to.
 mod line;
+mod progress;
 
 use libc::STDERR_FILENO;
 use libc::STDIN_FILENO;
 use libc::STDOUT_FILENO;
 use line::put_told;
 use print::front::front;
+use progress::Progress;
+use progress::begin;
+use progress::end;
+use progress::go_on;
 use shelf::stream::Passed;
 use shelf::stream::count_all;
 use shelf::stream::count_whole;
@@ -13,8 +18,11 @@ use shelf::stream::keep_rest;
 use shelf::totals::Counted;
 use shelf::totals::Totals;
 use shelf::totals::nothing;
+ghost use Prim.Native.Nat.{_+_, _≤_, _<_};
+ghost use lib.ListN.{length};
+ghost use Rattle.shelftotals.specs.Turn.{heldBy};
 
-// The bytes that are held at once. The longest table has 65,537, so a read always finds room.
+// The bytes that are held at once. The longest table has 65,537, and what is left of a table has fewer, so a read always finds room.
 const ROOM: usize = 131072;
 
 // Prints the totals, or that one of them is too large.
@@ -26,29 +34,86 @@ fn tell(counted: Counted) {
     }
 }
 
-// Reads and counts, a piece at a time, until the input ends.
-fn run(room: &mut [u8]) {
+// No more is read: prints what all comes to, the last table perhaps cut off; or why it cannot be read.
+fn finish(progress: Progress, failed: bool, totals: Totals, left: &[u8]) {
+    end(progress);
+    if failed {
+        os::fail(b"standard input");
+        return;
+    }
+    tell(count_all(totals, left));
+}
+
+// How many bytes a read gave, and whether it failed.
+struct Piece {
+    count: usize,
+    failed: bool,
+}
+
+// One read, behind the first `have` bytes of the room. There is room, so no byte read is the end of the input.
+fn read_behind(room: &mut [u8], have: usize) -> Piece
+    requires { ⌜ have < length (now room) ⌝ }
+    ensures { λ r. ⌜ have + r .count ≤ length (now (room .exit)) ⌝ }
+{
+    let got = libc::read(STDIN_FILENO, &mut room[have..]);
+    if got < 0 {
+        return Piece {
+            count: 0,
+            failed: true,
+        };
+    }
+    Piece {
+        count: io::count(got, &room[have..]),
+        failed: false,
+    }
+}
+
+// The totals, and how many bytes of a table that is not whole yet stand in the room; or a total is too large.
+enum Turn {
+    On { totals: Totals, have: usize },
+    Over,
+}
+
+// Counts the whole tables among the first `end` bytes of the room, and keeps what is left of them in front.
+fn take_in(totals: Totals, room: &mut [u8], end: usize) -> Turn
+    requires { ⌜ end ≤ length (now room) ⌝ }
+    ensures { λ r. ⌜ heldBy r ≤ 65536 ⌝ }
+{
+    match count_whole(totals, &room[..end]) {
+        Passed::On { totals, used } => Turn::On {
+            totals,
+            have: keep_rest(room, used, end),
+        },
+        Passed::Over => Turn::Over,
+    }
+}
+
+// Reads and counts, a piece at a time, until the input ends. A proved loop has to end, and nothing says that the input does: so it counts its
+// turns down, from a number that no run uses up.
+fn run(room: &mut [u8])
+    requires { ⌜ 65536 < length (now room) ⌝ }
+{
     let mut totals = nothing();
     let mut have = 0;
+    let mut progress = begin();
     let mut turns = u64::MAX;
     while turns > 0 {
-        let got = libc::read(STDIN_FILENO, &mut room[have..]);
-        if got < 0 {
-            os::fail(b"standard input");
+        let piece = read_behind(room, have);
+        if piece.count == 0 {
+            finish(progress, piece.failed, totals, front(room, have));
             return;
         }
-        let more = io::count(got, &room[have..]);
-        if more == 0 {
-            tell(count_all(totals, &room[..have]));
-            return;
-        }
-        have += more;
-        match count_whole(totals, &room[..have]) {
-            Passed::On { totals: so_far, used } => {
+        progress = go_on(progress, piece.count);
+        match take_in(totals, room, have + piece.count) {
+            Turn::On {
+                totals: so_far,
+                have: left,
+            } => {
                 totals = so_far;
-                have = keep_rest(room, used, have);
+                have = left;
             }
-            Passed::Over => {
+            Turn::Over => {
+                end(progress);
                 tell(Counted::TooLarge);
                 return;
             }
@@ -58,6 +123,10 @@ fn run(room: &mut [u8]) {
 }
 
 fn main() {
+    if os::arg_count() != 1 {
+        io::write_all(STDERR_FILENO, b"usage: shelftotals <TABLES\n");
+        return;
+    }
     let mut room = [0u8; ROOM];
     run(&mut room);
 }

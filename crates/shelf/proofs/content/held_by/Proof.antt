@@ -70,12 +70,11 @@ data-of-requires c κs =
     rw (part (c .before .before .before .before .before .before .before .args .t .now) (c .before .before .before .loop .at))
     (let s = here (c .before .before) in
     let o = s .order in
-    let l = s .fits in
-    (
+    let l = s .fits in (
       o,
       omega arith,
       counted-rises (c .before .before .before .before .before .before .before .pre) (c .before .before .before .loop .inv)
-      (c .before .before .loop-test .taken),
+          (c .before .before .loop-test .taken),
     ))
 
 add-of-data : tie.Need-add-of-data Inv-loop μ-loop
