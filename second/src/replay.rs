@@ -275,14 +275,14 @@ impl Bench {
         self.line(format!("t {number} {length} {:08X}", adler32(&self.memory)));
     }
 
-    /// K13: the tables of a stream counted on top of these totals, the line `t` and the
-    /// thirteen, or `t too large`.
+    /// K13: the tables of a stream counted on top of these totals, the line `h` and the
+    /// thirteen, or `h too large`.
     fn shelf(&mut self, from: Totals, tables: &[u8]) {
         let text = match shelf::count(from, tables) {
             Ok(Totals(totals)) => totals.map(|total| total.to_string()).join(" "),
             Err(TooLarge) => "too large".to_string(),
         };
-        self.line(format!("t {text}"));
+        self.line(format!("h {text}"));
     }
 
     fn packet(&mut self, packet: &[u8]) {

@@ -626,7 +626,7 @@ pub fn shelves(stream: &[u8]) -> Shelves {
         };
         if kind == replay::SHELF {
             shelves.streams += 1;
-            shelves.too_large += usize::from(line == "t too large");
+            shelves.too_large += usize::from(line == "h too large");
             shelves.count(&body[SHELF_BYTES..]);
         }
     }

@@ -23,10 +23,10 @@ fn seen(lines: &str) -> (BTreeSet<String>, BTreeSet<String>) {
     let (mut kinds, mut told) = (BTreeSet::new(), BTreeSet::new());
     for line in lines.lines() {
         let words: Vec<&str> = line.split(' ').collect();
-        // A sheet's line has four words, a shelf's thirteen totals or none.
+        // A shelf's line has thirteen totals or none.
         kinds.insert(match words[..] {
-            ["t", "too", "large"] => "t too".to_string(),
-            ["t", ..] if words.len() == 14 => "t totals".to_string(),
+            ["h", "too", "large"] => "h too".to_string(),
+            ["h", ..] => "h totals".to_string(),
             _ => words[..2].join(" "),
         });
         if words[0] == "p" && words[2] == "02" {
@@ -41,7 +41,7 @@ fn covers_all(lines: &str) {
     for kind in [
         "o 0", "q 0", "b 0", "b 2", "b 5", "d 0", "d 2", "d 6", "u 0", "u 2", "u 7", "p 0", "p 1",
         "p 2", "p 3", "a 0", "a 8", "c 0", "c 8", "s 0", "s 10", "m 0", "m 2", "t 0", "t 12",
-        "t 13", "t 14", "t totals", "t too",
+        "t 13", "t 14", "h totals", "h too",
     ] {
         assert!(kinds.contains(kind), "{kind}");
     }

@@ -157,7 +157,7 @@ fn kinds_are_0_to_14_and_24() {
     for length in 0..=255 {
         let mut record = vec![24, 0, length];
         record.resize(3 + usize::from(length), 0);
-        let known = run(&record).starts_with("t ");
+        let known = run(&record).starts_with("h ");
         assert_eq!(known, length >= 104);
     }
     for unknown in (15..=255).filter(|&kind| kind != 24) {

@@ -886,11 +886,11 @@ fn lines_of_shelves() {
     stream.shelf(Totals([u64::MAX; 13]), &[]);
     stream.shelf(Totals([u64::MAX; 13]), &[0]);
     assert_eq!((stream.calls, stream.shelves), (5, 5));
-    let due = "t 0 0 0 0 0 0 0 0 0 0 0 0 0\n\
-               t 3 1 1 0 0 1 0 0 0 3 130 40 37\n\
-               t 2 3 3 4 5 6 7 8 9 12 161 162 13\n";
+    let due = "h 0 0 0 0 0 0 0 0 0 0 0 0 0\n\
+               h 3 1 1 0 0 1 0 0 0 3 130 40 37\n\
+               h 2 3 3 4 5 6 7 8 9 12 161 162 13\n";
     let top = ["18446744073709551615"; 13].join(" ");
-    let due = format!("{due}t {top}\nt too large\n");
+    let due = format!("{due}h {top}\nh too large\n");
     assert_eq!(replay::run(&stream.bytes), due);
     for length in 0..=110u8 {
         let mut record = vec![24, 0, length];
@@ -904,7 +904,7 @@ fn lines_of_shelves() {
         record[3 + at] = 1;
         let mut totals = ["0"; 13].map(String::from);
         totals[at / 8] = (1u64 << (8 * (7 - at % 8))).to_string();
-        assert_eq!(replay::run(&record), format!("t {}\n", totals.join(" ")));
+        assert_eq!(replay::run(&record), format!("h {}\n", totals.join(" ")));
     }
     // As long as a body may be, and one more.
     let long = |length: usize| {
@@ -913,7 +913,7 @@ fn lines_of_shelves() {
         record.resize(3 + length, 0);
         replay::run(&record)
     };
-    assert!(long(8_191).starts_with("t 4044 0 4044 0 "));
+    assert!(long(8_191).starts_with("h 4044 0 4044 0 "));
     assert_eq!(long(8_192), "bad record\n");
 }
 
@@ -939,10 +939,7 @@ fn a_shelf_moves_nothing() {
             added += 1;
         }
         let (plain, mixed) = (replay::run(&stream), replay::run(&with.bytes));
-        let is_no_shelf = |line: &&str| {
-            let words = line.split(' ').count();
-            !line.starts_with("t ") || words == 4
-        };
+        let is_no_shelf = |line: &&str| !line.starts_with("h ");
         let plain: Vec<&str> = plain.lines().filter(is_no_shelf).collect();
         let mixed: Vec<&str> = mixed.lines().filter(is_no_shelf).collect();
         assert!(plain.len() >= 3_000 && added >= plain.len());
@@ -963,7 +960,7 @@ fn a_shelf_moves_nothing() {
     }
     let lines = replay::run(&stream.bytes);
     let lines: Vec<&str> = lines.lines().collect();
-    assert_eq!(lines[0], "t 2 1 1 0 0 0 0 0 0 5 1100 500 11400");
+    assert_eq!(lines[0], "h 2 1 1 0 0 0 0 0 0 5 1100 500 11400");
     assert_eq!((lines[0], lines[2]), (lines[3], lines[5]));
     assert!(lines[2].contains(" 0000012B00000800 "));
 }
@@ -991,7 +988,7 @@ fn facts(stream: &[u8]) -> BTreeSet<String> {
             Some(totals) => totals.map(|total| total.to_string()).join(" "),
             None => "too large".to_string(),
         };
-        assert_eq!(line, format!("t {text}"));
+        assert_eq!(line, format!("h {text}"));
         facts.extend(facts_of(from, tables, due));
     }
     facts
