@@ -9,6 +9,7 @@ use Rattle.ground.specs.Number.{bytes32}
 use Rattle.print.specs.Joined.{_next_, spaced}
 use Rattle.print.specs.Hex.{hexByte, shown}
 use Rattle.print.specs.Decimal.{decimal}
+use Rattle.print.specs.Numbers.{joined}
 use Rattle.print.specs.Sum.{adler32}
 use Rattle.attention.specs.declared.sense.Sense.{Sense}
 use Rattle.play.specs.declared.Play.{Play}
@@ -18,6 +19,10 @@ use Rattle.drive.specs.declared.state.Drive.{Drive}
 use Rattle.disc.specs.Part.{unfit}
 use Rattle.outcome.specs.declared.Outcome.{Outcome}
 use Rattle.cue.specs.declared.write.Written.{Written}
+use Rattle.shelf.specs.TotalsLaws.{numbersOf}
+use Rattle.shelf.specs.declared.totals.Totals.{Totals}
+use Rattle.shelf.specs.declared.totals.Counted.{Counted}
+use Rattle.shelf.specs.declared.totals.Counted.the-variants.{Is, TooLarge}
 
 abbrev pub lineEnd : List ℕ
 lineEnd = 10 ∷ []
@@ -109,3 +114,11 @@ partLine number rule part = ruledCall 115 number rule next summedText (length pa
 -- K12: `t N LEN SUM`, "SUM of the whole memory afterwards"
 unfoldable pub writtenLine : Written → List ℕ → List ℕ
 writtenLine w memory = call 116 (w .number) next summedText (w .len) memory next lineEnd
+
+-- K13: `h` and the thirteen totals, or `h too large`
+unfoldable pub totalsLine : Totals → List ℕ
+totalsLine a = (104 ∷ 32 ∷ []) next joined 32 (numbersOf a) next lineEnd
+
+unfoldable pub countedLine : Counted → List ℕ
+countedLine (Is a) = totalsLine a
+countedLine TooLarge = 104 ∷ 32 ∷ 116 ∷ 111 ∷ 111 ∷ 32 ∷ 108 ∷ 97 ∷ 114 ∷ 103 ∷ 101 ∷ 10 ∷ []

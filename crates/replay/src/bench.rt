@@ -1,10 +1,13 @@
 // What is kept from record to record, and what each kind of record does with it.
 use crate::line::put_address;
+use crate::line::put_counted;
 use crate::line::put_moved;
 use crate::line::put_msf;
 use crate::line::put_packet;
 use crate::line::put_part;
 use crate::line::put_written;
+use crate::totals::TOTALS;
+use crate::totals::totals_of;
 use address::Block;
 use address::Msf;
 use address::to_block;
@@ -23,6 +26,7 @@ use ground::number::word32;
 use page::Page;
 use play::Play;
 use print::front::front;
+use shelf::stream::count_all;
 use target::packet::packet;
 ghost use mathlib.Core.Path.{_≡_};
 ghost use Prim.Native.Nat.{_≤_};
@@ -350,6 +354,15 @@ fn call_sheet(body: &[u8], bench: Bench, memory: &mut [u8], line: &mut [u8]) -> 
     printed(put_written(w, lent, line), bench)
 }
 
+// Kind 24: a stream of tables, counted on top of the totals before it.
+fn call_shelf(body: &[u8], bench: Bench, line: &mut [u8]) -> Turn {
+    if body.len() < TOTALS {
+        return bad(bench, line);
+    }
+    let counted = count_all(totals_of(body), &body[TOTALS..]);
+    printed(put_counted(counted, line), bench)
+}
+
 // A record of the kind, met.
 pub(crate) fn meet(
     kind: u8,
@@ -372,6 +385,7 @@ pub(crate) fn meet(
         12 => call_move(body, bench, line),
         13 => set_list(body, bench, list),
         14 => call_sheet(body, bench, memory, line),
+        24 => call_shelf(body, bench, line),
         _ => bad(bench, line),
     }
 }

@@ -15,11 +15,15 @@ use print::front::front;
 use print::hex::next_hex;
 use print::hex::next_shown;
 use print::hex::next_three;
+use print::numbers::put_joined;
 use print::sum::adler32;
+use shelf::totals::Counted;
+use shelf::totals::Totals;
+use shelf::totals::numbers;
 ghost use mathlib.Core.Path.{_≡_};
 ghost use Rattle.ground.specs.Memory.{Laid};
 ghost use Rattle.replay.specs.Line.{digit as Line·digit};
-ghost use Rattle.replay.specs.Line.{playText, pageText, keptText, stateText, call, ruleText, ruledCall, sumText, decimals, movedLine, outcomeText, memoryText, packetLine, msfLine, addressLine, summedText, partLine, writtenLine};
+ghost use Rattle.replay.specs.Line.{playText, pageText, keptText, stateText, call, ruleText, ruledCall, sumText, decimals, movedLine, outcomeText, memoryText, packetLine, msfLine, addressLine, summedText, partLine, writtenLine, totalsLine, countedLine};
 
 // A flag as '0' or '1'.
 fn digit(b: bool) -> u8
@@ -218,4 +222,24 @@ pub(crate) fn put_written(w: Written, memory: &[u8], out: &mut [u8]) -> usize
     at += next_summed(w.len, memory, &mut out[at..]);
     at += copy_front(b"\n", &mut out[at..]);
     at
+}
+
+// The totals of a shelf.
+fn put_totals(totals: Totals, out: &mut [u8]) -> usize
+    ensures { λ r. ⌜ Laid (now (out .entry)) (totalsLine totals) r (now (out .exit)) ⌝ }
+{
+    let mut at = copy_front(b"h ", out);
+    at += put_joined(&numbers(totals), b' ', &mut out[at..]);
+    at += copy_front(b"\n", &mut out[at..]);
+    at
+}
+
+// The line of a shelf.
+pub(crate) fn put_counted(counted: Counted, out: &mut [u8]) -> usize
+    ensures { λ r. ⌜ Laid (now (out .entry)) (countedLine counted) r (now (out .exit)) ⌝ }
+{
+    match counted {
+        Counted::Is(totals) => put_totals(totals, out),
+        Counted::TooLarge => copy_front(b"h too large\n", out),
+    }
 }

@@ -11,7 +11,7 @@ use lib.Dec.{leb, ltb}
 use lib.ListN.{drop}
 use borrow.Author.Tests.{le-leb, lt-leb, lt-ltb, le-ltb}
 use Rattle.ground.specs.Tests.{_and_, if_then_else_, and-on, and-off, and-late, when, unless}
-use Rattle.table.specs.Layout.{lastSession, descriptors, rows, flagsAt, pointAt, A0, A1, A2, B0, C0, isTrack}
+use Rattle.table.specs.Layout.{lastSession, descriptors, flagsAt, pointAt, A0, A1, A2, B0, C0, isTrack}
 use Rattle.table.specs.Row.{addressAt}
 use Rattle.table.specs.RowLaws.{isTrack-true, isTrack-over}
 use Rattle.table.specs.declared.row.Row.{Row}
@@ -19,16 +19,16 @@ use Rattle.sessions.specs.Session.{first, last, tracks, count, size, session}
 use Rattle.sessions.specs.SessionLaws.{IsSession, placed-at, Walked, walked-none, walked-next, walked-all, rowsBefore, rowsBefore-next, starts-none, starts-rows}
 use Rattle.disc.specs.Rules.{leadOut, trackStart, outBefore}
 use Rattle.disc.specs.RulesLaws.{Fit, outBefore-next, fit-places, fit-numbered, fit-session, fit-end-rows}
-use Rattle.disc.specs.FitLaws.{Rises, rowAt-session, pointAt-session, addressAt-session, session-none, Kind, isA0, isA1, isA2, isTrackAfter, isB0, isC0, fit-row, fit-listed, fit-kind, fit-next, fit-span, fit-rises, fit-begins, fit-apart, fit-address, fit-lead-out}
+use Rattle.disc.specs.FitLaws.{Rises, rowAt-session, pointAt-session, addressAt-session, session-none, Kind, isA0, isA1, isA2, isTrackAfter, isB0, isC0, fit-row, fit-listed, fit-kind, fit-next, fit-rises, fit-begins, fit-apart, fit-address}
 use Rattle.disc.specs.Disc.{lastPart}
 use Rattle.tracks.specs.Track.{isData, flagged, outAt, noTrack, trackAt, trackOf, isMode}
-use Rattle.tracks.specs.TrackLaws.{Reaches, Greatest, trackOf-of, trackOf-no}
+use Rattle.tracks.specs.TrackLaws.{trackOf-of, trackOf-no}
 use Rattle.tracks.specs.SpreadLaws.{TrackRow, fit-out, fit-track-row, fit-leads-rise, fit-spread}
 use Rattle.tracks.specs.declared.track.Track.{Track}
 use Rattle.tracks.specs.declared.track.Mode.{Mode}
 use Rattle.tracks.specs.declared.track.Mode.the-variants.{Data, Audio}
 use Rattle.shelf.specs.Count.{sumBelow, oneIf, countBelow}
-use Rattle.shelf.specs.CountLaws.{sum-none, sum-next, sum-same, sum-zero, oneIf-true, oneIf-false, count-none, count-most, count-run, count-three}
+use Rattle.shelf.specs.CountLaws.{sum-none, sum-next, sum-same, sum-zero, count-none, count-most, count-run, count-three}
 use Rattle.shelf.specs.Content.{lastOut, tracksIn, blocksIn, isNone}
 use Rattle.shelf.specs.Lengths.{edge, trackBlocks, modeBlocks, gapBefore}
 use Rattle.shelf.specs.LengthsLaws.{edge-track, edge-out, edge-rises, edge-most}

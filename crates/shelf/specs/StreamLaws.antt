@@ -3,17 +3,16 @@ use mathlib.Core.Path.{_≡_, refl, sym, ap, _∙_}
 use mathlib.Core.Bool.{Bool, true, false}
 use mathlib.Core.Logic.{_⊎_, ⊎-elim}
 use mathlib.Core.List.{List, [], _∷_, _++_, append-assoc, append-nil}
-use Prim.Native.Nat.{ℕ, zero, suc, _+_, _-_, _*_, _≤_, _<_}
+use Prim.Native.Nat.{ℕ, zero, suc, _+_, _-_, _≤_, _<_}
 use native.Mathlib.Omega.{arith}
 use native.Mathlib.Nat.{lt-of-not-le}
 use native.Mathlib.Decide.{decLe}
 use lib.ListN.{length, take, drop, getD, length-append, length-take, length-drop}
 use lib.Seq.{take-append-le, drop-append-le, drop-drop, length-take-le, getD-append-add, getD-drop, getD-take}
 use lib.Dec.{leb}
-use borrow.Author.Tests.{le-leb, lt-leb, leb-true, leb-false}
+use borrow.Author.Tests.{le-leb, lt-leb}
 use Rattle.ground.specs.Tests.{if_then_else_, when, unless, either}
 use Rattle.ground.specs.Memory.{Laid, fill-fits}
-use Rattle.table.specs.Layout.{dataLength}
 use Rattle.shelf.specs.Totals.{nothing, sum, ofTable, totalsOf, within, bounded}
 use Rattle.shelf.specs.TotalsLaws.{sum-assoc, sum-comm, sum-nothing, nothing-sum, totals-none, totals-next, totals-one, totals-append, nothing-within, within-over, bounded-is, bounded-over, bounded-told, bounded-told-over}
 use Rattle.shelf.specs.Stream.{tableLength, wholesIn, restIn, wholes, rest, cutOff, tables, shelf, counted, passedTo, passed}

@@ -1,6 +1,6 @@
 -- The thirteen totals: "prints, one a line: tables, fit ones, unfit ones by K6's rule, and over the fit ones tracks, data blocks, audio blocks,
 -- blocks of no track".
-use Prim.Native.Nat.{ℕ, _+_, _<_}
+use Prim.Native.Nat.{ℕ, _+_}
 use mathlib.Core.Bool.{Bool}
 use mathlib.Core.List.{List, [], _∷_}
 use lib.Dec.{leb, eqb}

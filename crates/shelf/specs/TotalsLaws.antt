@@ -2,7 +2,7 @@
 use mathlib.Core.Path.{_≡_, refl, sym, ap, _∙_}
 use mathlib.Core.Bool.{Bool, true, false}
 use mathlib.Core.List.{List, [], _∷_, _++_}
-use Prim.Native.Nat.{ℕ, _+_, _-_, _≤_, _<_}
+use Prim.Native.Nat.{ℕ, _+_, _-_, _≤_}
 use native.Mathlib.Omega.{arith}
 use native.Mathlib.Nat.{add-assoc, add-comm, add-zero, zero-add, lt-of-not-le}
 use native.Mathlib.Decide.{decLe}
@@ -22,7 +22,6 @@ use Rattle.shelf.specs.ContentLaws.{blocks-three, fit-tracks, heldBy}
 use Rattle.shelf.specs.declared.content.Held.{Held}
 use Rattle.shelf.specs.Totals.{nothing, sum, ifFit, ofTable, totalsOf, most, within, bounded}
 use Rattle.shelf.specs.declared.totals.Totals.{Totals}
-use Rattle.shelf.specs.declared.totals.Counted.{Counted}
 use Rattle.shelf.specs.declared.totals.Counted.the-variants.{Is, TooLarge}
 
 -- ---- sums

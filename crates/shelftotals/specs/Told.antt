@@ -1,12 +1,8 @@
 -- What is printed: "one a line", a bare number each; past 64 bits the one line "total too large" and no totals.
-use Prim.Native.Nat.{ℕ, _+_, _≤_}
-use mathlib.Core.Path.{_≡_, refl}
+use Prim.Native.Nat.{ℕ}
 use mathlib.Core.List.{List, [], _∷_}
-use native.Mathlib.Omega.{arith}
-use lib.ListN.{length, length-append}
 use Rattle.print.specs.Joined.{_next_}
-use Rattle.print.specs.Decimal.{decimal, decimal-length}
-use Rattle.print.specs.Numbers.{markAt, joinedTo, joined}
+use Rattle.print.specs.Numbers.{joined}
 use Rattle.shelf.specs.TotalsLaws.{numbersOf}
 use Rattle.shelf.specs.declared.totals.Totals.{Totals}
 use Rattle.shelf.specs.declared.totals.Counted.{Counted}

@@ -1,5 +1,5 @@
 -- `shelftotals::run` ends, and each read finds room: fewer bytes are held than the longest table has.
-use mathlib.Core.Path.{_≡_, refl, sym, _∙_}
+use mathlib.Core.Path.{_≡_, refl, _∙_}
 use Prim.Native.Nat.{_≤_}
 use native.Mathlib.Omega.{arith}
 use lib.ListN.{length}

@@ -1,6 +1,6 @@
 -- `shelftotals::take_in` meets its contract: what is kept is what is left, which is shorter than the longest table.
 use native.Mathlib.Omega.{arith}
-use lib.ListN.{take, drop, length, length-take, length-drop}
+use lib.ListN.{take, drop, length, length-take}
 use Prim.Native.Nat.{_-_}
 use Rattle.shelf.specs.StreamLaws.{leftBy-on}
 use Rattle.shelftotals.specs.Turn.{heldBy}

@@ -1,8 +1,7 @@
 -- `print::numbers::put_joined` meets its contract: the first i numbers are laid, and the next one goes into the rest that begins where they
 -- ended (`laid-more`).
-use mathlib.Core.Path.{_≡_, refl, ap}
-use mathlib.Core.List.{List}
-use Prim.Native.Nat.{ℕ, _≤_, _-_}
+use mathlib.Core.Path.{_≡_, refl}
+use Prim.Native.Nat.{_≤_, _-_}
 use native.Mathlib.Omega.{arith}
 use denote.Ref.{now}
 use borrow.Author.Needs.{needs}

@@ -1,7 +1,7 @@
 -- `shelf::content::data_in` meets its contract: each turn passes one track more, and what the runs come to are the blocks of each track
 -- (`run-done`).
-use mathlib.Core.Path.{_≡_, refl, sym, ap, _∙_}
-use Prim.Native.Nat.{_+_, _-_, _≤_}
+use mathlib.Core.Path.{_≡_, sym, _∙_}
+use Prim.Native.Nat.{_-_, _≤_}
 use native.Mathlib.Omega.{arith}
 use Rattle.disc.specs.Rules.{leadOut}
 use Rattle.tracks.specs.declared.track.Mode.the-variants.{Data}

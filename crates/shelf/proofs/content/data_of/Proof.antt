@@ -1,5 +1,4 @@
 -- `shelf::content::data_of` meets its contract: A0 and A1 hold the first and the last track, so it asks for all of them.
-use mathlib.Core.Path.{_∙_}
 use Rattle.shelf.specs.Lengths.{modeBlocks}
 use borrow.Author.Needs.{needs}
 use Rattle.shelf.proofs.content.data_of.Statement.{statement}

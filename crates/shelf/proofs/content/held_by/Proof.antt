@@ -2,11 +2,11 @@
 -- come to the blocks counted one by one (`counted-all`).
 use mathlib.Core.Path.{_≡_, refl}
 use mathlib.Core.List.{List}
-use Prim.Native.Nat.{ℕ, _+_, _-_, _*_, _≤_}
+use Prim.Native.Nat.{ℕ, _+_, _-_}
 use native.Mathlib.Omega.{arith}
 use lib.ListN.{length, take, drop, length-drop}
 use Rattle.ground.specs.Memory.{rest-all}
-use Rattle.table.specs.Layout.{row, descriptors}
+use Rattle.table.specs.Layout.{descriptors}
 use Rattle.sessions.specs.Session.{size}
 use Rattle.sessions.specs.SessionLaws.{IsSession, size-least}
 use Rattle.disc.specs.RulesLaws.{fit-sized, fit-numbered}

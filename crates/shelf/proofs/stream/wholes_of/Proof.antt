@@ -1,7 +1,7 @@
 -- `shelf::stream::wholes_of` meets its contract: each turn counts one whole table more (`passing-next`), and the first that is not whole ends
 -- it (`passing-end`).
-use mathlib.Core.Path.{_≡_, sym, ap, _∙_}
-use Prim.Native.Nat.{ℕ, _+_, _-_, _≤_}
+use mathlib.Core.Path.{_≡_, sym, _∙_}
+use Prim.Native.Nat.{_+_, _-_, _≤_}
 use native.Mathlib.Omega.{arith}
 use lib.ListN.{length, drop, length-drop}
 use Rattle.ground.specs.Memory.{rest-all}

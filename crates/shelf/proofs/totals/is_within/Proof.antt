@@ -1,7 +1,5 @@
 -- `shelf::totals::is_within` meets its contract: the tests are joined from the last to the first.
-use mathlib.Core.Path.{sym, ap, _∙_}
 use borrow.Author.Needs.{needs}
-use Rattle.ground.specs.Tests.{_and_}
 use Rattle.shelf.specs.Totals.{within}
 use Rattle.shelf.proofs.totals.is_within.Statement.{statement}
 use Rattle.shelf.proofs.totals.is_within.Tie as tie

@@ -1,5 +1,4 @@
 -- `shelf::totals::of_fit` meets its contract: what the disc tells and what is held are what a fit table adds (`fit-adds`).
-use mathlib.Core.Path.{_∙_}
 use native.Mathlib.Omega.{arith}
 use Rattle.disc.specs.RulesLaws.{isFit-true}
 use Rattle.shelf.specs.TotalsLaws.{FitAdds, fit-adds}

@@ -1,39 +1,28 @@
 use borrow.Author.Needs.{needs}
 use Rattle.shelf.proofs.totals.of_unfit.Statement.{statement}
 use Rattle.shelf.proofs.totals.of_unfit.Tie as tie
-use Rattle.shelf.proofs.totals.of_unfit.Reads as reads
-use Rattle.shelf.proofs.totals.of_unfit.Lts as lts
-use Rattle.shelf.proofs.totals.one_if.Reads as one-if-reads
 
--- src/totals.rt:79:16
 one-if-requires : tie.Need-one-if-requires
 one-if-requires c κs = search needs
 
--- src/totals.rt:80:16
 one-if-requires-2 : tie.Need-one-if-requires-2
 one-if-requires-2 c κs = search needs
 
--- src/totals.rt:81:16
 one-if-requires-3 : tie.Need-one-if-requires-3
 one-if-requires-3 c κs = search needs
 
--- src/totals.rt:82:16
 one-if-requires-4 : tie.Need-one-if-requires-4
 one-if-requires-4 c κs = search needs
 
--- src/totals.rt:83:16
 one-if-requires-5 : tie.Need-one-if-requires-5
 one-if-requires-5 c κs = search needs
 
--- src/totals.rt:84:16
 one-if-requires-6 : tie.Need-one-if-requires-6
 one-if-requires-6 c κs = search needs
 
--- src/totals.rt:85:16
 one-if-requires-7 : tie.Need-one-if-requires-7
 one-if-requires-7 c κs = search needs
 
--- src/totals.rt:73:1
 returns : tie.Need-returns
 returns c = rw (c .one-if7 .ensures, c .before .one-if6 .ensures, c .before .before .one-if5 .ensures, c .before .before .before .one-if4 .ensures, c .before .before .before .before .one-if3 .ensures, c .before .before .before .before .before .one-if2 .ensures, c .before .before .before .before .before .before .one-if .ensures)
 

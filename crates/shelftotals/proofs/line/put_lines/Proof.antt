@@ -1,6 +1,5 @@
 -- `shelftotals::line::put_lines` meets its contract: the numbers and the last line end are laid one after the other (`laid-more`).
-use Rattle.ground.specs.Memory.{Laid, laid-more}
-use Rattle.print.specs.Numbers.{joined}
+use Rattle.ground.specs.Memory.{laid-more}
 use Rattle.shelftotals.specs.Told.{lines}
 use borrow.Author.Needs.{needs}
 use Rattle.shelftotals.proofs.line.put_lines.Statement.{statement}
