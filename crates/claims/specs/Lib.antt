@@ -11,6 +11,7 @@ pub mod Cancel
 pub mod TrackList
 pub mod TrackListNeeds
 pub mod CueSheet
+pub mod Shelf
 pub mod Marked
 pub mod Played
 pub mod Paged

@@ -3,9 +3,9 @@
 use mathlib.Core.Path.{_≡_, refl, sym, ap, _∙_}
 use mathlib.Core.Bool.{Bool}
 use mathlib.Core.List.{List}
-use Prim.Native.Nat.{ℕ, _≤_, _<_, min}
+use Prim.Native.Nat.{ℕ, _-_, _≤_, _<_, min}
 use native.Mathlib.Omega.{arith}
-use lib.ListN.{length, take, getD}
+use lib.ListN.{length, take, drop, getD}
 use denote.Ref.{RefT, ptr, now}
 use denote.Slice.{slice-vals}
 use Rattle.ground.specs.Number.{Byte, word16, word32, bytes16, bytes32}
@@ -72,6 +72,13 @@ use Rattle.outcome.specs.declared.Outcome.{Outcome}
 use Rattle.outcome.specs.Outcome.{Answered, refused, checked, granted, finished}
 use Rattle.target.specs.Packet.{answer}
 use Rattle.cue.specs.declared.write.Written.{Written}
+use Rattle.shelf.specs.declared.totals.Totals.{Totals}
+use Rattle.shelf.specs.declared.totals.Counted.{Counted}
+use Rattle.shelf.specs.declared.stream.Passed.{Passed}
+use Rattle.shelf.specs.Totals.{nothing, sum, ofTable, bounded}
+use Rattle.shelf.specs.TotalsLaws.{numbersOf}
+use Rattle.shelf.specs.Stream.{counted, passed}
+use Rattle.shelf.specs.StreamLaws.{leftBy}
 use Rattle.cue.specs.Write.{answer as answerSheet, Turned}
 
 -- ---- the shapes of a promise, a law each
@@ -501,3 +508,25 @@ unique-packet d p t l m m₁ m₂ r s = answer-once
 pub unique-write-table : (s m m₁ m₂ : List ℕ) (r t : Written)
     → Turned (answerSheet s (length m)) m r m₁ → Turned (answerSheet s (length m)) m t m₂ → (r ≡ t) × (m₁ ≡ m₂)
 unique-write-table s m m₁ m₂ r t a b = (value-once (a .outcome) (b .outcome), value-once (a .memory) (b .memory))
+
+-- ---- shelf
+
+pub unique-nothing : (r s : Totals) → r ≡ nothing → s ≡ nothing → r ≡ s
+unique-nothing r s = value-once
+
+pub unique-count : (a : Totals) (t : List ℕ) (r s : Counted) → r ≡ bounded (sum a (ofTable t)) → s ≡ bounded (sum a (ofTable t)) → r ≡ s
+unique-count a t r s = value-once
+
+pub unique-numbers : (a : Totals) (r s : List ℕ) → r ≡ numbersOf a → s ≡ numbersOf a → r ≡ s
+unique-numbers a r s = value-once
+
+pub unique-count-whole : (a : Totals) (t : List ℕ) (r s : Passed)
+    → (r ≡ passed a t) × (leftBy r (length t) ≤ 65536) → (s ≡ passed a t) × (leftBy s (length t) ≤ 65536) → r ≡ s
+unique-count-whole a t r s p q = value-once (p .0) (q .0)
+
+pub unique-count-all : (a : Totals) (t : List ℕ) (r s : Counted) → r ≡ counted a t → s ≡ counted a t → r ≡ s
+unique-count-all a t r s = value-once
+
+pub unique-keep-rest : (m m₁ m₂ : List ℕ) (from end r s : ℕ)
+    → Laid m (take (end - from) (drop from m)) r m₁ → Laid m (take (end - from) (drop from m)) s m₂ → (r ≡ s) × (m₁ ≡ m₂)
+unique-keep-rest m m₁ m₂ from end r s = laid-only

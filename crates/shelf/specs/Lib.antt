@@ -8,3 +8,4 @@ pub mod Totals
 pub mod TotalsLaws
 pub mod Stream
 pub mod StreamLaws
+pub mod ShelfLaws

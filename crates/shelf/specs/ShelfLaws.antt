@@ -1,0 +1,217 @@
+-- Laws of a stream of tables: what one table adds, and so what any number of them do; and what is read piece by piece.
+use mathlib.Core.Path.{_≡_, refl, sym, ap, _∙_}
+use mathlib.Core.Bool.{Bool, true, false}
+use mathlib.Core.List.{List, [], _∷_, _++_, append-assoc, append-nil}
+use Prim.Native.Nat.{ℕ, zero, suc, _+_, _-_, _≤_, _<_}
+use native.Mathlib.Omega.{arith}
+use native.Mathlib.Decide.{decLe, ℕ-discrete}
+use native.Mathlib.Nat.{lt-of-not-le}
+use lib.ListN.{length, take, drop, length-drop, take-append-drop}
+use borrow.Author.Tests.{lt-leb, ne-eqb}
+use Rattle.ground.specs.Tests.{_and_, if_then_else_, when, unless, and-off, and-late}
+use Rattle.table.specs.Layout.{bound, dataLength, header}
+use Rattle.disc.specs.Rules.{rule1, fault, isFit, firstBroken}
+use Rattle.disc.specs.RulesLaws.{fault-first}
+use Rattle.shelf.specs.Count.{oneIf}
+use Rattle.shelf.specs.Content.{lastOut}
+use Rattle.shelf.specs.ContentLaws.{blocks-three}
+use Rattle.shelf.specs.Totals.{sum, ifFit, ofTable, totalsOf, most, within, bounded}
+use Rattle.shelf.specs.TotalsLaws.{Within, within-parts, parts-within, within-over, sum-assoc, totals-append, bounded-is, bounded-over}
+use Rattle.shelf.specs.Stream.{tableLength, wholes, rest, tables, shelf, counted, passed}
+use Rattle.shelf.specs.StreamLaws.{tables-none, tables-next, tables-cut, tables-more, rest-drop, passedTo-on, passedTo-over}
+use Rattle.shelf.specs.declared.totals.Totals.{Totals}
+use Rattle.shelf.specs.declared.totals.Counted.{Counted}
+use Rattle.shelf.specs.declared.totals.Counted.the-variants.{Is, TooLarge}
+use Rattle.shelf.specs.declared.stream.Passed.{Passed}
+use Rattle.shelf.specs.declared.stream.Passed.the-variants.{On, Over}
+
+-- ---- lists one after the other
+
+unfoldable pub joined : List (List ℕ) → List ℕ
+joined [] = []
+joined (t ∷ ts) = t ++ joined ts
+
+nil : (s : List ℕ) → length s ≡ 0 → s ≡ []
+nil [] h = refl
+nil (b ∷ s) h = absurd (omega arith)
+
+joined-nil : (s : List ℕ) → length s ≡ 0 → joined (tables s) ≡ s
+unfolding joined
+joined-nil s h = ap (λ (x : List ℕ). joined (tables x)) (nil s h) ∙ ap joined tables-none ∙ sym (nil s h)
+
+-- the tables of a stream, one after the other, are the stream
+joined-in : (n : ℕ) (s : List ℕ) → length s ≤ n → joined (tables s) ≡ s
+unfolding joined
+joined-in zero s h = joined-nil s (omega arith)
+joined-in (suc n) s h = elim (decLe (tableLength s) (length s)) [
+  | yes g ↦ (let l = length-drop (tableLength s) s in
+      ap joined (tables-next s g)
+      ∙ ap (λ (x : List ℕ). take (tableLength s) s ++ x) (joined-in n (drop (tableLength s) s) (omega arith))
+      ∙ take-append-drop (tableLength s) s)
+  | no g ↦ elim (ℕ-discrete (length s) 0) [
+    | yes e ↦ joined-nil s e
+    | no e ↦ ap joined (tables-cut s (omega arith) (lt-of-not-le g)) ∙ append-nil s
+  ]
+]
+
+pub tables-joined : (s : List ℕ) → joined (tables s) ≡ s
+tables-joined s = joined-in (length s) s (omega arith)
+
+-- ---- rule 1
+
+rule1-broken : (t : List ℕ) → rule1 t ≡ false → fault t ≡ 1
+unfolding fault firstBroken
+rule1-broken t h = rw h
+
+-- a table that is cut off is shorter than it says
+pub cut-broken : (t : List ℕ) → length t < tableLength t → fault t ≡ 1
+unfolding rule1
+cut-broken t h = elim (decLe header (length t)) [
+  | yes l ↦ rule1-broken t (sym (and-late _ _ (and-late _ _ (and-late _ _ (sym (ne-eqb (dataLength t) (length t - 2) (λ e. omega arith)))))))
+  | no l ↦ rule1-broken t (sym (and-off _ _ (lt-leb _ _ (lt-of-not-le l))))
+]
+
+-- one over the bound is too long
+pub over-broken : (t : List ℕ) → bound < length t → fault t ≡ 1
+unfolding rule1
+over-broken t h = rule1-broken t (sym (and-late _ _ (and-off _ _ (lt-leb _ _ h))))
+
+-- ---- what one table adds
+
+ifFit-one : (t : List ℕ) (n : ℕ) → isFit t ≡ true → ifFit t n ≡ n
+unfolding ifFit
+ifFit-one t n h = when _ _ _ h
+
+ifFit-none : (t : List ℕ) (n : ℕ) → isFit t ≡ false → ifFit t n ≡ 0
+unfolding ifFit
+ifFit-none t n h = unless _ _ _ h
+
+-- its blocks, in all
+table-blocks : (t : List ℕ) → ofTable t .«data_blocks» + ofTable t .«audio_blocks» + ofTable t .trackless ≡ ifFit t (lastOut t)
+unfolding ofTable ifFit if_then_else_
+table-blocks t = decided (isFit t) refl
+  where
+    decided : (b : Bool) → isFit t ≡ b → ofTable t .«data_blocks» + ofTable t .«audio_blocks» + ofTable t .trackless ≡ ifFit t (lastOut t)
+    decided true e = rw e (blocks-three t)
+    decided false e = rw e
+
+-- it is fit, or breaks one rule of seven first
+table-each :
+    (t : List ℕ)
+    → ofTable t .fit
+    + (ofTable t .rule1 + ofTable t .rule2 + ofTable t .rule3 + ofTable t .rule4 + ofTable t .rule5 + ofTable t .rule6 + ofTable t .rule7) ≡ 1
+unfolding ofTable ifFit isFit oneIf if_then_else_
+table-each t = which (fault t) refl (fault-first t .most)
+  where
+    which : (n : ℕ) → fault t ≡ n → n ≤ 7
+        → ofTable t .fit
+        + (ofTable t .rule1 + ofTable t .rule2 + ofTable t .rule3 + ofTable t .rule4 + ofTable t .rule5 + ofTable t .rule6 + ofTable t .rule7) ≡ 1
+    which zero e h = rw e
+    which (suc zero) e h = rw e
+    which (suc (suc zero)) e h = rw e
+    which (suc (suc (suc zero))) e h = rw e
+    which (suc (suc (suc (suc zero)))) e h = rw e
+    which (suc (suc (suc (suc (suc zero))))) e h = rw e
+    which (suc (suc (suc (suc (suc (suc zero)))))) e h = rw e
+    which (suc (suc (suc (suc (suc (suc (suc zero))))))) e h = rw e
+    which (suc (suc (suc (suc (suc (suc (suc (suc n)))))))) e h = absurd (omega arith)
+
+table-one : (t : List ℕ) → ofTable t .tables ≡ 1
+unfolding ofTable
+table-one t = refl
+
+-- ---- and so any number of them
+
+-- the sum of the fit tables' last lead-outs
+unfoldable pub leadOuts : List (List ℕ) → ℕ
+leadOuts [] = 0
+leadOuts (t ∷ ts) = ifFit t (lastOut t) + leadOuts ts
+
+pub tables-blocks : (ts : List (List ℕ)) → totalsOf ts .«data_blocks» + totalsOf ts .«audio_blocks» + totalsOf ts .trackless ≡ leadOuts ts
+unfolding totalsOf leadOuts
+tables-blocks [] = refl
+tables-blocks (t ∷ ts) = let a = table-blocks t in let b = tables-blocks ts in omega arith
+
+pub tables-each :
+    (ts : List (List ℕ))
+    → totalsOf ts .fit
+    + (totalsOf ts .rule1 + totalsOf ts .rule2 + totalsOf ts .rule3 + totalsOf ts .rule4 + totalsOf ts .rule5 + totalsOf ts .rule6
+    + totalsOf ts .rule7)
+    ≡ totalsOf ts .tables
+unfolding totalsOf
+tables-each [] = refl
+tables-each (t ∷ ts) = let a = table-each t in let c = table-one t in let b = tables-each ts in omega arith
+
+pub tables-count : (ts : List (List ℕ)) → totalsOf ts .tables ≡ length ts
+unfolding totalsOf
+tables-count [] = refl
+tables-count (t ∷ ts) = let c = table-one t in let b = tables-count ts in omega arith
+
+-- ---- told or not
+
+pub counted-within :
+    (a : Totals) (s : List ℕ)
+    → (Within (sum a (shelf s)) → counted a s ≡ Is (sum a (shelf s))) × ((Within (sum a (shelf s)) → ⊥) → counted a s ≡ TooLarge)
+unfolding counted
+counted-within a s = (λ w. bounded-is _ (parts-within w), λ n. decided (within (sum a (shelf s))) refl n)
+  where
+    decided : (b : Bool) → within (sum a (shelf s)) ≡ b → (Within (sum a (shelf s)) → ⊥) → bounded (sum a (shelf s)) ≡ TooLarge
+    decided true e n = absurd (n (within-parts e))
+    decided false e n = bounded-over _ e
+
+-- ---- piece by piece
+
+-- what was counted so far, and what is left of it
+unfoldable pub goOn : Passed → List ℕ → (Totals → List ℕ → Counted) → Counted
+goOn (On a used) s more = more a (drop used s)
+goOn Over s more = TooLarge
+
+-- pieces as the program reads them: the whole tables are counted, and what is left stands before the next piece
+unfoldable pub pieces : Totals → List ℕ → List (List ℕ) → Counted
+pieces a held [] = counted a held
+pieces a held (p ∷ ps) = goOn (passed a (held ++ p)) (held ++ p) (λ b left. pieces b left ps)
+
+-- the whole tables counted, and then the rest with what comes behind it
+counted-more : (a : Totals) (s r : List ℕ) → sum a (shelf (s ++ r)) ≡ sum (sum a (totalsOf (wholes s))) (shelf (rest s ++ r))
+unfolding shelf
+counted-more a s r =
+    ap (λ (x : List (List ℕ)). sum a (totalsOf x)) (tables-more s r)
+    ∙ ap (sum a) (totals-append (wholes s) (tables (rest s ++ r)))
+    ∙ sym (sum-assoc a (totalsOf (wholes s)) (totalsOf (tables (rest s ++ r))))
+
+passed-is : (a : Totals) (s : List ℕ) → within (sum a (totalsOf (wholes s))) ≡ true
+    → passed a s ≡ On (sum a (totalsOf (wholes s))) (length s - length (rest s))
+unfolding passed
+passed-is a s h = passedTo-on _ _ h
+
+passed-not : (a : Totals) (s : List ℕ) → within (sum a (totalsOf (wholes s))) ≡ false → passed a s ≡ Over
+unfolding passed
+passed-not a s h = passedTo-over _ _ h
+
+counted-on :
+    (a : Totals) (s r : List ℕ) → counted (sum a (totalsOf (wholes s))) (drop (length s - length (rest s)) s ++ r) ≡ counted a (s ++ r)
+unfolding counted
+counted-on a s r =
+    ap (λ (x : List ℕ). bounded (sum (sum a (totalsOf (wholes s))) (shelf (x ++ r)))) (rest-drop s) ∙ ap bounded (sym (counted-more a s r))
+
+counted-past : (a : Totals) (s r : List ℕ) → within (sum a (totalsOf (wholes s))) ≡ false → TooLarge ≡ counted a (s ++ r)
+unfolding counted
+counted-past a s r h = sym (bounded-over _ (ap within (counted-more a s r) ∙ within-over _ _ h))
+
+pub pieces-agree : (a : Totals) (held : List ℕ) (ps : List (List ℕ)) → pieces a held ps ≡ counted a (held ++ joined ps)
+unfolding pieces joined goOn
+pieces-agree a held [] = ap (counted a) (sym (append-nil held))
+pieces-agree a held (p ∷ ps) =
+    decided (within (sum a (totalsOf (wholes (held ++ p))))) refl (λ b left. pieces-agree b left ps)
+    ∙ ap (counted a) (append-assoc held p (joined ps))
+  where
+    decided :
+        (x : Bool) → within (sum a (totalsOf (wholes (held ++ p)))) ≡ x
+        → ((b : Totals) (left : List ℕ) → pieces b left ps ≡ counted b (left ++ joined ps))
+        → goOn (passed a (held ++ p)) (held ++ p) (λ b left. pieces b left ps) ≡ counted a ((held ++ p) ++ joined ps)
+    decided true e again =
+        ap (λ (x : Passed). goOn x (held ++ p) (λ b left. pieces b left ps)) (passed-is a (held ++ p) e)
+        ∙ again _ _ ∙ counted-on a (held ++ p) (joined ps)
+    decided false e again =
+        ap (λ (x : Passed). goOn x (held ++ p) (λ b left. pieces b left ps)) (passed-not a (held ++ p) e)
+        ∙ counted-past a (held ++ p) (joined ps) e
