@@ -6,7 +6,7 @@ use mathlib.Core.List.{List, [], _∷_, _++_, append-assoc, append-nil}
 use Prim.Native.Nat.{ℕ, zero, suc, _+_, _-_, _≤_, _<_}
 use native.Mathlib.Omega.{arith}
 use native.Mathlib.Nat.{lt-of-not-le}
-use native.Mathlib.Decide.{decLe}
+use native.Mathlib.Decide.{decLe, ℕ-discrete}
 use lib.ListN.{length, take, drop, getD, length-append, length-take, length-drop}
 use lib.Seq.{take-append-le, drop-append-le, drop-drop, length-take-le, getD-append-add, getD-drop, getD-take}
 use lib.Dec.{leb}
@@ -17,6 +17,7 @@ use Rattle.shelf.specs.Totals.{nothing, sum, ofTable, totalsOf, within, 
 use Rattle.shelf.specs.TotalsLaws.{sum-assoc, sum-comm, sum-nothing, nothing-sum, totals-none, totals-next, totals-one, totals-append, nothing-within, within-over, bounded-is, bounded-over, bounded-told, bounded-told-over}
 use Rattle.shelf.specs.Stream.{tableLength, wholesIn, restIn, wholes, rest, cutOff, tables, shelf, counted, passedTo, passed}
 use Rattle.shelf.specs.declared.totals.Totals.{Totals}
+use Rattle.shelf.specs.declared.totals.Counted.{Counted}
 use Rattle.shelf.specs.declared.totals.Counted.the-variants.{Is, TooLarge}
 use Rattle.shelf.specs.declared.stream.Passed.{Passed}
 use Rattle.shelf.specs.declared.stream.Passed.the-variants.{On, Over}
@@ -389,26 +390,39 @@ shelf-whole s h =
     nil [] h = refl
     nil (b ∷ r) h = absurd (omega arith)
 
--- so the totals so far, and then one table or none
-pub counted-rest :
-    (a : Totals) (s : List ℕ) {b : Totals} {used : ℕ} → On b used ≡ passed a s → used < length s
-    → bounded (sum b (ofTable (drop used s))) ≡ counted a s
-unfolding counted passed
-counted-rest a s h l =
-    let t = passedTo-told _ _ h in
-    let u = t .2 in
-    rw (t .1, u)
-    (ap (λ (x : List ℕ). bounded (sum (sum a (totalsOf (wholes s))) (ofTable x))) (rest-drop s)
-    ∙ ap bounded (sum-assoc a (totalsOf (wholes s)) (ofTable (rest s)) ∙ ap (sum a) (sym (shelf-rest s (omega arith)))))
+-- totals so far, and what is left behind the whole tables
+unfoldable pub withRest : Totals → List ℕ → Counted
+withRest a [] = Is a
+withRest a (b ∷ s) = bounded (sum a (ofTable (b ∷ s)))
 
-pub counted-whole : (a : Totals) (s : List ℕ) {b : Totals} {used : ℕ} → On b used ≡ passed a s → length s ≤ used → Is b ≡ counted a s
+pub withRest-none : (a : Totals) (s : List ℕ) → length s ≡ 0 → withRest a s ≡ Is a
+unfolding withRest
+withRest-none a [] h = refl
+withRest-none a (b ∷ s) h = absurd (omega arith)
+
+pub withRest-some : (a : Totals) (s : List ℕ) → (length s ≡ 0 → ⊥) → withRest a s ≡ bounded (sum a (ofTable s))
+unfolding withRest
+withRest-some a [] h = absurd (h refl)
+withRest-some a (b ∷ s) h = refl
+
+-- the bytes counted lie in what was read
+pub passed-used : (a : Totals) (s : List ℕ) {b : Totals} {used : ℕ} → On b used ≡ passed a s → used ≤ length s
+unfolding passed
+passed-used a s h = let u = passedTo-told _ _ h .2 in omega arith
+
+-- so all tables: the whole ones, and then one that is cut off or none
+pub counted-rest : (a : Totals) (s : List ℕ) {b : Totals} {used : ℕ} → On b used ≡ passed a s → withRest b (drop used s) ≡ counted a s
 unfolding counted passed
-counted-whole a s {b} {used} h l =
+counted-rest a s {b} {used} h =
     let t = passedTo-told _ _ h in
-    let u = t .2 in
-    let r = rest-length s in
-    let e : b ≡ sum a (shelf s) = t .1 ∙ ap (sum a) (sym (shelf-whole s (omega arith))) in
-    ap Is e ∙ sym (bounded-is _ (ap within (sym e ∙ t .1) ∙ t .0))
+    let e : drop used s ≡ rest s = ap (λ (x : ℕ). drop x s) (t .2) ∙ rest-drop s in
+    ap (withRest b) e ∙ elim (ℕ-discrete (length (rest s)) 0) [
+      | yes z ↦ (let q : b ≡ sum a (shelf s) = t .1 ∙ ap (sum a) (sym (shelf-whole s z)) in
+          withRest-none b (rest s) z ∙ ap Is q ∙ sym (bounded-is _ (ap within (sym q ∙ t .1) ∙ t .0)))
+      | no z ↦ withRest-some b (rest s) z
+          ∙ ap (λ (x : Totals). bounded (sum x (ofTable (rest s)))) (t .1)
+          ∙ ap bounded (sum-assoc a (totalsOf (wholes s)) (ofTable (rest s)) ∙ ap (sum a) (sym (shelf-rest s (omega arith))))
+    ]
 
 pub counted-over : (a : Totals) (s : List ℕ) → Over ≡ passed a s → TooLarge ≡ counted a s
 unfolding counted passed shelf tables

@@ -74,10 +74,10 @@ totals-append (t ∷ ts) us =
 -- ---- 64 bits
 
 -- a number fits into what another leaves exactly where their sum is within them
-pub room-left : (a b : ℕ) → b ≤ most → leb a (most - b) ≡ leb (a + b) most
-room-left a b h = elim (decLe (a + b) most) [
-  | yes l ↦ le-leb a (most - b) (omega arith) ∙ sym (le-leb _ _ l)
-  | no l ↦ (let g = lt-of-not-le l in lt-leb a (most - b) (omega arith) ∙ sym (lt-leb _ _ g))
+pub room-left : (a b : ℕ) {left : ℕ} → b ≤ most → left ≡ most - b → leb a left ≡ leb (a + b) most
+room-left a b {left} h e = elim (decLe (a + b) most) [
+  | yes l ↦ le-leb a left (omega arith) ∙ sym (le-leb _ _ l)
+  | no l ↦ (let g = lt-of-not-le l in lt-leb a left (omega arith) ∙ sym (lt-leb _ _ g))
 ]
 
 -- each is within them
@@ -197,11 +197,11 @@ bounded-told-over a h = decided (within a) refl
 
 -- ---- one table
 
--- one that is not fit adds to the tables and to its rule alone
-abbrev pub ofUnfit : ℕ → Totals
-ofUnfit rule = record {
+-- by the first rule that it breaks, 0 for none: one that is not fit adds nothing more
+abbrev pub ofRule : ℕ → Totals
+ofRule rule = record {
   tables = 1;
-  fit = 0;
+  fit = oneIf (eqb rule 0);
   rule1 = oneIf (eqb rule 1);
   rule2 = oneIf (eqb rule 2);
   rule3 = oneIf (eqb rule 3);
@@ -215,8 +215,8 @@ ofUnfit rule = record {
   trackless = 0;
 }
 
-pub ofTable-unfit : (t : List ℕ) → isFit t ≡ false → ofTable t ≡ ofUnfit (fault t)
-unfolding ofTable ifFit if_then_else_
+pub ofTable-unfit : (t : List ℕ) → isFit t ≡ false → ofTable t ≡ ofRule (fault t)
+unfolding ofTable ifFit isFit oneIf if_then_else_
 ofTable-unfit t h = rw h
 
 -- and one that is adds what it holds

@@ -11,7 +11,7 @@ ghost use lib.ListN.{length, take, drop};
 ghost use Rattle.ground.specs.Memory.{Laid};
 ghost use Rattle.shelf.specs.Totals.{nothing, sum};
 ghost use Rattle.shelf.specs.Stream.{counted, passedTo, passed};
-ghost use Rattle.shelf.specs.StreamLaws.{wholeLength, leftBy};
+ghost use Rattle.shelf.specs.StreamLaws.{wholeLength, withRest, leftBy};
 
 // The totals with the whole tables counted, and how many bytes those took; or a total is past 64 bits.
 pub enum Passed {
@@ -81,17 +81,22 @@ pub fn count_whole(totals: Totals, s: &[u8]) -> Passed
     }
 }
 
+// Counts what is left behind the whole tables, if anything is: a table that is cut off.
+fn with_rest(totals: Totals, rest: &[u8]) -> Counted
+    ensures { λ r. ⌜ r ≡ withRest totals (now (rest .entry)) ⌝ }
+{
+    if rest.len() == 0 {
+        return Counted::Is(totals);
+    }
+    count(totals, rest)
+}
+
 // Counts all tables of s, the last of which may be cut off.
 pub fn count_all(totals: Totals, s: &[u8]) -> Counted
     ensures { λ r. ⌜ r ≡ counted totals (now (s .entry)) ⌝ }
 {
     match count_whole(totals, s) {
-        Passed::On { totals, used } => {
-            if used < s.len() {
-                return count(totals, &s[used..]);
-            }
-            Counted::Is(totals)
-        }
+        Passed::On { totals, used } => with_rest(totals, &s[used..]),
         Passed::Over => Counted::TooLarge,
     }
 }

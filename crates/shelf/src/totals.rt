@@ -13,7 +13,7 @@ ghost use Rattle.disc.specs.Rules.{isFit};
 ghost use Rattle.disc.specs.Disc.{discOf};
 ghost use Rattle.shelf.specs.Count.{oneIf};
 ghost use Rattle.shelf.specs.Totals.{nothing, sum, ofTable, most, within, bounded};
-ghost use Rattle.shelf.specs.TotalsLaws.{ofUnfit, Within, numbersOf};
+ghost use Rattle.shelf.specs.TotalsLaws.{ofRule, Within, numbersOf};
 
 // The totals, in the order of their lines.
 pub struct Totals {
@@ -69,13 +69,13 @@ fn one_if(b: bool) -> u64
     0
 }
 
-// Of one table that is not fit.
-fn of_unfit(rule: u8) -> Totals
-    ensures { λ r. ⌜ r ≡ ofUnfit rule ⌝ }
+// Of one table, by the first rule that it breaks; what a fit one holds is not counted.
+fn of_rule(rule: u8) -> Totals
+    ensures { λ r. ⌜ r ≡ ofRule rule ⌝ }
 {
     Totals {
         tables: 1,
-        fit: 0,
+        fit: one_if(rule == 0),
         rule1: one_if(rule == 1),
         rule2: one_if(rule == 2),
         rule3: one_if(rule == 3),
@@ -119,7 +119,7 @@ fn of_table(t: &[u8]) -> Totals
 {
     match read(t) {
         Reading::Fit(disc) => of_fit(t, disc),
-        Reading::Unfit(rule) => of_unfit(rule),
+        Reading::Unfit(rule) => of_rule(rule),
     }
 }
 
