@@ -9,3 +9,4 @@ pub mod TotalsLaws
 pub mod Stream
 pub mod StreamLaws
 pub mod ShelfLaws
+pub mod Examples
