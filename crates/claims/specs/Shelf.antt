@@ -5,7 +5,7 @@ use Prim.Native.Nat.{ℕ, _+_, _-_, _≤_, _<_}
 use native.Mathlib.Omega.{arith}
 use lib.ListN.{length, take, drop}
 use lib.Seq.{length-take-le}
-use Rattle.table.specs.Layout.{bound}
+use Rattle.table.specs.Layout.{bound, dataLength}
 use Rattle.disc.specs.Rules.{fault}
 use Rattle.shelf.specs.Totals.{sum, totalsOf, within}
 use Rattle.shelf.specs.TotalsLaws.{Within, totals-append}
@@ -13,7 +13,8 @@ use Rattle.shelf.specs.Stream.{tableLength, wholes, rest, tables, shelf, counte
 use Rattle.shelf.specs.StreamLaws.{tables-none, tables-next, tables-cut, tables-more}
 use Rattle.shelf.specs.declared.totals.Totals.{Totals}
 use Rattle.shelf.specs.declared.totals.Counted.the-variants.{Is, TooLarge}
-use Rattle.shelf.specs.ShelfLaws.{joined, leadOuts, tables-blocks, tables-count, tables-each, tables-joined, cut-broken, over-broken, pieces, pieces-agree, counted-within}
+use Rattle.shelf.specs.Shelved.{joined, leadOuts, pieces}
+use Rattle.shelf.specs.ShelfLaws.{tables-blocks, tables-count, tables-each, tables-joined, short-broken, cut-broken, over-broken, pieces-agree, counted-within}
 
 -- ---- the cutting
 
@@ -37,6 +38,12 @@ pub shelf-over :
     (s : List ℕ) → tableLength s ≤ length s → bound < tableLength s
     → (tables s ≡ take (tableLength s) s ∷ tables (drop (tableLength s) s)) × (fault (take (tableLength s) s) ≡ 1)
 shelf-over s l h = (tables-next s l, over-broken (take (tableLength s) s) (let e = length-take-le (tableLength s) s l in omega arith))
+
+-- a data length of 0 or 1 makes a table of 2 or 3 bytes: rule 1, and on
+pub shelf-short :
+    (s : List ℕ) → tableLength s ≤ length s → dataLength s ≤ 1
+    → (tables s ≡ take (tableLength s) s ∷ tables (drop (tableLength s) s)) × (fault (take (tableLength s) s) ≡ 1)
+shelf-short s l h = (tables-next s l, short-broken (take (tableLength s) s) (let e = length-take-le (tableLength s) s l in omega arith))
 
 -- ---- the totals
 

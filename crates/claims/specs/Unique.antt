@@ -75,10 +75,8 @@ use Rattle.cue.specs.declared.write.Written.{Written}
 use Rattle.shelf.specs.declared.totals.Totals.{Totals}
 use Rattle.shelf.specs.declared.totals.Counted.{Counted}
 use Rattle.shelf.specs.declared.stream.Passed.{Passed}
-use Rattle.shelf.specs.Totals.{nothing, sum, ofTable, bounded}
-use Rattle.shelf.specs.TotalsLaws.{numbersOf}
-use Rattle.shelf.specs.Stream.{counted, passed}
-use Rattle.shelf.specs.StreamLaws.{leftBy}
+use Rattle.shelf.specs.Totals.{nothing, sum, ofTable, bounded, numbersOf}
+use Rattle.shelf.specs.Stream.{counted, passed, leftBy}
 use Rattle.cue.specs.Write.{answer as answerSheet, Turned}
 
 -- ---- the shapes of a promise, a law each

@@ -19,7 +19,7 @@ use Rattle.drive.specs.declared.state.Drive.{Drive}
 use Rattle.disc.specs.Part.{unfit}
 use Rattle.outcome.specs.declared.Outcome.{Outcome}
 use Rattle.cue.specs.declared.write.Written.{Written}
-use Rattle.shelf.specs.TotalsLaws.{numbersOf}
+use Rattle.shelf.specs.Totals.{numbersOf}
 use Rattle.shelf.specs.declared.totals.Totals.{Totals}
 use Rattle.shelf.specs.declared.totals.Counted.{Counted}
 use Rattle.shelf.specs.declared.totals.Counted.the-variants.{Is, TooLarge}

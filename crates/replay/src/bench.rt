@@ -1,4 +1,6 @@
 // What is kept from record to record, and what each kind of record does with it.
+use crate::given::TOTALS;
+use crate::given::totals_of;
 use crate::line::put_address;
 use crate::line::put_counted;
 use crate::line::put_moved;
@@ -6,8 +8,6 @@ use crate::line::put_msf;
 use crate::line::put_packet;
 use crate::line::put_part;
 use crate::line::put_written;
-use crate::totals::TOTALS;
-use crate::totals::totals_of;
 use address::Block;
 use address::Msf;
 use address::to_block;

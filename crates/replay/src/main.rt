@@ -1,7 +1,7 @@
 // Runs a recorded stream of calls from standard input, and prints a line for each.
 mod bench;
+mod given;
 mod line;
-mod totals;
 
 use bench::Bench;
 use bench::Turn;

@@ -1,7 +1,7 @@
 -- A shelf of Table E, a disc of two sessions with a gap between them, tables of data length 0 and 1, and one cut off: its totals, by computation,
 -- block by block.
 use mathlib.Core.Path.{_≡_, refl}
-use mathlib.Core.List.{List, [], _∷_, _++_}
+use mathlib.Core.List.{List, _∷_, _++_}
 use Prim.Native.Nat.{ℕ}
 use lib.ListN.{take}
 use Rattle.ground.specs.Tests.{_and_, _or_, every, if_then_else_}
@@ -14,8 +14,8 @@ use Rattle.disc.specs.Examples.{tableE, two}
 use Rattle.tracks.specs.Track.{nextOut, outAt, covers, wanted, nextFound, found, trackOf, isMode}
 use Rattle.shelf.specs.Count.{sumBelow, oneIf, countBelow}
 use Rattle.shelf.specs.Content.{tracksIn, blocksIn, isNone}
-use Rattle.shelf.specs.Totals.{ifFit, ofTable, totalsOf, within, bounded}
-use Rattle.shelf.specs.Stream.{wholesIn, restIn, wholes, rest, cutOff, tables, shelf, counted}
+use Rattle.shelf.specs.Totals.{ifFit, ofTable, totalsOf}
+use Rattle.shelf.specs.Stream.{wholesIn, restIn, wholes, rest, cutOff, tables, shelf}
 use Rattle.shelf.specs.declared.totals.Totals.{Totals}
 
 -- Table E: blocks 0 to 149 data and 150 to 299 audio; `two 300`: audio from 0 to 149 and from 300 to 449

@@ -8,5 +8,6 @@ pub mod Totals
 pub mod TotalsLaws
 pub mod Stream
 pub mod StreamLaws
+pub mod Shelved
 pub mod ShelfLaws
 pub mod Examples

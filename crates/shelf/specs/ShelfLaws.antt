@@ -18,18 +18,14 @@ use Rattle.shelf.specs.ContentLaws.{blocks-three}
 use Rattle.shelf.specs.Totals.{sum, ifFit, ofTable, totalsOf, most, within, bounded}
 use Rattle.shelf.specs.TotalsLaws.{Within, within-parts, parts-within, within-over, sum-assoc, totals-append, bounded-is, bounded-over}
 use Rattle.shelf.specs.Stream.{tableLength, wholes, rest, tables, shelf, counted, passed}
+use Rattle.shelf.specs.Shelved.{joined, leadOuts, goOn, pieces}
 use Rattle.shelf.specs.StreamLaws.{tables-none, tables-next, tables-cut, tables-more, rest-drop, passedTo-on, passedTo-over}
 use Rattle.shelf.specs.declared.totals.Totals.{Totals}
-use Rattle.shelf.specs.declared.totals.Counted.{Counted}
 use Rattle.shelf.specs.declared.totals.Counted.the-variants.{Is, TooLarge}
 use Rattle.shelf.specs.declared.stream.Passed.{Passed}
 use Rattle.shelf.specs.declared.stream.Passed.the-variants.{On, Over}
 
--- ---- lists one after the other
-
-unfoldable pub joined : List (List ℕ) → List ℕ
-joined [] = []
-joined (t ∷ ts) = t ++ joined ts
+-- ---- tables one after the other
 
 nil : (s : List ℕ) → length s ≡ 0 → s ≡ []
 nil [] h = refl
@@ -63,12 +59,17 @@ rule1-broken : (t : List ℕ) → rule1 t ≡ false → fault t ≡ 1
 unfolding fault firstBroken
 rule1-broken t h = rw h
 
+-- a table without its four bytes of header
+pub short-broken : (t : List ℕ) → length t < header → fault t ≡ 1
+unfolding rule1
+short-broken t h = rule1-broken t (sym (and-off _ _ (lt-leb _ _ h)))
+
 -- a table that is cut off is shorter than it says
 pub cut-broken : (t : List ℕ) → length t < tableLength t → fault t ≡ 1
 unfolding rule1
 cut-broken t h = elim (decLe header (length t)) [
   | yes l ↦ rule1-broken t (sym (and-late _ _ (and-late _ _ (and-late _ _ (sym (ne-eqb (dataLength t) (length t - 2) (λ e. omega arith)))))))
-  | no l ↦ rule1-broken t (sym (and-off _ _ (lt-leb _ _ (lt-of-not-le l))))
+  | no l ↦ short-broken t (lt-of-not-le l)
 ]
 
 -- one over the bound is too long
@@ -122,11 +123,6 @@ table-one t = refl
 
 -- ---- and so any number of them
 
--- the sum of the fit tables' last lead-outs
-unfoldable pub leadOuts : List (List ℕ) → ℕ
-leadOuts [] = 0
-leadOuts (t ∷ ts) = ifFit t (lastOut t) + leadOuts ts
-
 pub tables-blocks : (ts : List (List ℕ)) → totalsOf ts .«data_blocks» + totalsOf ts .«audio_blocks» + totalsOf ts .trackless ≡ leadOuts ts
 unfolding totalsOf leadOuts
 tables-blocks [] = refl
@@ -160,16 +156,6 @@ counted-within a s = (λ w. bounded-is _ (parts-within w), λ n. decided (within
     decided false e n = bounded-over _ e
 
 -- ---- piece by piece
-
--- what was counted so far, and what is left of it
-unfoldable pub goOn : Passed → List ℕ → (Totals → List ℕ → Counted) → Counted
-goOn (On a used) s more = more a (drop used s)
-goOn Over s more = TooLarge
-
--- pieces as the program reads them: the whole tables are counted, and what is left stands before the next piece
-unfoldable pub pieces : Totals → List ℕ → List (List ℕ) → Counted
-pieces a held [] = counted a held
-pieces a held (p ∷ ps) = goOn (passed a (held ++ p)) (held ++ p) (λ b left. pieces b left ps)
 
 -- the whole tables counted, and then the rest with what comes behind it
 counted-more : (a : Totals) (s r : List ℕ) → sum a (shelf (s ++ r)) ≡ sum (sum a (totalsOf (wholes s))) (shelf (rest s ++ r))

@@ -56,3 +56,8 @@ passedTo a used = if within a then On a used else Over
 -- what was read so far: its whole tables are counted, and how many bytes they take is told
 unfoldable pub passed : Totals → List ℕ → Passed
 passed a s = passedTo (sum a (totalsOf (wholes s))) (length s - length (rest s))
+
+-- how many of n bytes are left
+unfoldable pub leftBy : Passed → ℕ → ℕ
+leftBy (On a used) n = n - used
+leftBy Over n = 0

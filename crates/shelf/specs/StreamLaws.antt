@@ -15,7 +15,7 @@ use Rattle.ground.specs.Tests.{if_then_else_, when, unless, either}
 use Rattle.ground.specs.Memory.{Laid, fill-fits}
 use Rattle.shelf.specs.Totals.{nothing, sum, ofTable, totalsOf, within, bounded}
 use Rattle.shelf.specs.TotalsLaws.{sum-assoc, sum-comm, sum-nothing, nothing-sum, totals-none, totals-next, totals-one, totals-append, nothing-within, within-over, bounded-is, bounded-over, bounded-told, bounded-told-over}
-use Rattle.shelf.specs.Stream.{tableLength, wholesIn, restIn, wholes, rest, cutOff, tables, shelf, counted, passedTo, passed}
+use Rattle.shelf.specs.Stream.{tableLength, wholesIn, restIn, wholes, rest, cutOff, tables, shelf, counted, passedTo, passed, leftBy}
 use Rattle.shelf.specs.declared.totals.Totals.{Totals}
 use Rattle.shelf.specs.declared.totals.Counted.{Counted}
 use Rattle.shelf.specs.declared.totals.Counted.the-variants.{Is, TooLarge}
@@ -432,11 +432,6 @@ counted-over a s h =
     ∙ sym (sum-assoc a (totalsOf (wholes s)) (totalsOf (cutOff (rest s))))) ∙ within-over _ _ w))
 
 -- ---- room for more
-
--- how many of n bytes are left
-unfoldable pub leftBy : Passed → ℕ → ℕ
-leftBy (On a used) n = n - used
-leftBy Over n = 0
 
 pub leftBy-on : (a : Totals) (used n : ℕ) → leftBy (On a used) n ≡ n - used
 unfolding leftBy

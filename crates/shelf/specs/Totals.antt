@@ -90,3 +90,9 @@ within a =
 -- "past that it stops with "total too large""
 unfoldable pub bounded : Totals → Counted
 bounded a = if within a then Is a else TooLarge
+
+-- the totals in the order of their lines
+abbrev pub numbersOf : Totals → List ℕ
+numbersOf a =
+    a .tables ∷ a .fit ∷ a .rule1 ∷ a .rule2 ∷ a .rule3 ∷ a .rule4 ∷ a .rule5 ∷ a .rule6 ∷ a .rule7 ∷ a .tracks ∷ a .«data_blocks»
+    ∷ a .«audio_blocks» ∷ a .trackless ∷ []

@@ -264,11 +264,3 @@ fit-adds t i d e =
       noneMost = omega arith;
       same = ofTable-fit t i (omega arith) refl (omega arith) refl;
     })
-
--- ---- the lines
-
--- the totals in the order of their lines
-abbrev pub numbersOf : Totals → List ℕ
-numbersOf a =
-    a .tables ∷ a .fit ∷ a .rule1 ∷ a .rule2 ∷ a .rule3 ∷ a .rule4 ∷ a .rule5 ∷ a .rule6 ∷ a .rule7 ∷ a .tracks ∷ a .«data_blocks»
-    ∷ a .«audio_blocks» ∷ a .trackless ∷ []

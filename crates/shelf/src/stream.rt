@@ -10,8 +10,8 @@ ghost use Prim.Native.Nat.{_-_, _≤_};
 ghost use lib.ListN.{length, take, drop};
 ghost use Rattle.ground.specs.Memory.{Laid};
 ghost use Rattle.shelf.specs.Totals.{nothing, sum};
-ghost use Rattle.shelf.specs.Stream.{counted, passedTo, passed};
-ghost use Rattle.shelf.specs.StreamLaws.{wholeLength, withRest, leftBy};
+ghost use Rattle.shelf.specs.Stream.{counted, passedTo, passed, leftBy};
+ghost use Rattle.shelf.specs.StreamLaws.{wholeLength, withRest};
 
 // The totals with the whole tables counted, and how many bytes those took; or a total is past 64 bits.
 pub enum Passed {

@@ -12,8 +12,8 @@ ghost use Rattle.ground.specs.Tests.{_and_};
 ghost use Rattle.disc.specs.Rules.{isFit};
 ghost use Rattle.disc.specs.Disc.{discOf};
 ghost use Rattle.shelf.specs.Count.{oneIf};
-ghost use Rattle.shelf.specs.Totals.{nothing, sum, ofTable, most, within, bounded};
-ghost use Rattle.shelf.specs.TotalsLaws.{ofRule, Within, numbersOf};
+ghost use Rattle.shelf.specs.Totals.{nothing, sum, ofTable, most, within, bounded, numbersOf};
+ghost use Rattle.shelf.specs.TotalsLaws.{ofRule, Within};
 
 // The totals, in the order of their lines.
 pub struct Totals {

@@ -3,7 +3,7 @@ use Prim.Native.Nat.{ℕ}
 use mathlib.Core.List.{List, [], _∷_}
 use Rattle.print.specs.Joined.{_next_}
 use Rattle.print.specs.Numbers.{joined}
-use Rattle.shelf.specs.TotalsLaws.{numbersOf}
+use Rattle.shelf.specs.Totals.{numbersOf}
 use Rattle.shelf.specs.declared.totals.Totals.{Totals}
 use Rattle.shelf.specs.declared.totals.Counted.{Counted}
 use Rattle.shelf.specs.declared.totals.Counted.the-variants.{Is, TooLarge}
