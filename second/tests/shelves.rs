@@ -20,7 +20,9 @@ use second::cases::sheet::{
     small_fit, three_sittings, two_sessions, two_sittings, Plan, Sheet, FREE,
 };
 use second::cases::shelf_files;
-use second::cases::shelf_stream::{all_audio, all_data, any_shelf, any_table, of_length, tables};
+use second::cases::shelf_stream::{
+    all_audio, all_data, any_shelf, any_table, cut_off, of_length, tables,
+};
 use second::cases::stream::Stream;
 use second::drive::State;
 use second::limits::{BOUND, TOP_ADDRESS};
@@ -291,6 +293,8 @@ fn one_after_the_other() {
 fn an_empty_stream() {
     assert_eq!(on_a_shelf(&[]), [0; 13]);
     assert_eq!(items(&[]), []);
+    // Drawn ones may be cut off where there is nothing to cut.
+    assert_eq!(cut_off(&mut Rng::new(1), Vec::new()), []);
     assert_eq!(lines(count(Totals::default(), &[])), "0\n".repeat(13));
     let from = Totals([7; LINES]);
     assert_eq!(count(from, &[]), Ok(from));

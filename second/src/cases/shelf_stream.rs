@@ -119,9 +119,12 @@ pub fn tables(rng: &mut Rng, count: usize) -> Vec<u8> {
     (0..count).flat_map(|_| any_table(rng)).collect()
 }
 
-/// The same, cut off somewhere: in its last table most often.
+/// The same, cut off somewhere: in its last table most often. Of nothing nothing is left.
 pub fn cut_off(rng: &mut Rng, mut stream: Vec<u8>) -> Vec<u8> {
     let length = stream.len();
+    if length == 0 {
+        return stream;
+    }
     let less = match rng.below(3) {
         0 => rng.range(1, length),
         1 => rng.range(1, length.min(12)),
