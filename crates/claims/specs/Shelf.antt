@@ -7,20 +7,20 @@ use lib.ListN.{length, take, drop}
 use lib.Seq.{length-take-le}
 use Rattle.table.specs.Layout.{bound, dataLength}
 use Rattle.disc.specs.Rules.{fault}
-use Rattle.shelf.specs.Totals.{sum, totalsOf, within}
-use Rattle.shelf.specs.TotalsLaws.{Within, totals-append}
+use Rattle.shelf.specs.Totals.{sum, totalsOf, within, Within}
+use Rattle.shelf.specs.TotalsLaws.{totals-append}
 use Rattle.shelf.specs.Stream.{tableLength, wholes, rest, tables, shelf, counted}
 use Rattle.shelf.specs.StreamLaws.{tables-none, tables-next, tables-cut, tables-more}
 use Rattle.shelf.specs.declared.totals.Totals.{Totals}
 use Rattle.shelf.specs.declared.totals.Counted.the-variants.{Is, TooLarge}
-use Rattle.shelf.specs.Shelved.{joined, leadOuts, pieces}
-use Rattle.shelf.specs.ShelfLaws.{tables-blocks, tables-count, tables-each, tables-joined, short-broken, cut-broken, over-broken, pieces-agree, counted-within}
+use Rattle.shelf.specs.Shelved.{concat, leadOuts, pieces}
+use Rattle.shelf.specs.ShelfLaws.{tables-blocks, tables-count, tables-each, tables-concat, short-broken, cut-broken, over-broken, pieces-agree, counted-within}
 
 -- ---- the cutting
 
 -- nothing is lost: the tables one after the other are the stream
-pub shelf-joined : (s : List ℕ) → joined (tables s) ≡ s
-shelf-joined = tables-joined
+pub shelf-joined : (s : List ℕ) → concat (tables s) ≡ s
+shelf-joined = tables-concat
 
 -- an empty stream has no table; "each its data length plus 2 long": a table that is whole, and then those behind it
 pub shelf-none : tables [] ≡ []
@@ -87,5 +87,5 @@ shelf-too-large a s w = counted-within a s .1 w
 -- ---- in pieces
 
 -- read in pieces, whatever they are, as the program reads: what each piece leaves of a table stands before the next one
-pub shelf-pieces : (a : Totals) (held : List ℕ) (ps : List (List ℕ)) → pieces a held ps ≡ counted a (held ++ joined ps)
+pub shelf-pieces : (a : Totals) (held : List ℕ) (ps : List (List ℕ)) → pieces a held ps ≡ counted a (held ++ concat ps)
 shelf-pieces = pieces-agree

@@ -356,23 +356,23 @@ module _ {t : List ℕ} (f : Fit t) where
 -- ---- session by session, as the code goes
 
 -- of k sessions: the next begins at `at`, and the one before has its lead-out at `out`
-pub record Counted (t : List ℕ) (k at out ofData ofNone : ℕ) : Type 0 where
+pub record Summed (t : List ℕ) (k at out ofData ofNone : ℕ) : Type 0 where
   pub walked : Walked (lastSession t) (descriptors t) k at
   pub lead : out ≡ outBefore (descriptors t) k
   pub dataBlocks : ofData ≡ sumBelow k (λ j. modeBlocks Data (session (descriptors t) j))
   pub noneBlocks : ofNone ≡ sumBelow k (gapBefore (descriptors t))
 
-pub counted-none : (t : List ℕ) → Counted t 0 0 0 0 0
+pub summed-none : (t : List ℕ) → Summed t 0 0 0 0 0
 unfolding outBefore
-counted-none t = record { walked = walked-none _ _; lead = refl; dataBlocks = sym (sum-none _); noneBlocks = sym (sum-none _) }
+summed-none t = record { walked = walked-none _ _; lead = refl; dataBlocks = sym (sum-none _); noneBlocks = sym (sum-none _) }
 
-module _ {t : List ℕ} (f : Fit t) {k at out ofData ofNone : ℕ} (c : Counted t k at out ofData ofNone) where
+module _ {t : List ℕ} (f : Fit t) {k at out ofData ofNone : ℕ} (c : Summed t k at out ofData ofNone) where
   -- never more than the last lead-out may be
-  pub counted-most : (ofData ≤ 449849) × (ofNone ≤ 449849)
-  counted-most =
+  pub summed-most : (ofData ≤ 449849) × (ofNone ≤ 449849)
+  summed-most =
       let w = c .walked .turns in
       let l = out-most f k w in
-      let a = session-counts f (isMode Data) k w ∙ sum-same k _ _ (λ j h. such-mode f Data j (omega arith)) in
+      let a = fit-mode-to f Data k w in
       let b = session-counts f isNone k w ∙ sum-same k _ _ (λ j h. such-none f j (omega arith)) in
       let p = count-most (outBefore (descriptors t) k) (λ b. isMode Data (trackOf (descriptors t) b)) in
       let q = count-most (outBefore (descriptors t) k) (λ b. isNone (trackOf (descriptors t) b)) in
@@ -382,20 +382,20 @@ module _ {t : List ℕ} (f : Fit t) {k at out ofData ofNone : ℕ} (c : Counted 
 
   module _ (i : k < lastSession t) where
     -- the session that begins here
-    pub counted-here : IsSession (k + 1) (drop at (descriptors t))
-    counted-here = placed-at _ _ (fit-places f) (c .walked .place) i
+    pub summed-here : IsSession (k + 1) (drop at (descriptors t))
+    summed-here = placed-at _ _ (fit-places f) (c .walked .place) i
 
-    pub counted-rises : Rises (drop at (descriptors t)) (tracks (drop at (descriptors t)))
-    counted-rises = rw (c .walked .place) (fit-rises f i)
+    pub summed-rises : Rises (drop at (descriptors t)) (tracks (drop at (descriptors t)))
+    summed-rises = rw (c .walked .place) (fit-rises f i)
 
-    pub counted-begins : out ≤ trackStart (drop at (descriptors t)) 0
-    counted-begins = rw (c .walked .place, c .lead) (out-begins f k i)
+    pub summed-begins : out ≤ trackStart (drop at (descriptors t)) 0
+    summed-begins = rw (c .walked .place, c .lead) (out-begins f k i)
 
-    pub counted-next :
+    pub summed-next :
         {b o d g : ℕ} → b ≡ size (drop at (descriptors t)) → o ≡ leadOut (drop at (descriptors t)) → d ≡ modeBlocks Data (drop at (descriptors t))
-        → g ≡ trackStart (drop at (descriptors t)) 0 → Counted t (k + 1) (at + b) o (ofData + d) (ofNone + (g - out))
+        → g ≡ trackStart (drop at (descriptors t)) 0 → Summed t (k + 1) (at + b) o (ofData + d) (ofNone + (g - out))
     unfolding gapBefore
-    counted-next {b} {o} {d} {g} e p q r =
+    summed-next {b} {o} {d} {g} e p q r =
         let w = c .walked .place in
         let n = sum-next k (λ j. modeBlocks Data (session (descriptors t) j)) in
         let m = sum-next k (gapBefore (descriptors t)) in
@@ -405,15 +405,15 @@ module _ {t : List ℕ} (f : Fit t) {k at out ofData ofNone : ℕ} (c : Counted 
         let y = c .noneBlocks in
         let z = c .lead in
         record {
-          walked = walked-next (c .walked) i counted-here e;
+          walked = walked-next (c .walked) i summed-here e;
           lead = p ∙ ap (λ (x : ℕ). leadOut (drop x (descriptors t))) w ∙ sym (outBefore-next (descriptors t) k);
           dataBlocks = omega arith;
           noneBlocks = omega arith;
         }
 
   -- all of them
-  pub counted-all : lastSession t ≤ k → (ofData ≡ blocksIn (isMode Data) t) × (ofNone ≡ blocksIn isNone t)
-  counted-all l =
+  pub summed-all : lastSession t ≤ k → (ofData ≡ blocksIn (isMode Data) t) × (ofNone ≡ blocksIn isNone t)
+  summed-all l =
       let e = walked-all (c .walked) l in (
         c .dataBlocks ∙ ap (λ (x : ℕ). sumBelow x (λ j. modeBlocks Data (session (descriptors t) j))) e ∙ sym (fit-mode f Data),
         c .noneBlocks ∙ ap (λ (x : ℕ). sumBelow x (gapBefore (descriptors t))) e ∙ sym (fit-none f),

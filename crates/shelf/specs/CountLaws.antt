@@ -1,5 +1,5 @@
 -- Laws of sums and counts below a bound: one step, and what a run of numbers adds that pass the test alike.
-use mathlib.Core.Path.{_≡_, refl, ap, _∙_}
+use mathlib.Core.Path.{_≡_, refl, _∙_}
 use mathlib.Core.Bool.{Bool, true, false}
 use Prim.Native.Nat.{ℕ, zero, suc, _+_, _-_, _≤_, _<_}
 use native.Mathlib.Omega.{arith}
@@ -54,11 +54,6 @@ count-none p = sum-none _
 pub count-next : (n : ℕ) (p : ℕ → Bool) → countBelow (n + 1) p ≡ countBelow n p + oneIf (p n)
 unfolding countBelow
 count-next n p = sum-next n _
-
--- two tests that agree below n
-pub count-same : (n : ℕ) (p q : ℕ → Bool) → ((i : ℕ) → i < n → p i ≡ q i) → countBelow n p ≡ countBelow n q
-unfolding countBelow
-count-same n p q h = sum-same n _ _ (λ i l. ap oneIf (h i l))
 
 -- at most n of them
 pub count-most : (n : ℕ) (p : ℕ → Bool) → countBelow n p ≤ n

@@ -36,8 +36,8 @@ abbrev pub idle : Run
 idle = record { blocks = 0; running = false; from = 0 }
 
 -- what is known once a track has been passed that starts there
-unfoldable pub passed : Bool → ℕ → Run → Run
-passed b start r =
+unfoldable pub runPast : Bool → ℕ → Run → Run
+runPast b start r =
     if b
     then (if r .running then r else record { blocks = r .blocks; running = true; from = start })
     else (if r .running then record { blocks = r .blocks + (start - r .from); running = false; from = 0 } else r)
@@ -45,7 +45,7 @@ passed b start r =
 -- once the first i tracks have been passed
 unfoldable pub runAt : List ℕ → ℕ → Run
 runAt s zero = idle
-runAt s (suc i) = passed (isData (flagsAt s (3 + i))) (trackStart s i) (runAt s i)
+runAt s (suc i) = runPast (isData (flagsAt s (3 + i))) (trackStart s i) (runAt s i)
 
 -- the blocks in all, where the next edge is there
 unfoldable pub blocksTo : ℕ → Run → ℕ

@@ -16,7 +16,7 @@ use Rattle.tracks.specs.Track.{isData}
 use Rattle.tracks.specs.declared.track.Mode.the-variants.{Data}
 use Rattle.shelf.specs.Count.{sumBelow}
 use Rattle.shelf.specs.CountLaws.{sum-none, sum-next}
-use Rattle.shelf.specs.Lengths.{edge, trackBlocks, idle, passed, runAt, blocksTo}
+use Rattle.shelf.specs.Lengths.{edge, trackBlocks, idle, runPast, runAt, blocksTo}
 use Rattle.shelf.specs.declared.content.Run.{Run}
 
 -- ---- the edges
@@ -49,23 +49,23 @@ edge-most s n i r = elim (decLe n i) [
 
 module _ (b : Bool) (start : ℕ) (r : Run) where
   -- a data track goes on with the run, or begins one
-  pub passed-on : b ≡ true → r .running ≡ true → r ≡ passed b start r
-  unfolding passed
-  passed-on e h = sym (when _ _ _ e ∙ when _ _ _ h)
+  pub runPast-on : b ≡ true → r .running ≡ true → r ≡ runPast b start r
+  unfolding runPast
+  runPast-on e h = sym (when _ _ _ e ∙ when _ _ _ h)
 
-  pub passed-begins : b ≡ true → r .running ≡ false → record { blocks = r .blocks; running = true; from = start } ≡ passed b start r
-  unfolding passed
-  passed-begins e h = sym (when _ _ _ e ∙ unless _ _ _ h)
+  pub runPast-begins : b ≡ true → r .running ≡ false → record { blocks = r .blocks; running = true; from = start } ≡ runPast b start r
+  unfolding runPast
+  runPast-begins e h = sym (when _ _ _ e ∙ unless _ _ _ h)
 
   -- another one ends it, or goes by
-  pub passed-ends :
-      b ≡ false → r .running ≡ true → record { blocks = r .blocks + (start - r .from); running = false; from = 0 } ≡ passed b start r
-  unfolding passed
-  passed-ends e h = sym (unless _ _ _ e ∙ when _ _ _ h)
+  pub runPast-ends :
+      b ≡ false → r .running ≡ true → record { blocks = r .blocks + (start - r .from); running = false; from = 0 } ≡ runPast b start r
+  unfolding runPast
+  runPast-ends e h = sym (unless _ _ _ e ∙ when _ _ _ h)
 
-  pub passed-off : b ≡ false → r .running ≡ false → r ≡ passed b start r
-  unfolding passed
-  passed-off e h = sym (unless _ _ _ e ∙ unless _ _ _ h)
+  pub runPast-off : b ≡ false → r .running ≡ false → r ≡ runPast b start r
+  unfolding runPast
+  runPast-off e h = sym (unless _ _ _ e ∙ unless _ _ _ h)
 
 pub blocksTo-on : (e : ℕ) (r : Run) → r .running ≡ true → blocksTo e r ≡ r .blocks + (e - r .from)
 unfolding blocksTo
@@ -79,7 +79,7 @@ pub runAt-none : (s : List ℕ) → runAt s 0 ≡ idle
 unfolding runAt
 runAt-none s = refl
 
-pub runAt-next : (s : List ℕ) (i : ℕ) → runAt s (i + 1) ≡ passed (isData (flagsAt s (3 + i))) (trackStart s i) (runAt s i)
+pub runAt-next : (s : List ℕ) (i : ℕ) → runAt s (i + 1) ≡ runPast (isData (flagsAt s (3 + i))) (trackStart s i) (runAt s i)
 unfolding runAt
 runAt-next s i = rw add-one
 
@@ -90,25 +90,25 @@ pub record Come (r : Run) (e blocks : ℕ) : Type 0 where
 
 come-next :
     (b x : Bool) (r : Run) (e e′ blocks : ℕ) → r .running ≡ x → e ≤ e′ → Come r e blocks
-    → Come (passed b e r) e′ (blocks + (if b then e′ - e else 0))
+    → Come (runPast b e r) e′ (blocks + (if b then e′ - e else 0))
 come-next true true r e e′ blocks q l c =
     let u = c .from in
     let v = sym (blocksTo-on e r q) ∙ c .total in
     let w = when true (e′ - e) 0 refl in
-    rw (← passed-on true e r refl q) (record { from = omega arith; total = blocksTo-on e′ r q ∙ omega arith })
+    rw (← runPast-on true e r refl q) (record { from = omega arith; total = blocksTo-on e′ r q ∙ omega arith })
 come-next true false r e e′ blocks q l c =
     let v = sym (blocksTo-off e r q) ∙ c .total in
     let w = when true (e′ - e) 0 refl in
-    rw (← passed-begins true e r refl q) (record { from = l; total = blocksTo-on e′ _ refl ∙ omega arith })
+    rw (← runPast-begins true e r refl q) (record { from = l; total = blocksTo-on e′ _ refl ∙ omega arith })
 come-next false true r e e′ blocks q l c =
     let v = sym (blocksTo-on e r q) ∙ c .total in
     let w = unless false (e′ - e) 0 refl in
-    rw (← passed-ends false e r refl q) (record { from = omega arith; total = blocksTo-off e′ _ refl ∙ omega arith })
+    rw (← runPast-ends false e r refl q) (record { from = omega arith; total = blocksTo-off e′ _ refl ∙ omega arith })
 come-next false false r e e′ blocks q l c =
     let u = c .from in
     let v = sym (blocksTo-off e r q) ∙ c .total in
     let w = unless false (e′ - e) 0 refl in
-    rw (← passed-off false e r refl q) (record { from = omega arith; total = blocksTo-off e′ r q ∙ omega arith })
+    rw (← runPast-off false e r refl q) (record { from = omega arith; total = blocksTo-off e′ r q ∙ omega arith })
 
 -- the first i tracks passed: the blocks of the data tracks among them
 pub come : (s : List ℕ) (n : ℕ) → Rises s n → (i : ℕ) → i ≤ n → Come (runAt s i) (edge s n i) (sumBelow i (trackBlocks Data s n))
@@ -123,7 +123,7 @@ come s n r (suc i) l =
     let k = come-next (isData (flagsAt s (3 + i))) _ (runAt s i) (edge s n i) (edge s n (i + 1)) _ refl (omega arith) c in
     let q : Come (runAt s (i + 1)) (edge s n (i + 1)) (sumBelow (i + 1) (trackBlocks Data s n)) =
     rw (runAt-next s i, sum-next i (trackBlocks Data s n))
-    (subst (λ (x : ℕ). Come (passed (isData (flagsAt s (3 + i))) x (runAt s i)) (edge s n (i + 1))
+    (subst (λ (x : ℕ). Come (runPast (isData (flagsAt s (3 + i))) x (runAt s i)) (edge s n (i + 1))
     (sumBelow i (trackBlocks Data s n) + trackBlocks Data s n i)) e k) in
     rw (add-one i) at q
 

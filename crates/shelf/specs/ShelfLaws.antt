@@ -15,10 +15,10 @@ use Rattle.disc.specs.RulesLaws.{fault-first}
 use Rattle.shelf.specs.Count.{oneIf}
 use Rattle.shelf.specs.Content.{lastOut}
 use Rattle.shelf.specs.ContentLaws.{blocks-three}
-use Rattle.shelf.specs.Totals.{sum, ifFit, ofTable, totalsOf, most, within, bounded}
-use Rattle.shelf.specs.TotalsLaws.{Within, within-parts, parts-within, within-over, sum-assoc, totals-append, bounded-is, bounded-over}
+use Rattle.shelf.specs.Totals.{sum, ifFit, ofTable, totalsOf, most, within, bounded, Within}
+use Rattle.shelf.specs.TotalsLaws.{within-parts, parts-within, within-over, sum-assoc, totals-append, bounded-is, bounded-over}
 use Rattle.shelf.specs.Stream.{tableLength, wholes, rest, tables, shelf, counted, passed}
-use Rattle.shelf.specs.Shelved.{joined, leadOuts, goOn, pieces}
+use Rattle.shelf.specs.Shelved.{concat, leadOuts, goOn, pieces}
 use Rattle.shelf.specs.StreamLaws.{tables-none, tables-next, tables-cut, tables-more, rest-drop, passedTo-on, passedTo-over}
 use Rattle.shelf.specs.declared.totals.Totals.{Totals}
 use Rattle.shelf.specs.declared.totals.Counted.the-variants.{Is, TooLarge}
@@ -31,27 +31,27 @@ nil : (s : List ℕ) → length s ≡ 0 → s ≡ []
 nil [] h = refl
 nil (b ∷ s) h = absurd (omega arith)
 
-joined-nil : (s : List ℕ) → length s ≡ 0 → joined (tables s) ≡ s
-unfolding joined
-joined-nil s h = ap (λ (x : List ℕ). joined (tables x)) (nil s h) ∙ ap joined tables-none ∙ sym (nil s h)
+concat-nil : (s : List ℕ) → length s ≡ 0 → concat (tables s) ≡ s
+unfolding concat
+concat-nil s h = ap (λ (x : List ℕ). concat (tables x)) (nil s h) ∙ ap concat tables-none ∙ sym (nil s h)
 
 -- the tables of a stream, one after the other, are the stream
-joined-in : (n : ℕ) (s : List ℕ) → length s ≤ n → joined (tables s) ≡ s
-unfolding joined
-joined-in zero s h = joined-nil s (omega arith)
-joined-in (suc n) s h = elim (decLe (tableLength s) (length s)) [
+concat-in : (n : ℕ) (s : List ℕ) → length s ≤ n → concat (tables s) ≡ s
+unfolding concat
+concat-in zero s h = concat-nil s (omega arith)
+concat-in (suc n) s h = elim (decLe (tableLength s) (length s)) [
   | yes g ↦ (let l = length-drop (tableLength s) s in
-      ap joined (tables-next s g)
-      ∙ ap (λ (x : List ℕ). take (tableLength s) s ++ x) (joined-in n (drop (tableLength s) s) (omega arith))
+      ap concat (tables-next s g)
+      ∙ ap (λ (x : List ℕ). take (tableLength s) s ++ x) (concat-in n (drop (tableLength s) s) (omega arith))
       ∙ take-append-drop (tableLength s) s)
   | no g ↦ elim (ℕ-discrete (length s) 0) [
-    | yes e ↦ joined-nil s e
-    | no e ↦ ap joined (tables-cut s (omega arith) (lt-of-not-le g)) ∙ append-nil s
+    | yes e ↦ concat-nil s e
+    | no e ↦ ap concat (tables-cut s (omega arith) (lt-of-not-le g)) ∙ append-nil s
   ]
 ]
 
-pub tables-joined : (s : List ℕ) → joined (tables s) ≡ s
-tables-joined s = joined-in (length s) s (omega arith)
+pub tables-concat : (s : List ℕ) → concat (tables s) ≡ s
+tables-concat s = concat-in (length s) s (omega arith)
 
 -- ---- rule 1
 
@@ -184,20 +184,20 @@ counted-past : (a : Totals) (s r : List ℕ) → within (sum a (totalsOf (wholes
 unfolding counted
 counted-past a s r h = sym (bounded-over _ (ap within (counted-more a s r) ∙ within-over _ _ h))
 
-pub pieces-agree : (a : Totals) (held : List ℕ) (ps : List (List ℕ)) → pieces a held ps ≡ counted a (held ++ joined ps)
-unfolding pieces joined goOn
+pub pieces-agree : (a : Totals) (held : List ℕ) (ps : List (List ℕ)) → pieces a held ps ≡ counted a (held ++ concat ps)
+unfolding pieces concat goOn
 pieces-agree a held [] = ap (counted a) (sym (append-nil held))
 pieces-agree a held (p ∷ ps) =
     decided (within (sum a (totalsOf (wholes (held ++ p))))) refl (λ b left. pieces-agree b left ps)
-    ∙ ap (counted a) (append-assoc held p (joined ps))
+    ∙ ap (counted a) (append-assoc held p (concat ps))
   where
     decided :
         (x : Bool) → within (sum a (totalsOf (wholes (held ++ p)))) ≡ x
-        → ((b : Totals) (left : List ℕ) → pieces b left ps ≡ counted b (left ++ joined ps))
-        → goOn (passed a (held ++ p)) (held ++ p) (λ b left. pieces b left ps) ≡ counted a ((held ++ p) ++ joined ps)
+        → ((b : Totals) (left : List ℕ) → pieces b left ps ≡ counted b (left ++ concat ps))
+        → goOn (passed a (held ++ p)) (held ++ p) (λ b left. pieces b left ps) ≡ counted a ((held ++ p) ++ concat ps)
     decided true e again =
         ap (λ (x : Passed). goOn x (held ++ p) (λ b left. pieces b left ps)) (passed-is a (held ++ p) e)
-        ∙ again _ _ ∙ counted-on a (held ++ p) (joined ps)
+        ∙ again _ _ ∙ counted-on a (held ++ p) (concat ps)
     decided false e again =
         ap (λ (x : Passed). goOn x (held ++ p) (λ b left. pieces b left ps)) (passed-not a (held ++ p) e)
-        ∙ counted-past a (held ++ p) (joined ps) e
+        ∙ counted-past a (held ++ p) (concat ps) e

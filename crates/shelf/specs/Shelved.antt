@@ -12,21 +12,21 @@ use Rattle.shelf.specs.declared.stream.Passed.{Passed}
 use Rattle.shelf.specs.declared.stream.Passed.the-variants.{On, Over}
 
 -- lists one after the other
-unfoldable pub joined : List (List ℕ) → List ℕ
-joined [] = []
-joined (t ∷ ts) = t ++ joined ts
+unfoldable pub concat : List (List ℕ) → List ℕ
+concat [] = []
+concat (t ∷ ts) = t ++ concat ts
 
 -- the sum of the fit tables' last lead-outs
 unfoldable pub leadOuts : List (List ℕ) → ℕ
 leadOuts [] = 0
 leadOuts (t ∷ ts) = ifFit t (lastOut t) + leadOuts ts
 
--- what was counted so far, and what is left of it
+-- after a piece: `more` of the totals so far and of what is left of s; too large stays too large
 unfoldable pub goOn : Passed → List ℕ → (Totals → List ℕ → Counted) → Counted
 goOn (On a used) s more = more a (drop used s)
 goOn Over s more = TooLarge
 
--- pieces as the program reads them: the whole tables are counted, and what is left stands before the next piece
+-- one piece after the other: its whole tables are counted, and what is left stands before the next piece
 unfoldable pub pieces : Totals → List ℕ → List (List ℕ) → Counted
 pieces a held [] = counted a held
 pieces a held (p ∷ ps) = goOn (passed a (held ++ p)) (held ++ p) (λ b left. pieces b left ps)

@@ -1,6 +1,6 @@
 -- The thirteen totals: "prints, one a line: tables, fit ones, unfit ones by K6's rule, and over the fit ones tracks, data blocks, audio blocks,
 -- blocks of no track".
-use Prim.Native.Nat.{ℕ, _+_}
+use Prim.Native.Nat.{ℕ, _+_, _≤_}
 use mathlib.Core.Bool.{Bool}
 use mathlib.Core.List.{List, [], _∷_}
 use lib.Dec.{leb, eqb}
@@ -32,7 +32,7 @@ nothing = record {
   trackless = 0;
 }
 
--- one after the other
+-- of tables and then others: each total is the sum of both
 abbrev pub sum : Totals → Totals → Totals
 sum a b = record {
   tables = a .tables + b .tables;
@@ -81,6 +81,23 @@ totalsOf (t ∷ ts) = sum (ofTable t) (totalsOf ts)
 abbrev pub most : ℕ
 most = 18446744073709551615
 
+-- each of the thirteen
+pub record Within (a : Totals) : Type 0 where
+  pub tables : a .tables ≤ most
+  pub fit : a .fit ≤ most
+  pub rule1 : a .rule1 ≤ most
+  pub rule2 : a .rule2 ≤ most
+  pub rule3 : a .rule3 ≤ most
+  pub rule4 : a .rule4 ≤ most
+  pub rule5 : a .rule5 ≤ most
+  pub rule6 : a .rule6 ≤ most
+  pub rule7 : a .rule7 ≤ most
+  pub tracks : a .tracks ≤ most
+  pub dataBlocks : a .«data_blocks» ≤ most
+  pub audioBlocks : a .«audio_blocks» ≤ most
+  pub trackless : a .trackless ≤ most
+
+-- the same as a test
 unfoldable pub within : Totals → Bool
 within a =
     leb (a .tables) most and leb (a .fit) most and leb (a .rule1) most and leb (a .rule2) most and leb (a .rule3) most

@@ -20,7 +20,7 @@ use Rattle.shelf.specs.Count.{oneIf}
 use Rattle.shelf.specs.Content.{tracksIn, blocksIn, isNone}
 use Rattle.shelf.specs.ContentLaws.{blocks-three, fit-tracks, heldBy}
 use Rattle.shelf.specs.declared.content.Held.{Held}
-use Rattle.shelf.specs.Totals.{nothing, sum, ifFit, ofTable, totalsOf, most, within, bounded}
+use Rattle.shelf.specs.Totals.{nothing, sum, ifFit, ofTable, totalsOf, most, Within, within, bounded}
 use Rattle.shelf.specs.declared.totals.Totals.{Totals}
 use Rattle.shelf.specs.declared.totals.Counted.the-variants.{Is, TooLarge}
 
@@ -79,22 +79,6 @@ room-left a b {left} h e = elim (decLe (a + b) most) [
   | yes l ↦ le-leb a left (omega arith) ∙ sym (le-leb _ _ l)
   | no l ↦ (let g = lt-of-not-le l in lt-leb a left (omega arith) ∙ sym (lt-leb _ _ g))
 ]
-
--- each is within them
-pub record Within (a : Totals) : Type 0 where
-  pub tables : a .tables ≤ most
-  pub fit : a .fit ≤ most
-  pub rule1 : a .rule1 ≤ most
-  pub rule2 : a .rule2 ≤ most
-  pub rule3 : a .rule3 ≤ most
-  pub rule4 : a .rule4 ≤ most
-  pub rule5 : a .rule5 ≤ most
-  pub rule6 : a .rule6 ≤ most
-  pub rule7 : a .rule7 ≤ most
-  pub tracks : a .tracks ≤ most
-  pub dataBlocks : a .«data_blocks» ≤ most
-  pub audioBlocks : a .«audio_blocks» ≤ most
-  pub trackless : a .trackless ≤ most
 
 pub within-parts : {a : Totals} → within a ≡ true → Within a
 unfolding within

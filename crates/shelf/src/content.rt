@@ -20,7 +20,7 @@ ghost use Rattle.disc.specs.FitLaws.{Rises};
 ghost use Rattle.tracks.specs.Track.{isData};
 ghost use Rattle.tracks.specs.declared.track.Mode.the-variants.{Data};
 ghost use Rattle.shelf.specs.Count.{sumBelow};
-ghost use Rattle.shelf.specs.Lengths.{trackBlocks, modeBlocks, idle, passed, blocksTo};
+ghost use Rattle.shelf.specs.Lengths.{trackBlocks, modeBlocks, idle, runPast, blocksTo};
 ghost use Rattle.shelf.specs.ContentLaws.{heldBy};
 
 // Tracks passed: the blocks of the runs of data tracks that have ended, and where one began that has not.
@@ -59,7 +59,7 @@ fn address_at(s: &[u8], j: usize) -> usize
 // The session's track after i others is passed. Its address is looked at only where a run of data tracks begins or ends.
 fn pass(s: &[u8], i: usize, r: Run) -> Run
     requires { ⌜ (row * (4 + i) ≤ length (now s)) × (r .from ≤ trackStart (now s) i) × (blocksTo (trackStart (now s) i) r ≤ trackStart (now s) i) ⌝ }
-    ensures { λ q. ⌜ q ≡ passed (isData (flagsAt (now (s .entry)) (3 + i))) (trackStart (now (s .entry)) i) r ⌝ }
+    ensures { λ q. ⌜ q ≡ runPast (isData (flagsAt (now (s .entry)) (3 + i))) (trackStart (now (s .entry)) i) r ⌝ }
 {
     let j = 3 + i;
     if is_data(s[ROW * j + FLAGS]) {

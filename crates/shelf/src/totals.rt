@@ -12,8 +12,8 @@ ghost use Rattle.ground.specs.Tests.{_and_};
 ghost use Rattle.disc.specs.Rules.{isFit};
 ghost use Rattle.disc.specs.Disc.{discOf};
 ghost use Rattle.shelf.specs.Count.{oneIf};
-ghost use Rattle.shelf.specs.Totals.{nothing, sum, ofTable, most, within, bounded, numbersOf};
-ghost use Rattle.shelf.specs.TotalsLaws.{ofRule, Within};
+ghost use Rattle.shelf.specs.Totals.{nothing, sum, ofTable, most, within, bounded, numbersOf, Within};
+ghost use Rattle.shelf.specs.TotalsLaws.{ofRule};
 
 // The totals, in the order of their lines.
 pub struct Totals {
@@ -90,7 +90,7 @@ fn of_rule(rule: u8) -> Totals
     }
 }
 
-// Of one that is: its tracks are numbered without a gap, and the blocks up to L that are no data and lie in a track are audio.
+// Of a fit table: its tracks are numbered without a gap, and the blocks up to L that are no data and lie in a track are audio.
 fn of_fit(t: &[u8], disc: Disc) -> Totals
     requires { ⌜ (isFit (now t) ≡ true) × (disc ≡ discOf (now t)) ⌝ }
     ensures { λ r. ⌜ r ≡ ofTable (now (t .entry)) ⌝ }

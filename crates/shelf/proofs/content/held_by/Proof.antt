@@ -1,5 +1,5 @@
 -- `shelf::content::held_by` meets its contract: each turn adds one session more, by its tracks' lengths and by the gap before it, and all of them
--- come to the blocks counted one by one (`counted-all`).
+-- come to the blocks counted one by one (`summed-all`).
 use mathlib.Core.Path.{_≡_, refl}
 use mathlib.Core.List.{List}
 use Prim.Native.Nat.{ℕ, _+_, _-_}
@@ -10,13 +10,13 @@ use Rattle.table.specs.Layout.{descriptors}
 use Rattle.sessions.specs.Session.{size}
 use Rattle.sessions.specs.SessionLaws.{IsSession, size-least}
 use Rattle.disc.specs.RulesLaws.{fit-sized, fit-numbered}
-use Rattle.shelf.specs.ContentLaws.{Counted, counted-none, counted-most, counted-here, counted-rises, counted-begins, counted-next, counted-all}
+use Rattle.shelf.specs.ContentLaws.{Summed, summed-none, summed-most, summed-here, summed-rises, summed-begins, summed-next, summed-all}
 use borrow.Author.Needs.{needs}
 use Rattle.shelf.proofs.content.held_by.Statement.{statement}
 use Rattle.shelf.proofs.content.held_by.Tie as tie
 
 abbrev Inv-loop : tie.InvT-loop
-Inv-loop t n d k₀ at₀ out₀ of-data₀ of-none₀ k at out of-data of-none = Counted t k at out of-data of-none
+Inv-loop t n d k₀ at₀ out₀ of-data₀ of-none₀ k at out of-data of-none = Summed t k at out of-data of-none
 
 abbrev μ-loop : tie.MeasureT-loop
 μ-loop t n d k₀ at₀ out₀ of-data₀ of-none₀ k at out of-data of-none = n - k
@@ -29,7 +29,7 @@ part t at = rw (rest-all 4 t) (rest-all at (drop 4 t))
 here :
     (c : tie.In-loop Inv-loop μ-loop)
     → IsSession (c .before .loop .k + 1) (drop (c .before .loop .at) (descriptors (c .before .before .before .before .before .args .t .now)))
-here c = counted-here (c .before .before .before .before .before .pre) (c .before .loop .inv) (c .loop-test .taken)
+here c = summed-here (c .before .before .before .before .before .pre) (c .before .loop .inv) (c .loop-test .taken)
 
 sub-s : tie.Need-sub-s Inv-loop μ-loop
 sub-s c = rw (rest-all 4 (c .before .before .before .before .before .args .t .now)) (c .before .loop .inv .walked .within)
@@ -52,7 +52,7 @@ start c =
 sub-of-none : tie.Need-sub-of-none Inv-loop μ-loop
 sub-of-none c =
     let b =
-    counted-begins (c .before .before .before .before .before .before .before .pre) (c .before .before .before .loop .inv)
+    summed-begins (c .before .before .before .before .before .before .before .pre) (c .before .before .before .loop .inv)
     (c .before .before .loop-test .taken) in
     let e = start c in
     omega arith
@@ -60,8 +60,8 @@ sub-of-none c =
 add-of-none : tie.Need-add-of-none Inv-loop μ-loop
 add-of-none c =
     let f = c .before .before .before .before .before .before .before .pre in
-    let n = counted-next f (c .before .before .before .loop .inv) (c .before .before .loop-test .taken) refl refl refl (start c) in
-    let m = counted-most f n .1 in
+    let n = summed-next f (c .before .before .before .loop .inv) (c .before .before .loop-test .taken) refl refl refl (start c) in
+    let m = summed-most f n .1 in
     omega arith
 
 data-of-requires : tie.Need-data-of-requires Inv-loop μ-loop
@@ -73,7 +73,7 @@ data-of-requires c κs =
     let l = s .fits in (
       o,
       omega arith,
-      counted-rises (c .before .before .before .before .before .before .before .pre) (c .before .before .before .loop .inv)
+      summed-rises (c .before .before .before .before .before .before .before .pre) (c .before .before .before .loop .inv)
           (c .before .before .loop-test .taken),
     ))
 
@@ -83,8 +83,8 @@ add-of-data c =
     let e =
     rw (part (c .before .before .before .before .before .before .before .before .args .t .now) (c .before .before .before .before .loop .at)) at
     (c .data-of .ensures) in
-    let n = counted-next f (c .before .before .before .before .loop .inv) (c .before .before .before .loop-test .taken) refl refl e refl in
-    let m = counted-most f n .0 in
+    let n = summed-next f (c .before .before .before .before .loop .inv) (c .before .before .before .loop-test .taken) refl refl e refl in
+    let m = summed-most f n .0 in
     omega arith
 
 address-at-requires-2 : tie.Need-address-at-requires-2 Inv-loop μ-loop
@@ -96,7 +96,7 @@ loop-again : tie.Need-loop-again Inv-loop μ-loop
 loop-again c =
     let l = c .before .before .before .before .before .before .loop in
     let p = part (c .before .before .before .before .before .before .before .before .before .before .args .t .now) (l .at) in
-    counted-next (c .before .before .before .before .before .before .before .before .before .before .pre) (l .inv)
+    summed-next (c .before .before .before .before .before .before .before .before .before .before .pre) (l .inv)
     (c .before .before .before .before .before .loop-test .taken) (rw p at (c .session-bytes .ensures)) (rw p at
     (c .before .address-at2 .ensures)) (rw p at (c .before .before .data-of .ensures)) (start (c .before .before .before))
 
@@ -115,13 +115,13 @@ add-k c =
 
 returns : tie.Need-returns Inv-loop μ-loop
 returns c =
-    let a = counted-all (c .before .before .before .before .before .pre) (c .before .loop .inv) (c .loop-test .left) in
+    let a = summed-all (c .before .before .before .before .before .pre) (c .before .loop .inv) (c .loop-test .left) in
     rw (a .0, a .1)
 
 pub held-by-spec : {M : Type 1} → statement M
 held-by-spec =
     tie.close
     (tie.spec Inv-loop μ-loop (λ c. let l = fit-sized (c .before .before .pre) .least in omega arith)
-    (λ c. fit-sized (c .before .before .pre) .least) (λ c. let l = fit-sized (c .before .before .pre) .least in search needs) (λ c. search needs) (λ c. counted-none _) sub-s
+    (λ c. fit-sized (c .before .before .pre) .least) (λ c. let l = fit-sized (c .before .before .pre) .least in search needs) (λ c. search needs) (λ c. summed-none _) sub-s
     (λ c. let l = sub-s c in search needs) (λ c. search needs) address-at-requires sub-of-none add-of-none data-of-requires add-of-data address-at-requires-2
     (λ c κs. search needs) add-at add-k (λ c. search needs) loop-again returns)

@@ -2,7 +2,7 @@
 use mathlib.Core.Path.{sym, _∙_}
 use native.Mathlib.Omega.{arith}
 use Rattle.disc.specs.Rules.{trackStart}
-use Rattle.shelf.specs.LengthsLaws.{passed-on, passed-begins, passed-ends, passed-off, blocksTo-on}
+use Rattle.shelf.specs.LengthsLaws.{runPast-on, runPast-begins, runPast-ends, runPast-off, blocksTo-on}
 use borrow.Author.Needs.{needs}
 use Rattle.shelf.proofs.content.pass.Statement.{statement}
 use Rattle.shelf.proofs.content.pass.Tie as tie
@@ -23,7 +23,7 @@ is-data-requires : tie.Need-is-data-requires
 is-data-requires c κs = search needs
 
 returns : tie.Need-returns
-returns c = passed-on _ _ _ (sym (c .before .before .is-data .ensures) ∙ c .before .if1 .taken) (c .if2 .taken)
+returns c = runPast-on _ _ _ (sym (c .before .before .is-data .ensures) ∙ c .before .if1 .taken) (c .if2 .taken)
 
 address-at-requires : tie.Need-address-at-requires
 address-at-requires c κs = search needs
@@ -31,7 +31,7 @@ address-at-requires c κs = search needs
 returns-2 : tie.Need-returns-2
 returns-2 c =
     rw (c .address-at .ensures)
-    (passed-begins _ _ _ (sym (c .before .before .before .is-data .ensures) ∙ c .before .before .if1 .taken) (c .before .if2 .left))
+    (runPast-begins _ _ _ (sym (c .before .before .before .is-data .ensures) ∙ c .before .before .if1 .taken) (c .before .if2 .left))
 
 address-at-requires-2 : tie.Need-address-at-requires-2
 address-at-requires-2 c κs = search needs
@@ -51,11 +51,11 @@ add-t15 c =
 returns-3 : tie.Need-returns-3
 returns-3 c =
     rw (c .before .before .address-at2 .ensures)
-    (passed-ends _ _ _ (sym (c .before .before .before .before .before .is-data .ensures) ∙ c .before .before .before .before .if1 .left)
+    (runPast-ends _ _ _ (sym (c .before .before .before .before .before .is-data .ensures) ∙ c .before .before .before .before .if1 .left)
     (c .before .before .before .if3 .taken))
 
 returns-4 : tie.Need-returns-4
-returns-4 c = passed-off _ _ _ (sym (c .before .before .is-data .ensures) ∙ c .before .if1 .left) (c .if3 .left)
+returns-4 c = runPast-off _ _ _ (sym (c .before .before .is-data .ensures) ∙ c .before .if1 .left) (c .if3 .left)
 
 pub pass-spec : {M : Type 1} → statement M
 pass-spec =
