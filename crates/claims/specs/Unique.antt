@@ -3,9 +3,9 @@
 use mathlib.Core.Path.{_≡_, refl, sym, ap, _∙_}
 use mathlib.Core.Bool.{Bool}
 use mathlib.Core.List.{List}
-use Prim.Native.Nat.{ℕ, _-_, _≤_, _<_, min}
+use Prim.Native.Nat.{ℕ, _≤_, _<_, min}
 use native.Mathlib.Omega.{arith}
-use lib.ListN.{length, take, drop, getD}
+use lib.ListN.{length, take, getD}
 use denote.Ref.{RefT, ptr, now}
 use denote.Slice.{slice-vals}
 use Rattle.ground.specs.Number.{Byte, word16, word32, bytes16, bytes32}
@@ -74,9 +74,9 @@ use Rattle.target.specs.Packet.{answer}
 use Rattle.cue.specs.declared.write.Written.{Written}
 use Rattle.shelf.specs.declared.totals.Totals.{Totals}
 use Rattle.shelf.specs.declared.totals.Counted.{Counted}
-use Rattle.shelf.specs.declared.stream.Passed.{Passed}
+use Rattle.shelf.specs.declared.stream.Taken.{Taken}
 use Rattle.shelf.specs.Totals.{nothing, sum, ofTable, bounded, numbersOf}
-use Rattle.shelf.specs.Stream.{counted, passed, leftBy}
+use Rattle.shelf.specs.Stream.{counted, leftIn, Took}
 use Rattle.cue.specs.Write.{answer as answerSheet, Turned}
 
 -- ---- the shapes of a promise, a law each
@@ -518,13 +518,10 @@ unique-count a t r s = value-once
 pub unique-numbers : (a : Totals) (r s : List ℕ) → r ≡ numbersOf a → s ≡ numbersOf a → r ≡ s
 unique-numbers a r s = value-once
 
-pub unique-count-whole : (a : Totals) (t : List ℕ) (r s : Passed)
-    → (r ≡ passed a t) × (leftBy r (length t) ≤ 65536) → (s ≡ passed a t) × (leftBy s (length t) ≤ 65536) → r ≡ s
-unique-count-whole a t r s p q = value-once (p .0) (q .0)
-
 pub unique-count-all : (a : Totals) (t : List ℕ) (r s : Counted) → r ≡ counted a t → s ≡ counted a t → r ≡ s
 unique-count-all a t r s = value-once
 
-pub unique-keep-rest : (m m₁ m₂ : List ℕ) (from end r s : ℕ)
-    → Laid m (take (end - from) (drop from m)) r m₁ → Laid m (take (end - from) (drop from m)) s m₂ → (r ≡ s) × (m₁ ≡ m₂)
-unique-keep-rest m m₁ m₂ from end r s = laid-only
+pub unique-take-in : (a : Totals) (m m₁ m₂ : List ℕ) (end : ℕ) (r s : Taken)
+    → Took a (take end m) m r m₁ × (leftIn r ≤ 65536) → Took a (take end m) m s m₂ × (leftIn s ≤ 65536) → (r ≡ s) × (m₁ ≡ m₂)
+unique-take-in a m m₁ m₂ end r s p q =
+    (value-once (p .0 .outcome) (q .0 .outcome), value-once (p .0 .memory) (q .0 .memory))

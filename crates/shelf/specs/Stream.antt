@@ -3,12 +3,16 @@ use Prim.Native.Nat.{ℕ, zero, suc, _+_, _-_}
 use mathlib.Core.List.{List, [], _∷_, _++_}
 use lib.ListN.{length, take, drop}
 use lib.Dec.{leb}
+use mathlib.Core.Path.{_≡_}
 use Rattle.ground.specs.Tests.{if_then_else_}
+use Rattle.ground.specs.Memory.{fill}
 use Rattle.table.specs.Layout.{dataLength}
 use Rattle.shelf.specs.declared.totals.Totals.{Totals}
 use Rattle.shelf.specs.declared.totals.Counted.{Counted}
 use Rattle.shelf.specs.declared.stream.Passed.{Passed}
 use Rattle.shelf.specs.declared.stream.Passed.the-variants.{On, Over}
+use Rattle.shelf.specs.declared.stream.Taken.{Taken}
+use Rattle.shelf.specs.declared.stream.Taken.the-variants.{On as OnTaken, Over as OverTaken}
 use Rattle.shelf.specs.Totals.{sum, totalsOf, within, bounded}
 
 -- how long the table is that s begins with; a byte that is not there counts as 0
@@ -61,3 +65,22 @@ passed a s = passedTo (sum a (totalsOf (wholes s))) (length s - length (rest s))
 unfoldable pub leftBy : Passed → ℕ → ℕ
 leftBy (On a used) n = n - used
 leftBy Over n = 0
+
+-- a piece taken in: the totals so far and how many of its n bytes are left; and what the room m holds then whose first bytes are s: what is
+-- left of them stands in front
+unfoldable pub takenBy : Passed → ℕ → Taken
+takenBy (On a used) n = OnTaken a (n - used)
+takenBy Over n = OverTaken
+
+unfoldable pub keptBy : Passed → List ℕ → List ℕ → List ℕ
+keptBy (On a used) s m = fill m (drop used s)
+keptBy Over s m = m
+
+pub record Took (a : Totals) (s m : List ℕ) (r : Taken) (m′ : List ℕ) : Type 0 where
+  pub outcome : r ≡ takenBy (passed a s) (length s)
+  pub memory : m′ ≡ keptBy (passed a s) s m
+
+-- how many bytes are left
+unfoldable pub leftIn : Taken → ℕ
+leftIn (OnTaken a left) = left
+leftIn OverTaken = 0

@@ -3,24 +3,26 @@ use mathlib.Core.Path.{_≡_, refl, sym, ap, _∙_}
 use mathlib.Core.Bool.{Bool, true, false}
 use mathlib.Core.Logic.{_⊎_, ⊎-elim}
 use mathlib.Core.List.{List, [], _∷_, _++_, append-assoc, append-nil}
-use Prim.Native.Nat.{ℕ, zero, suc, _+_, _-_, _≤_, _<_}
+use Prim.Native.Nat.{ℕ, zero, suc, _+_, _-_, _≤_, _<_, min}
 use native.Mathlib.Omega.{arith}
 use native.Mathlib.Nat.{lt-of-not-le}
 use native.Mathlib.Decide.{decLe, ℕ-discrete}
-use lib.ListN.{length, take, drop, getD, length-append, length-take, length-drop}
-use lib.Seq.{take-append-le, drop-append-le, drop-drop, length-take-le, getD-append-add, getD-drop, getD-take}
+use lib.ListN.{length, take, drop, getD, length-append, length-take, length-drop, take-append-drop}
+use lib.Seq.{take-append-le, drop-append-le, drop-drop, length-take-le, getD-append-add, getD-drop, getD-take, take-all, take-append-seam}
 use lib.Dec.{leb}
 use borrow.Author.Tests.{le-leb, lt-leb}
 use Rattle.ground.specs.Tests.{if_then_else_, when, unless, either}
-use Rattle.ground.specs.Memory.{Laid, fill-fits}
+use Rattle.ground.specs.Memory.{Laid, fill, fill-fits}
 use Rattle.shelf.specs.Totals.{nothing, sum, ofTable, totalsOf, within, bounded}
 use Rattle.shelf.specs.TotalsLaws.{sum-assoc, sum-comm, sum-nothing, nothing-sum, totals-none, totals-next, totals-one, totals-append, nothing-within, within-over, bounded-is, bounded-over, bounded-told, bounded-told-over}
-use Rattle.shelf.specs.Stream.{tableLength, wholesIn, restIn, wholes, rest, cutOff, tables, shelf, counted, passedTo, passed, leftBy}
+use Rattle.shelf.specs.Stream.{tableLength, wholesIn, restIn, wholes, rest, cutOff, tables, shelf, counted, passedTo, passed, leftBy, takenBy, keptBy, leftIn, Took}
 use Rattle.shelf.specs.declared.totals.Totals.{Totals}
 use Rattle.shelf.specs.declared.totals.Counted.{Counted}
 use Rattle.shelf.specs.declared.totals.Counted.the-variants.{Is, TooLarge}
 use Rattle.shelf.specs.declared.stream.Passed.{Passed}
 use Rattle.shelf.specs.declared.stream.Passed.the-variants.{On, Over}
+use Rattle.shelf.specs.declared.stream.Taken.{Taken}
+use Rattle.shelf.specs.declared.stream.Taken.the-variants.{On as OnTaken, Over as OverTaken}
 
 -- how long the table is that s begins with, where it is whole; else 0
 unfoldable pub wholeLength : List ℕ → ℕ
@@ -455,3 +457,70 @@ passed-left a s h =
   where
     byte : (i : ℕ) → getD (rest s) i 0 < 256
     byte i = rw (sym (rest-drop s)) (rw (getD-drop (length s - length (rest s)) s i 0) (h _))
+
+-- ---- a piece taken in
+
+-- the part of a room from `used` up to n, seen from either end
+drop-of-take : (m : List ℕ) (used n : ℕ) → used ≤ n → n ≤ length m → take (n - used) (drop used m) ≡ drop used (take n m)
+drop-of-take m used n h k =
+    let l = length-take-le n m k in
+    let d = length-drop used (take n m) in
+    let e : n - used ≡ length (drop used (take n m)) = omega arith in
+    ap (λ (x : List ℕ). take (n - used) (drop used x)) (sym (take-append-drop n m))
+    ∙ ap (take (n - used)) (drop-append-le used (take n m) (drop n m) (omega arith))
+    ∙ ap (λ (x : ℕ). take x (drop used (take n m) ++ drop n m)) e
+    ∙ take-append-seam (drop used (take n m)) (drop n m)
+
+-- none of the bytes were used: all stand where they stood
+pub keep-none :
+    (a : Totals) {used : ℕ} (n : ℕ) (m : List ℕ) → used ≡ 0 → n ≤ length m
+    → (OnTaken a n ≡ takenBy (On a used) n) × (m ≡ keptBy (On a used) (take n m) m)
+unfolding takenBy keptBy
+keep-none a n m e h =
+    let l = length-take-le n m h in
+    rw e (
+      ap (OnTaken a) (omega arith),
+      sym (fill-fits m (take n m) (omega arith) ∙ ap (λ (x : ℕ). take n m ++ drop x m) l ∙ take-append-drop n m),
+    )
+
+-- what is left was moved
+pub keep-moved :
+    (a : Totals) {used : ℕ} (n : ℕ) (m : List ℕ) {left : ℕ} {m′ : List ℕ} → used ≤ n → n ≤ length m
+    → Laid m (take (n - used) (drop used m)) left m′ → (OnTaken a left ≡ takenBy (On a used) n) × (m′ ≡ keptBy (On a used) (take n m) m)
+unfolding takenBy keptBy
+keep-moved a {used} n m h k l =
+    let c = l .count in
+    let t = length-take (n - used) (drop used m) in
+    let d = length-drop used m in
+    (ap (OnTaken a) (omega arith), l .bytes ∙ ap (fill m) (drop-of-take m used n h k))
+
+-- the first n bytes of the room, which has as many or fewer than it is asked for
+pub took-of :
+    (a : Totals) (m : List ℕ) (end : ℕ) {n : ℕ} {p : Passed} {r : Taken} {m′ : List ℕ} → n ≡ min end (length m) → p ≡ passed a (take n m)
+    → r ≡ takenBy p n → m′ ≡ keptBy p (take n m) m → Took a (take end m) m r m′
+took-of a m end {n} {p} e h o k =
+    let l = length-take-le n m (omega arith) in
+    let s : take n m ≡ take end m = shorter (decLe end (length m)) in
+    rw (← s) (record { outcome = o ∙ ap (λ (x : Passed). takenBy x n) h ∙ ap (takenBy (passed a (take n m))) (sym l); memory = rw h at k })
+  where
+    shorter : Dec (end ≤ length m) → take n m ≡ take end m
+    shorter (yes g) = let q : n ≡ end = omega arith in ap (λ (x : ℕ). take x m) q
+    shorter (no g) = let i = lt-of-not-le g in take-all n m (omega arith) ∙ sym (take-all end m (omega arith))
+
+-- how many are left
+pub leftIn-taken : (p : Passed) (n : ℕ) → leftIn (takenBy p n) ≡ leftBy p n
+unfolding leftIn takenBy leftBy
+leftIn-taken (On a used) n = refl
+leftIn-taken Over n = refl
+
+pub leftIn-on : {r : Taken} {a : Totals} {left : ℕ} → r ≡ OnTaken a left → leftIn r ≡ left
+unfolding leftIn
+leftIn-on e = rw e
+
+pub taken-short : {p q : Passed} {n l : ℕ} {r : Taken} → r ≡ takenBy p n → q ≡ p → l ≡ n → leftBy q l ≤ 65536 → leftIn r ≤ 65536
+taken-short {p} {q} {n} h e k b = rw (h, leftIn-taken p n) (rw (e, k) at b)
+
+-- too large: nothing is left or moved
+pub took-over : (m s : List ℕ) (n : ℕ) → (OverTaken ≡ takenBy Over n) × (m ≡ keptBy Over s m) × (leftIn OverTaken ≤ 65536)
+unfolding takenBy keptBy leftIn
+took-over m s n = (refl, refl, omega arith)

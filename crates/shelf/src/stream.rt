@@ -6,16 +6,23 @@ use crate::totals::count;
 use crate::totals::nothing;
 use ground::number::word16;
 ghost use mathlib.Core.Path.{_≡_};
-ghost use Prim.Native.Nat.{_-_, _≤_};
+ghost use Prim.Native.Nat.{_-_, _≤_, min};
 ghost use lib.ListN.{length, take, drop};
 ghost use Rattle.ground.specs.Memory.{Laid};
 ghost use Rattle.shelf.specs.Totals.{nothing, sum};
-ghost use Rattle.shelf.specs.Stream.{counted, passedTo, passed, leftBy};
+ghost use Rattle.shelf.specs.Stream.{counted, passedTo, passed, leftBy, takenBy, keptBy, leftIn, Took};
+ghost use Rattle.shelf.specs.declared.stream.Passed.the-variants.{On as OnPassed};
 ghost use Rattle.shelf.specs.StreamLaws.{wholeLength, withRest};
 
 // The totals with the whole tables counted, and how many bytes those took; or a total is past 64 bits.
 pub enum Passed {
     On { totals: Totals, used: usize },
+    Over,
+}
+
+// The totals so far, and how many bytes of a table that is not whole yet are kept; or a total is past 64 bits.
+pub enum Taken {
+    On { totals: Totals, left: usize },
     Over,
 }
 
@@ -71,7 +78,7 @@ fn with(totals: Totals, more: Totals, used: usize) -> Passed
 }
 
 // Counts the whole tables that s begins with. What is left is shorter than the longest table.
-pub fn count_whole(totals: Totals, s: &[u8]) -> Passed
+fn count_whole(totals: Totals, s: &[u8]) -> Passed
     ensures same { λ r. ⌜ r ≡ passed totals (now (s .entry)) ⌝ }
     ensures short { λ r. ⌜ leftBy r (length (now (s .entry))) ≤ 65536 ⌝ }
 {
@@ -102,7 +109,7 @@ pub fn count_all(totals: Totals, s: &[u8]) -> Counted
 }
 
 // Moves the bytes from `from` up to `end` to the front of the room, and tells how many they are.
-pub fn keep_rest(room: &mut [u8], from: usize, end: usize) -> usize
+fn keep_rest(room: &mut [u8], from: usize, end: usize) -> usize
     ensures { λ r. ⌜ Laid (now (room .entry)) (take (end - from) (drop from (now (room .entry)))) r (now (room .exit)) ⌝ }
 {
     let mut i = 0;
@@ -116,4 +123,39 @@ pub fn keep_rest(room: &mut [u8], from: usize, end: usize) -> usize
         j += 1;
     }
     i
+}
+
+// What is left behind the `used` bytes of the first `end` stands in front then; where none were used nothing is moved.
+fn keep(totals: Totals, used: usize, room: &mut [u8], end: usize) -> Taken
+    requires { ⌜ (used ≤ end) × (end ≤ length (now room)) ⌝ }
+    ensures { λ r. ⌜ (r ≡ takenBy (OnPassed totals used) end) × (now (room .exit) ≡ keptBy (OnPassed totals used) (take end (now (room .entry))) (now (room .entry))) ⌝ }
+{
+    if used == 0 {
+        return Taken::On { totals, left: end };
+    }
+    let left = keep_rest(room, used, end);
+    Taken::On { totals, left }
+}
+
+// The smaller of two numbers.
+fn least(a: usize, b: usize) -> usize
+    ensures { λ r. ⌜ r ≡ min a b ⌝ }
+{
+    if a < b {
+        return a;
+    }
+    b
+}
+
+// A piece was read into the room, behind what was left of the one before: of its first `end` bytes the whole tables are counted, and what is
+// left is kept in front. That is shorter than the longest table.
+pub fn take_in(totals: Totals, room: &mut [u8], end: usize) -> Taken
+    ensures taken { λ r. ⌜ Took totals (take end (now (room .entry))) (now (room .entry)) r (now (room .exit)) ⌝ }
+    ensures short { λ r. ⌜ leftIn r ≤ 65536 ⌝ }
+{
+    let n = least(end, room.len());
+    match count_whole(totals, &room[..n]) {
+        Passed::On { totals, used } => keep(totals, used, room, n),
+        Passed::Over => Taken::Over,
+    }
 }

@@ -11,23 +11,22 @@ use progress::Progress;
 use progress::begin;
 use progress::end;
 use progress::go_on;
-use shelf::stream::Passed;
+use shelf::stream::Taken;
 use shelf::stream::count_all;
-use shelf::stream::count_whole;
-use shelf::stream::keep_rest;
+use shelf::stream::take_in;
 use shelf::totals::Counted;
 use shelf::totals::Totals;
 use shelf::totals::nothing;
 ghost use Prim.Native.Nat.{_+_, _≤_, _<_};
-ghost use lib.ListN.{length};
-ghost use Rattle.shelftotals.specs.Turn.{heldBy};
+ghost use mathlib.Core.Path.{_≡_};
+ghost use lib.ListN.{length, take};
 
 // The bytes that are held at once. The longest table has 65,537, and what is left of a table has fewer, so a read always finds room.
 const ROOM: usize = 131072;
 
-// Prints the totals, or that one of them is too large.
+// Prints the totals, or that one of them is too large. Thirteen lines have at most 20 digits and a line end each.
 fn tell(counted: Counted) {
-    let mut text = [0u8; 273];
+    let mut text = [0u8; 13 * 21];
     let n = put_told(counted, &mut text);
     if !io::write_all(STDOUT_FILENO, front(&text, n)) {
         os::fail(b"standard output");
@@ -50,10 +49,11 @@ struct Piece {
     failed: bool,
 }
 
-// One read, behind the first `have` bytes of the room. There is room, so no byte read is the end of the input.
+// One read, behind the first `have` bytes of the room, which stay. There is room, so no byte read is the end of the input.
 fn read_behind(room: &mut [u8], have: usize) -> Piece
     requires { ⌜ have < length (now room) ⌝ }
-    ensures { λ r. ⌜ have + r .count ≤ length (now (room .exit)) ⌝ }
+    ensures within { λ r. ⌜ have + r .count ≤ length (now (room .exit)) ⌝ }
+    ensures stays { λ r. ⌜ take have (now (room .exit)) ≡ take have (now (room .entry)) ⌝ }
 {
     let got = libc::read(STDIN_FILENO, &mut room[have..]);
     if got < 0 {
@@ -65,26 +65,6 @@ fn read_behind(room: &mut [u8], have: usize) -> Piece
     Piece {
         count: io::count(got, &room[have..]),
         failed: false,
-    }
-}
-
-// The totals, and how many bytes of a table that is not whole yet stand in the room; or a total is too large.
-enum Turn {
-    On { totals: Totals, have: usize },
-    Over,
-}
-
-// Counts the whole tables among the first `end` bytes of the room, and keeps what is left of them in front.
-fn take_in(totals: Totals, room: &mut [u8], end: usize) -> Turn
-    requires { ⌜ end ≤ length (now room) ⌝ }
-    ensures { λ r. ⌜ heldBy r ≤ 65536 ⌝ }
-{
-    match count_whole(totals, &room[..end]) {
-        Passed::On { totals, used } => Turn::On {
-            totals,
-            have: keep_rest(room, used, end),
-        },
-        Passed::Over => Turn::Over,
     }
 }
 
@@ -105,14 +85,14 @@ fn run(room: &mut [u8])
         }
         progress = go_on(progress, piece.count);
         match take_in(totals, room, have + piece.count) {
-            Turn::On {
+            Taken::On {
                 totals: so_far,
-                have: left,
+                left,
             } => {
                 totals = so_far;
                 have = left;
             }
-            Turn::Over => {
+            Taken::Over => {
                 end(progress);
                 tell(Counted::TooLarge);
                 return;

@@ -9,7 +9,7 @@ const MEBIBYTE: usize = 1048576;
 
 const STEP: usize = 67108864;
 
-// The descriptor by which the script hands its standard error on, since it catches the program's own.
+// The descriptor by which `./shelf` hands a terminal on: `.ci/program` catches the program's own standard error.
 const HANDED: i32 = 4;
 
 // The terminal, or -1; the bytes read; and how many more until that is shown again.

@@ -3,7 +3,7 @@ use mathlib.Core.Path.{_≡_, refl, _∙_}
 use Prim.Native.Nat.{_≤_}
 use native.Mathlib.Omega.{arith}
 use lib.ListN.{length}
-use Rattle.shelftotals.specs.Turn.{heldBy-on}
+use Rattle.shelf.specs.StreamLaws.{leftIn-on}
 use borrow.Author.Needs.{needs}
 use Rattle.shelftotals.proofs.run.Statement.{statement}
 use Rattle.shelftotals.proofs.run.Tie as tie
@@ -27,15 +27,12 @@ read-behind-requires c κs =
 
 loop-again : tie.Need-loop-again Inv-loop μ-loop
 loop-again c =
-    let e = heldBy-on (c .before .so-far .given .1) in
-    let s = c .before .before .before .before .before .take-in .ensures in
+    let e = leftIn-on (c .before .so-far .given .1) in
+    let s = c .before .before .before .before .before .take-in .ensures .1 in
     let k = c .before .before .before .before .before .take-in .kept in
     let r = c .before .before .before .before .before .before .before .before .before .before .before .before .before .read-behind .kept in
     let i = c .before .before .before .before .before .before .before .before .before .before .before .before .before .before .before .before .loop .inv in
     (rw e at s, k .1 .0 ∙ r .0 ∙ i .1)
-
-take-in-requires : tie.Need-take-in-requires Inv-loop μ-loop
-take-in-requires c κs = c .before .before .before .before .before .before .before .read-behind .ensures
 
 pub run-spec : {M : Type 1} → statement M
 run-spec =
@@ -43,8 +40,8 @@ run-spec =
     (tie.spec Inv-loop μ-loop (λ c κs. search needs) (λ c κs. search needs) loop-holds read-behind-requires (λ c κs. search needs)
     (λ c κs. search needs) (λ c. c .before .before .before .before .before .before .before .read-behind .kept .0 ∙ c .before .before .before .before .before .before .before .before .before .before .loop .inv .1)
     (λ c. tt) (λ c κs. search needs)
-    (λ c. let r = c .before .before .before .before .before .before .before .read-behind .ensures in let k = c .before .before .before .before .before .before .before .read-behind .kept .0 in let i = c .before .before .before .before .before .before .before .before .before .before .loop .inv .1 in let g = c .before .before .before .before .before .before .before .before .before .before .before .before .before .before .good .0 .0 in omega arith)
-    take-in-requires (λ c. search needs) (λ c. search needs) (λ c κs. search needs) (λ c κs. search needs)
+    (λ c. let r = c .before .before .before .before .before .before .before .read-behind .ensures .0 in let k = c .before .before .before .before .before .before .before .read-behind .kept .0 in let i = c .before .before .before .before .before .before .before .before .before .before .loop .inv .1 in let g = c .before .before .before .before .before .before .before .before .before .before .before .before .before .before .good .0 .0 in omega arith)
+    (λ c κs. search needs) (λ c. search needs) (λ c. search needs) (λ c κs. search needs) (λ c κs. search needs)
     (λ c. c .before .before .before .before .before .before .take-in .kept .1 .0 ∙ c .before .before .before .before .before .before .before .before .before .before .before .before .before .before .read-behind .kept .0 ∙ c .before .before .before .before .before .before .before .before .before .before .before .before .before .before .before .before .before .loop .inv .1)
     (λ c. tt) (λ c. let t = c .before .before .before .before .before .before .before .before .before .before .before .before .before .before .before .loop-test .taken in omega arith) (λ c. let t = c .before .before .before .before .before .before .before .before .before .before .before .before .before .before .before .loop-test .taken in omega arith) loop-again
     (λ c. c .before .loop .inv .1) (λ c. tt))
