@@ -6,8 +6,9 @@
 #include <string.h>
 #include <unistd.h>
 #include "fit.h"
+#include "row.h"
 
-enum { HEADER = 4, ROW = 11, BOUND = 6538, ROOM = 131072 };
+enum { ROOM = 131072 };
 
 struct totals {
     uint64_t tables, fit, rule[7], tracks, data, audio, none;
@@ -17,26 +18,6 @@ struct totals {
 struct held {
     unsigned tracks, data, audio, none;
 };
-
-static inline int is(const uint8_t *e, unsigned session, unsigned point)
-{
-    return e[0] == session && e[3] == point && (((e[1] & 0xF0) ^ 0x10) | e[2] | e[7]) == 0;
-}
-
-static inline int is_extra(const uint8_t *e, unsigned session, unsigned point)
-{
-    return e[0] == session && e[3] == point && (((e[1] & 0xF0) ^ 0x50) | e[2]) == 0;
-}
-
-static inline int in_range(const uint8_t *e)
-{
-    return e[8] <= 99 && e[9] <= 59 && e[10] <= 74;
-}
-
-static inline unsigned frames(const uint8_t *e)
-{
-    return (e[8] * 60 + e[9]) * 75 + e[10];
-}
 
 /* bench/pass.c's pass, with the blocks counted: a track's when the next edge is known. 1 for fit, 0 for not. */
 static unsigned hold(const uint8_t *t, size_t n, struct held *h)

@@ -1,7 +1,8 @@
 /* shelves KIND N: writes N tables one after the other.
    KIND is `data` (one data track), `audio` (12 audio tracks), `mixed` (a data track and 11 audio tracks), `extra` (11 audio tracks, and a
    second session with a data track), `sittings` (8 sessions of a data track, each with B0h and C0h), `broken` (12 audio tracks, of which one
-   starts too early), `longest` (99 sessions of a data track, each with B0h and C0h), or `shelf`: of 20 tables 6 are data, 9 audio of 8 to 20 tracks, 2 mixed, 1 extra, 1 sittings and 1 broken. */
+   starts too early), `longest` (99 sessions of a data track, each with B0h and C0h), or `shelf`: of 20 tables 6 are data, 9 audio of 8 to 20
+   tracks, 2 mixed, 1 extra, 1 sittings and 1 broken. */
 #include <stdio.h>
 #include <stdlib.h>
 #include <string.h>
