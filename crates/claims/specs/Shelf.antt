@@ -1,13 +1,13 @@
 -- K13: "What our disc shelf holds." What is told of a stream of tables, whatever its bytes, and of the totals.
 use mathlib.Core.Path.{_≡_, sym, ap, _∙_}
 use mathlib.Core.List.{List, [], _∷_, _++_, append-nil}
-use Prim.Native.Nat.{ℕ, _+_, _-_, _≤_, _<_}
+use Prim.Native.Nat.{ℕ, _+_, _≤_, _<_}
 use native.Mathlib.Omega.{arith}
 use lib.ListN.{length, take, drop}
 use lib.Seq.{length-take-le}
 use Rattle.table.specs.Layout.{bound, dataLength}
 use Rattle.disc.specs.Rules.{fault}
-use Rattle.shelf.specs.Totals.{sum, totalsOf, within, Within}
+use Rattle.shelf.specs.Totals.{sum, totalsOf, Within}
 use Rattle.shelf.specs.TotalsLaws.{totals-append}
 use Rattle.shelf.specs.Stream.{tableLength, wholes, rest, tables, shelf, counted}
 use Rattle.shelf.specs.StreamLaws.{tables-none, tables-next, tables-cut, tables-more}
