@@ -7,7 +7,11 @@ use Rattle.replay.proofs.line.put_totals.Tie as tie
 
 returns : tie.Need-returns
 unfolding totalsLine
-returns c = rw (c .before .before .before .before .before .before .before .before .before .before .numbers .ensures) at (laid-more (laid-more (c .before .before .before .before .before .before .before .before .before .before .before .before .before .copy-front .ensures) (c .before .before .before .before .before .before .before .put-joined .ensures)) (c .before .before .copy-front2 .ensures))
+returns c =
+    rw (c .before .before .before .before .before .before .before .before .before .before .numbers .ensures) at
+    (laid-more
+    (laid-more (c .before .before .before .before .before .before .before .before .before .before .before .before .before .copy-front .ensures)
+    (c .before .before .before .before .before .before .before .put-joined .ensures)) (c .before .before .copy-front2 .ensures))
 
 pub put-totals-spec : {M : Type 1} → statement M
 put-totals-spec =

@@ -7,37 +7,13 @@ use borrow.Author.Needs.{needs}
 use Rattle.shelf.proofs.content.pass.Statement.{statement}
 use Rattle.shelf.proofs.content.pass.Tie as tie
 
-add-j : tie.Need-add-j
-add-j c = search needs
-
-mul-is-data : tie.Need-mul-is-data
-mul-is-data c = search needs
-
-add-is-data : tie.Need-add-is-data
-add-is-data c = search needs
-
-shared-slice-read-is-data : tie.Need-shared-slice-read-is-data
-shared-slice-read-is-data c = search needs
-
-is-data-requires : tie.Need-is-data-requires
-is-data-requires c κs = search needs
-
 returns : tie.Need-returns
 returns c = runPast-on _ _ _ (sym (c .before .before .is-data .ensures) ∙ c .before .if1 .taken) (c .if2 .taken)
-
-address-at-requires : tie.Need-address-at-requires
-address-at-requires c κs = search needs
 
 returns-2 : tie.Need-returns-2
 returns-2 c =
     rw (c .address-at .ensures)
     (runPast-begins _ _ _ (sym (c .before .before .before .is-data .ensures) ∙ c .before .before .if1 .taken) (c .before .if2 .left))
-
-address-at-requires-2 : tie.Need-address-at-requires-2
-address-at-requires-2 c κs = search needs
-
-sub-t14 : tie.Need-sub-t14
-sub-t14 c = search needs
 
 add-t15 : tie.Need-add-t15
 add-t15 c =
@@ -60,17 +36,5 @@ returns-4 c = runPast-off _ _ _ (sym (c .before .before .is-data .ensures) ∙ c
 pub pass-spec : {M : Type 1} → statement M
 pass-spec =
     tie.close
-    (tie.spec
-    add-j
-    mul-is-data
-    add-is-data
-    shared-slice-read-is-data
-    is-data-requires
-    returns
-    address-at-requires
-    returns-2
-    address-at-requires-2
-    sub-t14
-    add-t15
-    returns-3
-    returns-4)
+    (tie.spec (λ c. search needs) (λ c. search needs) (λ c. search needs) (λ c. search needs) (λ c κs. search needs) returns
+    (λ c κs. search needs) returns-2 (λ c κs. search needs) (λ c. search needs) add-t15 returns-3 returns-4)
