@@ -4,11 +4,11 @@ use mathlib.Core.Bool.{Bool, true, false}
 use mathlib.Core.List.{List, [], _∷_, _++_, append-assoc, append-nil}
 use Prim.Native.Nat.{ℕ, zero, suc, _+_, _-_, _≤_, _<_}
 use native.Mathlib.Omega.{arith}
-use native.Mathlib.Decide.{decLe, ℕ-discrete}
+use native.Mathlib.Decide.{decLe}
 use native.Mathlib.Nat.{lt-of-not-le}
 use lib.ListN.{length, take, drop, length-drop, take-append-drop}
 use borrow.Author.Tests.{lt-leb, ne-eqb}
-use Rattle.ground.specs.Tests.{_and_, if_then_else_, when, unless, and-off, and-late}
+use Rattle.ground.specs.Tests.{if_then_else_, and-off, and-late}
 use Rattle.table.specs.Layout.{bound, dataLength, header}
 use Rattle.disc.specs.Rules.{rule1, fault, isFit, firstBroken}
 use Rattle.disc.specs.RulesLaws.{fault-first}
@@ -16,10 +16,10 @@ use Rattle.shelf.specs.Count.{oneIf}
 use Rattle.shelf.specs.Content.{lastOut}
 use Rattle.shelf.specs.ContentLaws.{blocks-three}
 use Rattle.shelf.specs.Totals.{sum, ifFit, ofTable, totalsOf, most, within, bounded, Within}
-use Rattle.shelf.specs.TotalsLaws.{within-parts, parts-within, within-over, sum-assoc, totals-append, bounded-is, bounded-over}
-use Rattle.shelf.specs.Stream.{tableLength, wholes, rest, tables, shelf, counted, passed}
+use Rattle.shelf.specs.TotalsLaws.{within-parts, parts-within, bounded-is, bounded-over}
+use Rattle.shelf.specs.Stream.{tableLength, tables, shelf, counted, passed}
 use Rattle.shelf.specs.Shelved.{concat, leadOuts, goOn, pieces}
-use Rattle.shelf.specs.StreamLaws.{tables-none, tables-next, tables-cut, tables-more, rest-drop, passedTo-on, passedTo-over}
+use Rattle.shelf.specs.StreamLaws.{tables-none, tables-next, tables-cut, counted-on, counted-past}
 use Rattle.shelf.specs.declared.totals.Totals.{Totals}
 use Rattle.shelf.specs.declared.totals.Counted.the-variants.{Is, TooLarge}
 use Rattle.shelf.specs.declared.stream.Passed.{Passed}
@@ -27,27 +27,18 @@ use Rattle.shelf.specs.declared.stream.Passed.the-variants.{On, Over}
 
 -- ---- tables one after the other
 
-nil : (s : List ℕ) → length s ≡ 0 → s ≡ []
-nil [] h = refl
-nil (b ∷ s) h = absurd (omega arith)
-
-concat-nil : (s : List ℕ) → length s ≡ 0 → concat (tables s) ≡ s
-unfolding concat
-concat-nil s h = ap (λ (x : List ℕ). concat (tables x)) (nil s h) ∙ ap concat tables-none ∙ sym (nil s h)
-
 -- the tables of a stream, one after the other, are the stream
 concat-in : (n : ℕ) (s : List ℕ) → length s ≤ n → concat (tables s) ≡ s
 unfolding concat
-concat-in zero s h = concat-nil s (omega arith)
-concat-in (suc n) s h = elim (decLe (tableLength s) (length s)) [
-  | yes g ↦ (let l = length-drop (tableLength s) s in
-      ap concat (tables-next s g)
-      ∙ ap (λ (x : List ℕ). take (tableLength s) s ++ x) (concat-in n (drop (tableLength s) s) (omega arith))
-      ∙ take-append-drop (tableLength s) s)
-  | no g ↦ elim (ℕ-discrete (length s) 0) [
-    | yes e ↦ concat-nil s e
-    | no e ↦ ap concat (tables-cut s (omega arith) (lt-of-not-le g)) ∙ append-nil s
-  ]
+concat-in zero [] h = ap concat tables-none
+concat-in zero (b ∷ s) h = absurd (omega arith)
+concat-in (suc n) [] h = ap concat tables-none
+concat-in (suc n) (b ∷ s) h = elim (decLe (tableLength (b ∷ s)) (length (b ∷ s))) [
+  | yes g ↦ (let l = length-drop (tableLength (b ∷ s)) (b ∷ s) in
+      ap concat (tables-next (b ∷ s) g)
+      ∙ ap (λ (x : List ℕ). take (tableLength (b ∷ s)) (b ∷ s) ++ x) (concat-in n (drop (tableLength (b ∷ s)) (b ∷ s)) (omega arith))
+      ∙ take-append-drop (tableLength (b ∷ s)) (b ∷ s))
+  | no g ↦ ap concat (tables-cut (b ∷ s) (omega arith) (lt-of-not-le g)) ∙ append-nil (b ∷ s)
 ]
 
 pub tables-concat : (s : List ℕ) → concat (tables s) ≡ s
@@ -78,14 +69,6 @@ unfolding rule1
 over-broken t h = rule1-broken t (sym (and-late _ _ (and-off _ _ (lt-leb _ _ h))))
 
 -- ---- what one table adds
-
-ifFit-one : (t : List ℕ) (n : ℕ) → isFit t ≡ true → ifFit t n ≡ n
-unfolding ifFit
-ifFit-one t n h = when _ _ _ h
-
-ifFit-none : (t : List ℕ) (n : ℕ) → isFit t ≡ false → ifFit t n ≡ 0
-unfolding ifFit
-ifFit-none t n h = unless _ _ _ h
 
 -- its blocks, in all
 table-blocks : (t : List ℕ) → ofTable t .«data_blocks» + ofTable t .«audio_blocks» + ofTable t .trackless ≡ ifFit t (lastOut t)
@@ -157,47 +140,14 @@ counted-within a s = (λ w. bounded-is _ (parts-within w), λ n. decided (within
 
 -- ---- piece by piece
 
--- the whole tables counted, and then the rest with what comes behind it
-counted-more : (a : Totals) (s r : List ℕ) → sum a (shelf (s ++ r)) ≡ sum (sum a (totalsOf (wholes s))) (shelf (rest s ++ r))
-unfolding shelf
-counted-more a s r =
-    ap (λ (x : List (List ℕ)). sum a (totalsOf x)) (tables-more s r)
-    ∙ ap (sum a) (totals-append (wholes s) (tables (rest s ++ r)))
-    ∙ sym (sum-assoc a (totalsOf (wholes s)) (totalsOf (tables (rest s ++ r))))
-
-passed-is : (a : Totals) (s : List ℕ) → within (sum a (totalsOf (wholes s))) ≡ true
-    → passed a s ≡ On (sum a (totalsOf (wholes s))) (length s - length (rest s))
-unfolding passed
-passed-is a s h = passedTo-on _ _ h
-
-passed-not : (a : Totals) (s : List ℕ) → within (sum a (totalsOf (wholes s))) ≡ false → passed a s ≡ Over
-unfolding passed
-passed-not a s h = passedTo-over _ _ h
-
-counted-on :
-    (a : Totals) (s r : List ℕ) → counted (sum a (totalsOf (wholes s))) (drop (length s - length (rest s)) s ++ r) ≡ counted a (s ++ r)
-unfolding counted
-counted-on a s r =
-    ap (λ (x : List ℕ). bounded (sum (sum a (totalsOf (wholes s))) (shelf (x ++ r)))) (rest-drop s) ∙ ap bounded (sym (counted-more a s r))
-
-counted-past : (a : Totals) (s r : List ℕ) → within (sum a (totalsOf (wholes s))) ≡ false → TooLarge ≡ counted a (s ++ r)
-unfolding counted
-counted-past a s r h = sym (bounded-over _ (ap within (counted-more a s r) ∙ within-over _ _ h))
-
 pub pieces-agree : (a : Totals) (held : List ℕ) (ps : List (List ℕ)) → pieces a held ps ≡ counted a (held ++ concat ps)
 unfolding pieces concat goOn
 pieces-agree a held [] = ap (counted a) (sym (append-nil held))
 pieces-agree a held (p ∷ ps) =
-    decided (within (sum a (totalsOf (wholes (held ++ p))))) refl (λ b left. pieces-agree b left ps)
-    ∙ ap (counted a) (append-assoc held p (concat ps))
+    by-passed (passed a (held ++ p)) refl (λ b left. pieces-agree b left ps) ∙ ap (counted a) (append-assoc held p (concat ps))
   where
-    decided :
-        (x : Bool) → within (sum a (totalsOf (wholes (held ++ p)))) ≡ x
-        → ((b : Totals) (left : List ℕ) → pieces b left ps ≡ counted b (left ++ concat ps))
-        → goOn (passed a (held ++ p)) (held ++ p) (λ b left. pieces b left ps) ≡ counted a ((held ++ p) ++ concat ps)
-    decided true e again =
-        ap (λ (x : Passed). goOn x (held ++ p) (λ b left. pieces b left ps)) (passed-is a (held ++ p) e)
-        ∙ again _ _ ∙ counted-on a (held ++ p) (concat ps)
-    decided false e again =
-        ap (λ (x : Passed). goOn x (held ++ p) (λ b left. pieces b left ps)) (passed-not a (held ++ p) e)
-        ∙ counted-past a (held ++ p) (concat ps) e
+    by-passed :
+        (q : Passed) → q ≡ passed a (held ++ p) → ((b : Totals) (left : List ℕ) → pieces b left ps ≡ counted b (left ++ concat ps))
+        → goOn q (held ++ p) (λ b left. pieces b left ps) ≡ counted a ((held ++ p) ++ concat ps)
+    by-passed (On b used) e again = again b (drop used (held ++ p)) ∙ counted-on a (held ++ p) (concat ps) e
+    by-passed Over e again = counted-past a (held ++ p) (concat ps) e

@@ -1,12 +1,12 @@
 -- Laws of a stream: its whole tables one after the other, what comes behind, and that it makes no difference in which pieces it was read.
 use mathlib.Core.Path.{_≡_, refl, sym, ap, _∙_}
-use mathlib.Core.Bool.{Bool, true, false}
+use mathlib.Core.Bool.{true, false}
 use mathlib.Core.Logic.{_⊎_, ⊎-elim}
 use mathlib.Core.List.{List, [], _∷_, _++_, append-assoc, append-nil}
 use Prim.Native.Nat.{ℕ, zero, suc, _+_, _-_, _≤_, _<_, min}
 use native.Mathlib.Omega.{arith}
 use native.Mathlib.Nat.{lt-of-not-le}
-use native.Mathlib.Decide.{decLe, ℕ-discrete}
+use native.Mathlib.Decide.{decLe}
 use lib.ListN.{length, take, drop, getD, length-append, length-take, length-drop, take-append-drop}
 use lib.Seq.{take-append-le, drop-append-le, drop-drop, length-take-le, getD-append-add, getD-drop, getD-take, take-all, take-append-seam}
 use lib.Dec.{leb}
@@ -14,7 +14,7 @@ use borrow.Author.Tests.{le-leb, lt-leb}
 use Rattle.ground.specs.Tests.{if_then_else_, when, unless, either}
 use Rattle.ground.specs.Memory.{Laid, fill, fill-fits}
 use Rattle.shelf.specs.Totals.{nothing, sum, ofTable, totalsOf, within, bounded}
-use Rattle.shelf.specs.TotalsLaws.{sum-assoc, sum-comm, sum-nothing, nothing-sum, totals-none, totals-next, totals-one, totals-append, nothing-within, within-over, bounded-is, bounded-over, bounded-told, bounded-told-over}
+use Rattle.shelf.specs.TotalsLaws.{sum-assoc, sum-comm, sum-nothing, nothing-sum, totals-none, totals-next, totals-one, totals-append, nothing-within, within-over, within-chose, bounded-is, bounded-over, bounded-told, bounded-told-over}
 use Rattle.shelf.specs.Stream.{tableLength, wholesIn, restIn, wholes, rest, cutOff, tables, shelf, counted, passedTo, passed, leftBy, takenBy, keptBy, leftIn, Took}
 use Rattle.shelf.specs.declared.totals.Totals.{Totals}
 use Rattle.shelf.specs.declared.totals.Counted.{Counted}
@@ -285,19 +285,13 @@ passedTo-over a used h = unless _ _ _ h
 
 pub passedTo-told : (a : Totals) (used : ℕ) {b : Totals} {n : ℕ} → On b n ≡ passedTo a used → (within a ≡ true) × (b ≡ a) × (n ≡ used)
 unfolding passedTo
-passedTo-told a used {b} {n} h = decided (within a) refl
-  where
-    decided : (x : Bool) → within a ≡ x → (within a ≡ true) × (b ≡ a) × (n ≡ used)
-    decided true e = let k = h ∙ when _ _ _ e in (e, cc, cc)
-    decided false e = let k = h ∙ unless _ _ _ e in let z : _≡_ {A = ℕ} 0 1 = cc in absurd (omega arith)
+passedTo-told a used h =
+    ⊎-elim (λ w. let k = w .1 in (w .0, cc, cc)) (λ w. let k = w .1 in let z : _≡_ {A = ℕ} 0 1 = cc in absurd (omega arith)) (within-chose a h)
 
 pub passedTo-told-over : (a : Totals) (used : ℕ) → Over ≡ passedTo a used → within a ≡ false
 unfolding passedTo
-passedTo-told-over a used h = decided (within a) refl
-  where
-    decided : (x : Bool) → within a ≡ x → within a ≡ false
-    decided true e = let k = h ∙ when _ _ _ e in let z : _≡_ {A = ℕ} 0 1 = cc in absurd (omega arith)
-    decided false e = e
+passedTo-told-over a used h =
+    ⊎-elim (λ w. let k = w .1 in let z : _≡_ {A = ℕ} 0 1 = cc in absurd (omega arith)) (λ w. w .0) (within-chose a h)
 
 -- from the totals a on, the tables of s before `at` are counted, which comes to b
 pub record Passing (a : Totals) (s : List ℕ) (b : Totals) (at : ℕ) : Type 0 where
@@ -375,22 +369,24 @@ passed-over a s h =
 
 -- ---- all tables, the last of which may be cut off
 
--- what is left counts once
-pub shelf-rest : (s : List ℕ) → 0 < length (rest s) → shelf s ≡ sum (totalsOf (wholes s)) (ofTable (rest s))
-unfolding shelf tables
-shelf-rest s h =
-    ap (λ (x : List (List ℕ)). totalsOf (wholes s ++ x)) (cutOff-some (rest s) h)
-    ∙ totals-append (wholes s) (rest s ∷ []) ∙ ap (sum (totalsOf (wholes s))) (totals-one (rest s))
+-- the whole tables counted, and then what is left of s, with what comes behind it
+counted-more : (a : Totals) (s r : List ℕ) → sum a (shelf (s ++ r)) ≡ sum (sum a (totalsOf (wholes s))) (shelf (rest s ++ r))
+unfolding shelf
+counted-more a s r =
+    ap (λ (x : List (List ℕ)). sum a (totalsOf x)) (tables-more s r)
+    ∙ ap (sum a) (totals-append (wholes s) (tables (rest s ++ r)))
+    ∙ sym (sum-assoc a (totalsOf (wholes s)) (totalsOf (tables (rest s ++ r))))
 
-pub shelf-whole : (s : List ℕ) → length (rest s) ≡ 0 → shelf s ≡ totalsOf (wholes s)
-unfolding shelf tables
-shelf-whole s h =
-    ap (λ (x : List ℕ). totalsOf (wholes s ++ cutOff x)) (nil (rest s) h) ∙ ap (λ (x : List (List ℕ)). totalsOf (wholes s ++ x)) cutOff-none
-    ∙ ap totalsOf (append-nil (wholes s))
-  where
-    nil : (r : List ℕ) → length r ≡ 0 → r ≡ []
-    nil [] h = refl
-    nil (b ∷ r) h = absurd (omega arith)
+-- from what the whole tables of s left on; or they were too much, and so is all with what comes behind
+pub counted-on : (a : Totals) (s r : List ℕ) {b : Totals} {used : ℕ} → On b used ≡ passed a s → counted b (drop used s ++ r) ≡ counted a (s ++ r)
+unfolding counted passed
+counted-on a s r h =
+    let t = passedTo-told _ _ h in
+    rw (t .1, t .2, rest-drop s) (ap bounded (sym (counted-more a s r)))
+
+pub counted-past : (a : Totals) (s r : List ℕ) → Over ≡ passed a s → TooLarge ≡ counted a (s ++ r)
+unfolding counted passed
+counted-past a s r h = sym (bounded-over _ (ap within (counted-more a s r) ∙ within-over _ _ (passedTo-told-over _ _ h)))
 
 -- totals so far, and what is left behind the whole tables
 unfoldable pub withRest : Totals → List ℕ → Counted
@@ -407,6 +403,15 @@ unfolding withRest
 withRest-some a [] h = absurd (h refl)
 withRest-some a (b ∷ s) h = refl
 
+-- where no whole table is left, that is all of them
+withRest-all : (a : Totals) (s : List ℕ) → within a ≡ true → length s < tableLength s → withRest a s ≡ counted a s
+unfolding withRest counted shelf
+withRest-all a [] w h =
+    sym (ap (λ (x : List (List ℕ)). bounded (sum a (totalsOf x))) tables-none ∙ ap (λ (x : Totals). bounded (sum a x)) totals-none
+    ∙ ap bounded (sum-nothing a) ∙ bounded-is a w)
+withRest-all a (b ∷ s) w h =
+    ap (λ (x : Totals). bounded (sum a x)) (sym (ap totalsOf (tables-cut (b ∷ s) (omega arith) h) ∙ totals-one (b ∷ s)))
+
 -- the bytes counted lie in what was read
 pub passed-used : (a : Totals) (s : List ℕ) {b : Totals} {used : ℕ} → On b used ≡ passed a s → used ≤ length s
 unfolding passed
@@ -414,24 +419,14 @@ passed-used a s h = let u = passedTo-told _ _ h .2 in omega arith
 
 -- so all tables: the whole ones, and then one that is cut off or none
 pub counted-rest : (a : Totals) (s : List ℕ) {b : Totals} {used : ℕ} → On b used ≡ passed a s → withRest b (drop used s) ≡ counted a s
-unfolding counted passed
+unfolding passed
 counted-rest a s {b} {used} h =
     let t = passedTo-told _ _ h in
-    let e : drop used s ≡ rest s = ap (λ (x : ℕ). drop x s) (t .2) ∙ rest-drop s in
-    ap (withRest b) e ∙ elim (ℕ-discrete (length (rest s)) 0) [
-      | yes z ↦ (let q : b ≡ sum a (shelf s) = t .1 ∙ ap (sum a) (sym (shelf-whole s z)) in
-          withRest-none b (rest s) z ∙ ap Is q ∙ sym (bounded-is _ (ap within (sym q ∙ t .1) ∙ t .0)))
-      | no z ↦ withRest-some b (rest s) z
-          ∙ ap (λ (x : Totals). bounded (sum x (ofTable (rest s)))) (t .1)
-          ∙ ap bounded (sum-assoc a (totalsOf (wholes s)) (ofTable (rest s)) ∙ ap (sum a) (sym (shelf-rest s (omega arith))))
-    ]
+    withRest-all b (drop used s) (ap within (t .1) ∙ t .0) (rw (t .2, rest-drop s) (rest-short s))
+    ∙ ap (counted b) (sym (append-nil (drop used s))) ∙ counted-on a s [] h ∙ ap (counted a) (append-nil s)
 
 pub counted-over : (a : Totals) (s : List ℕ) → Over ≡ passed a s → TooLarge ≡ counted a s
-unfolding counted passed shelf tables
-counted-over a s h =
-    let w = passedTo-told-over _ _ h in
-    sym (bounded-over _ (ap within (ap (sum a) (totals-append (wholes s) (cutOff (rest s)))
-    ∙ sym (sum-assoc a (totalsOf (wholes s)) (totalsOf (cutOff (rest s))))) ∙ within-over _ _ w))
+counted-over a s h = counted-past a s [] h ∙ ap (counted a) (append-nil s)
 
 -- ---- room for more
 

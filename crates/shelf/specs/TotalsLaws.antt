@@ -1,6 +1,7 @@
 -- Laws of the totals: sums of sums, and that a total past 64 bits stays past them.
 use mathlib.Core.Path.{_≡_, refl, sym, ap, _∙_}
-use mathlib.Core.Bool.{Bool, true, false}
+use mathlib.Core.Bool.{Bool, true, false, true≢false}
+use mathlib.Core.Logic.{_⊎_, inl, inr, ⊎-elim}
 use mathlib.Core.List.{List, [], _∷_, _++_}
 use Prim.Native.Nat.{ℕ, _+_, _-_, _≤_}
 use native.Mathlib.Omega.{arith}
@@ -149,10 +150,17 @@ pub within-over : (a b : Totals) → within a ≡ false → within (sum a b) ≡
 within-over a b h = decided (within (sum a b)) refl
   where
     decided : (x : Bool) → within (sum a b) ≡ x → within (sum a b) ≡ false
-    decided true e =
-        let k : true ≡ false = sym (within-first a b e) ∙ h in
-        let z : _≡_ {A = ℕ} 0 1 = cc in absurd (omega arith)
+    decided true e = absurd (true≢false (sym (within-first a b e) ∙ h))
     decided false e = e
+
+-- which of two it was that the test led to
+pub within-chose : {A : Type 0} (a : Totals) {x y r : A} → r ≡ (if within a then x else y)
+    → ((within a ≡ true) × (r ≡ x)) ⊎ ((within a ≡ false) × (r ≡ y))
+within-chose a {x} {y} {r} h = decided (within a) refl
+  where
+    decided : (b : Bool) → within a ≡ b → ((within a ≡ true) × (r ≡ x)) ⊎ ((within a ≡ false) × (r ≡ y))
+    decided true e = inl (e, h ∙ when _ _ _ e)
+    decided false e = inr (e, h ∙ unless _ _ _ e)
 
 pub bounded-is : (a : Totals) → within a ≡ true → bounded a ≡ Is a
 unfolding bounded
@@ -165,19 +173,11 @@ bounded-over a h = unless _ _ _ h
 -- what is told
 pub bounded-told : (a : Totals) {b : Totals} → Is b ≡ bounded a → (within a ≡ true) × (b ≡ a)
 unfolding bounded
-bounded-told a {b} h = decided (within a) refl
-  where
-    decided : (x : Bool) → within a ≡ x → (within a ≡ true) × (b ≡ a)
-    decided true e = let k = h ∙ when _ _ _ e in (e, cc)
-    decided false e = let k = h ∙ unless _ _ _ e in let z : _≡_ {A = ℕ} 0 1 = cc in absurd (omega arith)
+bounded-told a h = ⊎-elim (λ w. let k = w .1 in (w .0, cc)) (λ w. let k = w .1 in let z : _≡_ {A = ℕ} 0 1 = cc in absurd (omega arith)) (within-chose a h)
 
 pub bounded-told-over : (a : Totals) → TooLarge ≡ bounded a → within a ≡ false
 unfolding bounded
-bounded-told-over a h = decided (within a) refl
-  where
-    decided : (x : Bool) → within a ≡ x → within a ≡ false
-    decided true e = let k = h ∙ when _ _ _ e in let z : _≡_ {A = ℕ} 0 1 = cc in absurd (omega arith)
-    decided false e = e
+bounded-told-over a h = ⊎-elim (λ w. let k = w .1 in let z : _≡_ {A = ℕ} 0 1 = cc in absurd (omega arith)) (λ w. w .0) (within-chose a h)
 
 -- ---- one table
 
