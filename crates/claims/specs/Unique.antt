@@ -135,6 +135,9 @@ unique-bytes16 n r s = value-once
 pub unique-bytes32 : (n : ℕ) (r s : List ℕ) → r ≡ bytes32 n → s ≡ bytes32 n → r ≡ s
 unique-bytes32 n r s = value-once
 
+pub unique-smaller : (a b r s : ℕ) → r ≡ min a b → s ≡ min a b → r ≡ s
+unique-smaller a b r s = value-once
+
 pub unique-copy-front : (m b m₁ m₂ : List ℕ) (r s : ℕ) → Laid m b r m₁ → Laid m b s m₂ → (r ≡ s) × (m₁ ≡ m₂)
 unique-copy-front m b m₁ m₂ r s = laying-once
 

@@ -1,6 +1,6 @@
-// Numbers in bytes, the high byte first.
+// Numbers in bytes, the high byte first; and the smaller of two.
 ghost use mathlib.Core.Path.{_≡_};
-ghost use Prim.Native.Nat.{_<_};
+ghost use Prim.Native.Nat.{_<_, min};
 ghost use Rattle.ground.specs.Number.{Byte, word16, word32, bytes16, bytes32};
 
 // The byte as a wide number.
@@ -42,4 +42,14 @@ pub fn bytes32(n: usize) -> [u8; 4]
         (n / 256 % 256) as u8,
         (n % 256) as u8,
     ]
+}
+
+// The smaller of two numbers.
+pub fn smaller(a: usize, b: usize) -> usize
+    ensures { λ r. ⌜ r ≡ min a b ⌝ }
+{
+    if a < b {
+        return a;
+    }
+    b
 }

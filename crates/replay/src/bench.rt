@@ -21,6 +21,7 @@ use disc::part::session_refusal;
 use drive::state::Drive;
 use drive::state::Moved;
 use ground::memory::copy_front;
+use ground::number::smaller;
 use ground::number::word16;
 use ground::number::word32;
 use page::Page;
@@ -29,7 +30,6 @@ use print::front::front;
 use shelf::stream::count_all;
 use target::packet::packet;
 ghost use mathlib.Core.Path.{_≡_};
-ghost use Prim.Native.Nat.{_≤_};
 ghost use lib.ListN.{length, replicate};
 
 // The drive, and how many bytes of the table, of the parameter list and of the response memory are lent.
@@ -119,16 +119,6 @@ pub(crate) fn bad(bench: Bench, line: &mut [u8]) -> Turn {
         len: copy_front(b"bad record\n", line),
         bench,
     }
-}
-
-// The smaller of two numbers.
-fn least(a: usize, b: usize) -> usize
-    ensures { λ r. ⌜ r ≤ b ⌝ }
-{
-    if a < b {
-        return a;
-    }
-    b
 }
 
 // Every byte of m becomes x.
@@ -295,7 +285,7 @@ fn call_packet(
     memory: &mut [u8],
     line: &mut [u8],
 ) -> Turn {
-    let n = least(bench.memory, memory.len());
+    let n = smaller(bench.memory, memory.len());
     let lent = &mut memory[..n];
     let o = packet(
         bench.drive,
@@ -348,7 +338,7 @@ fn call_part(body: &[u8], bench: Bench, table: &[u8], line: &mut [u8]) -> Turn {
 
 // Kind 14: a cue sheet, turned into the memory as it is lent.
 fn call_sheet(body: &[u8], bench: Bench, memory: &mut [u8], line: &mut [u8]) -> Turn {
-    let n = least(bench.memory, memory.len());
+    let n = smaller(bench.memory, memory.len());
     let lent = &mut memory[..n];
     let w = write_table(body, lent);
     printed(put_written(w, lent, line), bench)

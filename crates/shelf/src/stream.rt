@@ -4,9 +4,10 @@ use crate::totals::Totals;
 use crate::totals::add;
 use crate::totals::count;
 use crate::totals::nothing;
+use ground::number::smaller;
 use ground::number::word16;
 ghost use mathlib.Core.Path.{_≡_};
-ghost use Prim.Native.Nat.{_-_, _≤_, min};
+ghost use Prim.Native.Nat.{_-_, _≤_};
 ghost use lib.ListN.{length, take, drop};
 ghost use Rattle.ground.specs.Memory.{Laid};
 ghost use Rattle.shelf.specs.Totals.{nothing, sum};
@@ -137,23 +138,13 @@ fn keep(totals: Totals, used: usize, room: &mut [u8], end: usize) -> Taken
     Taken::On { totals, left }
 }
 
-// The smaller of two numbers.
-fn least(a: usize, b: usize) -> usize
-    ensures { λ r. ⌜ r ≡ min a b ⌝ }
-{
-    if a < b {
-        return a;
-    }
-    b
-}
-
 // A piece was read into the room, behind what was left of the one before: of its first `end` bytes the whole tables are counted, and what is
 // left is kept in front. That is shorter than the longest table.
 pub fn take_in(totals: Totals, room: &mut [u8], end: usize) -> Taken
     ensures taken { λ r. ⌜ Took totals (take end (now (room .entry))) (now (room .entry)) r (now (room .exit)) ⌝ }
     ensures short { λ r. ⌜ leftIn r ≤ 65536 ⌝ }
 {
-    let n = least(end, room.len());
+    let n = smaller(end, room.len());
     match count_whole(totals, &room[..n]) {
         Passed::On { totals, used } => keep(totals, used, room, n),
         Passed::Over => Taken::Over,

@@ -6,10 +6,11 @@ use crate::shown::shown_count;
 use disc::disc::Disc;
 use ground::memory::copy_front;
 use ground::number::bytes16;
+use ground::number::smaller;
 use sessions::session::starts_after;
 use table::layout::ROW;
 ghost use mathlib.Core.Path.{_≡_};
-ghost use Prim.Native.Nat.{_-_, min};
+ghost use Prim.Native.Nat.{_-_};
 ghost use lib.ListN.{take};
 ghost use Rattle.ground.specs.Memory.{Laid};
 ghost use Rattle.sessions.specs.Session.{session};
@@ -128,13 +129,4 @@ pub fn put_toc(d: &[u8], disc: Disc, ask: TocAsk, room: usize, mem: &mut [u8]) -
 {
     let e = smaller(room, mem.len());
     put_full(d, disc, ask, &mut mem[..e])
-}
-
-fn smaller(a: usize, b: usize) -> usize
-    ensures { λ r. ⌜ r ≡ min a b ⌝ }
-{
-    if a < b {
-        return a;
-    }
-    b
 }

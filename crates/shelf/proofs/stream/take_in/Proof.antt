@@ -9,23 +9,23 @@ use Rattle.shelf.proofs.stream.take_in.Tie as tie
 
 slice-aggregate-count-whole : tie.Need-slice-aggregate-count-whole
 slice-aggregate-count-whole c =
-    let e = c .before .least .ensures in
-    let l = length-take (c .before .least .result) (c .before .before .before .args .room .now) in
+    let e = c .before .smaller .ensures in
+    let l = length-take (c .before .smaller .result) (c .before .before .before .args .room .now) in
     omega arith
 
 keep-requires : tie.Need-keep-requires
 keep-requires c κs =
     let u = passed-used _ _ (sym (c .before .before .totals .given .1) ∙ c .before .before .before .before .count-whole .ensures .0) in
-    let e = c .before .before .before .before .before .before .least .ensures in
+    let e = c .before .before .before .before .before .before .smaller .ensures in
     let l =
-    length-take (c .before .before .before .before .before .before .least .result)
+    length-take (c .before .before .before .before .before .before .smaller .result)
     (c .before .before .before .before .before .before .before .before .args .room .now) in
     (omega arith, omega arith)
 
 returns : tie.Need-returns
 returns c =
     let a = c .before .before .before .before .before .before .before .before .before .before .before .args in
-    let n = c .before .before .before .before .before .before .before .before .before .least in
+    let n = c .before .before .before .before .before .before .before .before .before .smaller in
     let w = c .before .before .before .before .before .before .before .count-whole .ensures in
     let g = c .before .before .before .before .before .totals .given .1 in
     let k = c .before .before .keep .ensures in
@@ -36,7 +36,7 @@ returns c =
 returns-2 : tie.Need-returns-2
 returns-2 c =
     let a = c .before .before .before .before .before .before .args in
-    let n = c .before .before .before .before .least in
+    let n = c .before .before .before .before .smaller in
     let o = took-over (a .room .now) (take (n .result) (a .room .now)) (n .result) in (
       took-of _ _ (a .end) (n .ensures) (sym (c .enum-told .given .1) ∙ c .before .before .count-whole .ensures .0) (o .0) (o .1),
       o .2,
