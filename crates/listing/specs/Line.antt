@@ -5,7 +5,7 @@ use native.Mathlib.Omega.{arith}
 use lib.Dec.{eqb}
 use lib.ListN.{length, length-append}
 use Rattle.ground.specs.Tests.{if_then_else_, either}
-use Rattle.print.specs.Joined.{_next_, spaced}
+use Rattle.print.specs.Joined.{_next_, spaced, lineEnd}
 use Rattle.print.specs.Hex.{hexByte, shown, shown-length}
 use Rattle.print.specs.Decimal.{decimal, decimal-length}
 use Rattle.table.specs.Layout.{bound}
@@ -16,9 +16,6 @@ use Rattle.outcome.specs.declared.Outcome.{Outcome}
 -- three bytes, each after a space
 abbrev pub triple : Sense → List ℕ
 triple s = spaced (hexByte (s .key)) next spaced (hexByte (s .asc)) next spaced (hexByte (s .ascq))
-
-abbrev pub lineEnd : List ℕ
-lineEnd = 10 ∷ []
 
 -- " refused"
 abbrev pub refusedWord : List ℕ

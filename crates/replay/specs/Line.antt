@@ -6,7 +6,7 @@ use lib.Dec.{eqb}
 use lib.ListN.{length, take}
 use Rattle.ground.specs.Tests.{if_then_else_}
 use Rattle.ground.specs.Number.{bytes32}
-use Rattle.print.specs.Joined.{_next_, spaced}
+use Rattle.print.specs.Joined.{_next_, spaced, lineEnd}
 use Rattle.print.specs.Hex.{hexByte, shown}
 use Rattle.print.specs.Decimal.{decimal}
 use Rattle.print.specs.Numbers.{joined}
@@ -23,9 +23,6 @@ use Rattle.shelf.specs.Totals.{numbersOf}
 use Rattle.shelf.specs.declared.totals.Totals.{Totals}
 use Rattle.shelf.specs.declared.totals.Counted.{Counted}
 use Rattle.shelf.specs.declared.totals.Counted.the-variants.{Is, TooLarge}
-
-abbrev pub lineEnd : List ℕ
-lineEnd = 10 ∷ []
 
 -- `0` or `1`
 unfoldable pub digit : Bool → ℕ

@@ -19,7 +19,8 @@ use Rattle.shelf.specs.Totals.{sum, totalsOf, within, bounded}
 abbrev pub tableLength : List ℕ → ℕ
 tableLength s = dataLength s + 2
 
--- the whole tables that s begins with, n at most, and what is left behind them
+-- the whole tables that s begins with, n at most, and what is left behind them; "one over the bound, which is skipped", is one of them too, and
+-- breaks rule 1 by its length (claims' `shelf-over`)
 unfoldable pub wholesIn : ℕ → List ℕ → List (List ℕ)
 wholesIn zero s = []
 wholesIn (suc n) s =
@@ -36,7 +37,7 @@ wholes s = wholesIn (length s) s
 unfoldable pub rest : List ℕ → List ℕ
 rest s = restIn (length s) s
 
--- "A table cut off by the end counts": what is left is one, a single byte too
+-- "A table cut off by the end counts": what is left is one, a single byte too, and breaks rule 1 by its length (`shelf-cut-off`)
 unfoldable pub cutOff : List ℕ → List (List ℕ)
 cutOff [] = []
 cutOff (b ∷ s) = (b ∷ s) ∷ []
