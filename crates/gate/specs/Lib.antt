@@ -1,3 +1,4 @@
 pub mod Fault
 pub mod Unit
 pub mod Gate
+pub mod GateLaws

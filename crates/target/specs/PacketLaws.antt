@@ -19,10 +19,8 @@ use Rattle.disc.specs.Rules.{fault, isFit}
 use Rattle.disc.specs.Part.{unfit, ruleWith}
 use Rattle.disc.specs.PartLaws.{ruleWith-none, ruleWith-fault}
 use Rattle.disc.specs.declared.disc.Disc.{Disc}
-use Rattle.gate.specs.declared.unit.Pending.{Pending}
-use Rattle.gate.specs.declared.unit.Pending.the-variants.{Power, Change, Nothing}
-use Rattle.gate.specs.Unit.{clear, pendingOf, attentionSense, told}
-use Rattle.gate.specs.Gate.{Result, fails, goes, Reply, refuse, check, good, settle, pass, meet, gate}
+use Rattle.gate.specs.Unit.{clear}
+use Rattle.gate.specs.Gate.{Result, fails, goes, Reply, refuse, check, good, settle, pass}
 use Rattle.command.specs.declared.done.Done.{Done}
 use Rattle.outcome.specs.declared.Outcome.{Outcome}
 use Rattle.outcome.specs.Outcome.{outcomeOf, bytesOf, Answered, refused, checked, granted, finished}
@@ -139,15 +137,3 @@ module _ (d : Drive) (p t l : List ℕ) (n : ℕ) where
             fits : (b : Bool) → isLoaded (d .deck) ≡ b → isLoaded (d .deck) and not (isFit t) ≡ false
             fits true e = sym (and-late _ _ (sym (ap not (f e))))
             fits false e = sym (and-off _ _ e)
-
--- ---- step 2
-
-pub gate-tells : (a : Pending) (u : Unit) (m : Deck) (r : Result Deck) → pendingOf u ≡ a → (a ≡ Nothing → ⊥) → gate u m r ≡ check (attentionSense a) (told a u) m
-unfolding gate
-gate-tells Power u m r e n = ap (λ (a : Pending). meet a u m r) e
-gate-tells Change u m r e n = ap (λ (a : Pending). meet a u m r) e
-gate-tells Nothing u m r e n = absurd (n refl)
-
-pub gate-settles : (u : Unit) (m : Deck) (r : Result Deck) → pendingOf u ≡ Nothing → gate u m r ≡ settle u m r
-unfolding gate
-gate-settles u m r e = ap (λ (a : Pending). meet a u m r) e

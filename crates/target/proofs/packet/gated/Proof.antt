@@ -6,8 +6,9 @@ use Rattle.attention.specs.declared.Unit.{Unit}
 use Rattle.gate.specs.declared.unit.Pending.{Pending}
 use Rattle.gate.specs.declared.unit.Pending.the-variants.{Power, Change}
 use Rattle.gate.specs.Unit.{attentionSense, told}
+use Rattle.gate.specs.GateLaws.{gate-tells, gate-settles}
 use Rattle.outcome.specs.Outcome.{checked, finished}
-use Rattle.target.specs.PacketLaws.{answered-check, answered-settle, gate-tells, gate-settles}
+use Rattle.target.specs.PacketLaws.{answered-check, answered-settle}
 use borrow.Author.Needs.{needs}
 use Rattle.target.proofs.packet.gated.Statement.{statement}
 use Rattle.target.proofs.packet.gated.Tie as tie

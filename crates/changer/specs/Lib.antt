@@ -1,0 +1,9 @@
+pub mod Slot
+pub mod RowLaws
+pub mod Mechanism
+pub mod MechanismLaws
+pub mod Status
+pub mod StatusLaws
+pub mod Changer
+pub mod ChangerPacket
+pub mod ChangerPacketLaws
