@@ -1,11 +1,11 @@
 -- Any device with the two attentions: the laws of one step, and what follows for every history.
-use mathlib.Core.Path.{_≡_, _∙_}
+use mathlib.Core.Path.{_≡_, refl, sym, _∙_}
 use mathlib.Core.Bool.{Bool, true, false, not}
 use mathlib.Core.List.{List, [], _∷_, _++_}
 use mathlib.Core.Logic.{_↔_}
 use Prim.Native.Nat.{ℕ, _<_}
 use lib.ListN.{length}
-use Rattle.ground.specs.Tests.{_and_, _or_, or-left, or-right}
+use Rattle.ground.specs.Tests.{_and_, _or_, and-late, or-left, or-right}
 use Rattle.claims.specs.Telling.{Attention, power, change}
 use Rattle.claims.specs.History.{Event, event, history, final, history-append, At, Standing, standing-told}
 use Rattle.claims.specs.Stands.{stands}
@@ -62,6 +62,16 @@ module _ {C S A : Type 0} (D : Device C S A) where
   told-once k s cs c t n w =
       standing-told (D .on) (D .cause k) (D .tells k) (past s cs) (made c (after s cs)) t n
       (rw (history-append (D .answer) (D .next) s cs (c ∷ [])) at w)
+
+  -- an answer that tells an attention: it was pending, the answer is no cause of it, and it no longer is
+  pub record Told (k : Attention) (c : C) (s : S) : Type 0 where
+    pub due : D .pend k s ≡ true
+    pub apart : D .cause k (made c s) ≡ false
+    pub gone : D .pend k (D .next c s) ≡ false
+
+  pub told : (k : Attention) (c : C) (s : S) → D .tells k (made c s) ≡ true → D .pend k s ≡ true → D .cause k (made c s) ≡ false → Told k c s
+  unfolding _and_ _or_
+  told k c s t d n = record { due = d; apart = n; gone = D .turns k c s ∙ rw (n, t) (sym (and-late (not (D .on (made c s))) false refl)) }
 
   -- a cause leaves an attention pending
   pub cause-lives : (k : Attention) (c : C) (s : S) → D .cause k (made c s) ≡ true → live (D .next c s) ≡ true

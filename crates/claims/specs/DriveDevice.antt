@@ -20,7 +20,7 @@ use Rattle.claims.specs.UnitLaws.{Turn, only, or-none, only-none, unmove
 use Rattle.claims.specs.Call.{Form, byDefault, withoutChange, Call, powering, pressing, laying, lifting, movingOn, packet, answer, next, event, isPending, isAttending, isPowering, isPowerOn, closed, isLoading, isCause, causes, tells, isNeeding, isSuccess, Alike, same, lists, tables, lend, left}
 use Rattle.claims.specs.PacketLaws.{kind, ruleOf, reply-kind, closed-still, packet-fair, packet-request, packet-orders, packet-blind, packet-unlisted}
 use Rattle.claims.specs.Stands.{or-cases}
-use Rattle.claims.specs.Device.{Device, cause-lives}
+use Rattle.claims.specs.Device.{Device, Told, told, cause-lives}
 
 -- ---- how a call turns an attention
 
@@ -59,7 +59,7 @@ lift-turn k d = either P _ (λ h. either P _ (λ t. here) (λ t. here)) (λ h. h
     here : Turn k (d .unit) false false (d .unit)
     here = unmoved k (d .unit) (d .unit .sense)
 
-moveOn-turn : (k : Attention) (n : ℕ) (d : Drive) → Turn k (d .unit) false false (moveOn n d .state .unit)
+pub moveOn-turn : (k : Attention) (n : ℕ) (d : Drive) → Turn k (d .unit) false false (moveOn n d .state .unit)
 unfolding moveOn
 moveOn-turn k n d = either P _ (λ h. here) (λ h. here)
   where
@@ -76,7 +76,7 @@ packet-turn k p t l m d =
     let T : Bool → Reply Deck → Type 0 =
     λ a r. Turn k (d .unit) (tellsTo k a (d .unit) (answerOf m r) (r .unit)) (closed (d .deck) (r .deck)) (r .unit) in
     subst₂ T (packet-request p (d .deck) t l) (sym (reply-kind d p t l (length m)))
-    (meets-turn closed k m (d .deck) (refusalOf d p t (length m)) (ruleOf d p t (length m)) (kind p (d .deck) t l) (d .unit)
+    (meets-turn (λ good n. closed (d .deck) n) k m (d .deck) (refusalOf d p t (length m)) (ruleOf d p t (length m)) (kind p (d .deck) t l) (d .unit)
     (packet-fair p (d .deck) t l))
 
 -- every call but power-on
@@ -153,29 +153,6 @@ drive-blind c e d (tables p m {t} {u} {k} {l} f g) a =
     let q = packet-blind d p t u k l (length m) f g a in
     (ap (answerOf m) q, ap stateOf q)
 
--- ---- what tells
-
--- an answer that tells an attention: it was pending, and the answer is no cause of it
-pub record Told (k : Attention) (c : Call) (d : Drive) : Type 0 where
-  pub due : isPending k d ≡ true
-  pub apart : causes k (event c d) ≡ false
-  pub gone : isPending k (next c d) ≡ false
-
-call-told : (k : Attention) (c : Call) (d : Drive) → isPowering c ≡ false → tells k (event c d) ≡ true → Told k c d
-unfolding _and_ _or_
-call-told k c d h t =
-    let w = call-turn k c d h in
-    let n : causes k (event c d) ≡ false = causes-only k c d h ∙ only-none k _ (w .apart t) in
-    record { due = w .due t; apart = n; gone = call-turns k c d h ∙ rw (n, h, t) }
-
-pub drive-told : (k : Attention) (c : Call) (d : Drive) → tells k (event c d) ≡ true → Told k c d
-drive-told k (powering f) d t = absurd (false≢true t)
-drive-told k pressing d t = absurd (false≢true t)
-drive-told k laying d t = absurd (false≢true t)
-drive-told k lifting d t = absurd (false≢true t)
-drive-told k (movingOn n) d t = absurd (false≢true t)
-drive-told k (packet p q l m) d t = call-told k (packet p q l m) d refl t
-
 -- ---- the device
 
 abbrev pub drive : Device Call Drive Answer
@@ -192,6 +169,23 @@ drive = record {
   blocks = drive-blocks;
   blind = drive-blind;
 }
+
+-- ---- what tells
+
+call-told : (k : Attention) (c : Call) (d : Drive) → isPowering c ≡ false → tells k (event c d) ≡ true → Told drive k c d
+call-told k c d h t =
+    let w = call-turn k c d h in
+    told drive k c d t (w .due t) (causes-only k c d h ∙ only-none k _ (w .apart t))
+
+pub drive-told : (k : Attention) (c : Call) (d : Drive) → tells k (event c d) ≡ true → Told drive k c d
+drive-told k (powering f) d t = absurd (false≢true t)
+drive-told k pressing d t = absurd (false≢true t)
+drive-told k laying d t = absurd (false≢true t)
+drive-told k lifting d t = absurd (false≢true t)
+drive-told k (movingOn n) d t = absurd (false≢true t)
+drive-told k (packet p q l m) d t = call-told k (packet p q l m) d refl t
+
+-- ---- what causes
 
 -- a power-on, in either form, or a loading leaves an attention pending
 pub cause-attends : (c : Call) (d : Drive) → isCause (event c d) ≡ true → isAttending (next c d) ≡ true

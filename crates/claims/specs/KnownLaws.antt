@@ -100,7 +100,7 @@ module _ {M : Type 0} where
   reply-known (frees (goes next loading full limit start count)) u m h = attend-known loading u h
   reply-known (orders r) u m h = gate-known (u .power) (u .change) (u .sense) m r
 
-  meets-known : (j rule : ℕ) (k : Kind M) (u : Unit) (m : M) → isKnown (u .sense) ≡ true → isKnown (meets j rule k u m .unit .sense) ≡ true
+  pub meets-known : (j rule : ℕ) (k : Kind M) (u : Unit) (m : M) → isKnown (u .sense) ≡ true → isKnown (meets j rule k u m .unit .sense) ≡ true
   meets-known zero rule k u m h = reply-known k u m h
   meets-known (suc j) rule k u m h = h
 
@@ -125,7 +125,7 @@ module _ (m : Deck) (s : KnownDeck m) where
   locked : (b : Bool) → KnownDeck (withLock m b)
   locked b = record { play = s .play; page = s .page; event = s .event }
 
-  held : (b : Bool) → KnownDeck (withDisc m b)
+  pub held : (b : Bool) → KnownDeck (withDisc m b)
   held b = record { play = s .play; page = s .page; event = s .event }
 
   stopped-known : KnownDeck (withPlay m (withStatus (m .play) none))
@@ -147,14 +147,14 @@ module _ (m : Deck) (s : KnownDeck m) where
   eventMoved-known : (e : ℕ) → isEvent e ≡ true → isEvent (eventMoved m e) ≡ true
   eventMoved-known e k = either (λ (x : ℕ). isEvent x ≡ true) (m .«disc_in») (λ h. k) (λ h. s .event)
 
-  closing-known : KnownDeck (closing m .deck)
+  pub closing-known : KnownDeck (closing m .deck)
   closing-known = record {
     play = either Known (m .«disc_in») (λ h. noPlay-known) (λ h. s .play);
     page = s .page;
     event = eventMoved-known loaded refl;
   }
 
-  opening-known : KnownDeck (opening m .deck)
+  pub opening-known : KnownDeck (opening m .deck)
   opening-known = record { play = noPlay-known; page = s .page; event = eventMoved-known opened refl }
 
   load-known : Comes m (load m)
@@ -215,7 +215,7 @@ module _ (m : Deck) (s : KnownDeck m) where
   perform-known c p t l f =
       either (Comes m) (needsDisc c p and not (isLoaded m)) (λ h. s) (λ h. work-known c p t l (λ n. f (second-holds _ _ h n)))
 
-  kind-known : {c : Command} (z : Seen c) (p t l : List ℕ) → (isLoaded m ≡ true → L t ≤ last) → KnownDeck (comesTo m (kindOf z p (perform c p m t l)))
+  pub kind-known : {c : Command} (z : Seen c) (p t l : List ℕ) → (isLoaded m ≡ true → L t ≤ last) → KnownDeck (comesTo m (kindOf z p (perform c p m t l)))
   kind-known asking p t l f = s
   kind-known (freeing {c} z) p t l f = perform-known c p t l f
   kind-known (ordering {c} n g) p t l f = perform-known c p t l f
@@ -223,7 +223,7 @@ module _ (m : Deck) (s : KnownDeck m) where
 -- ---- each call
 
 -- a fit table's L is a block's address
-fit-last : (t : List ℕ) → isFit t ≡ true → L t ≤ last
+pub fit-last : (t : List ℕ) → isFit t ≡ true → L t ≤ last
 fit-last t h = fit-lead-out (isFit-true h) .1
 
 -- a packet's answer

@@ -3,10 +3,10 @@
 use mathlib.Core.Path.{_≡_, refl, sym, ap, _∙_}
 use mathlib.Core.Bool.{Bool, true, false, not, false≢true}
 use mathlib.Core.List.{List}
-use Prim.Native.Nat.{ℕ, zero, suc}
+use Prim.Native.Nat.{ℕ}
 use native.Mathlib.Nat.{lt-of-not-le}
 use native.Mathlib.Decide.{decLe, ℕ-discrete}
-use lib.Dec.{eqb, eqb·suc-zero}
+use lib.Dec.{eqb}
 use lib.ListN.{length}
 use Rattle.ground.specs.Tests.{_and_, _or_, if_then_else_, when, unless, either}
 use Rattle.attention.specs.declared.Unit.{Unit}
@@ -20,7 +20,7 @@ use Rattle.table.specs.Layout.{bound}
 use Rattle.disc.specs.Rules.{isFit}
 use Rattle.disc.specs.Part.{ruleWith}
 use Rattle.gate.specs.declared.fault.Fault.{Fault}
-use Rattle.gate.specs.Gate.{Result, fails, goes, refuse, gate, pass}
+use Rattle.gate.specs.Gate.{Result, fails, goes, gate, pass}
 use Rattle.command.specs.declared.decode.Command.{Command}
 use Rattle.command.specs.declared.decode.Command.the-variants.{TestUnitReady, RequestSense, Inquiry, StartStop, Prevent, ReadCapacity, Read10, Seek, ReadToc, Read12, PlayAudio, PauseResume, ReadSubChannel, ModeSense, ModeSelect, GetEvent, Unknown}
 use Rattle.command.specs.Command.{decode, byte, bit0, bit1, codeOf, lengthIn, needsDisc, loEj, start}
@@ -39,7 +39,7 @@ use Rattle.target.specs.Perform.{work, perform}
 use Rattle.target.specs.Packet.{steps, refusalOf, answer as replyTo}
 use Rattle.target.specs.PacketLaws.{stepsOf, answer-1, answer-2, answer-3, answer-steps}
 use Rattle.claims.specs.Telling.{anyPending}
-use Rattle.claims.specs.UnitLaws.{Kind, asks, frees, orders, isAsking, reply, meets, nextOf, loadingOf, Honest, gate-blind}
+use Rattle.claims.specs.UnitLaws.{Kind, asks, frees, orders, isAsking, reply, meets, meets-by, nextOf, loadingOf, Honest, gate-blind}
 use Rattle.claims.specs.Call.{closed, isRequestSense, isNeeding}
 
 -- the command c is k
@@ -147,13 +147,7 @@ ruleOf d p t n = ruleWith (refusalOf d p t n) t
 pub reply-kind : (d : Drive) (p t l : List ℕ) (n : ℕ)
     → replyTo d p t l n ≡ meets (refusalOf d p t n) (ruleOf d p t n) (kind p (d .deck) t l) (d .unit) (d .deck)
 unfolding replyTo
-reply-kind d p t l n = by-number (refusalOf d p t n)
-  where
-    by-number : (j : ℕ)
-        → (if eqb j 0 then stepsOf d p t l else refuse j (ruleWith j t) (d .unit) (d .deck))
-        ≡ meets j (ruleWith j t) (kind p (d .deck) t l) (d .unit) (d .deck)
-    by-number zero = when _ _ _ refl ∙ stepsOf-kind d p t l
-    by-number (suc j) = unless _ _ _ (eqb·suc-zero j)
+reply-kind d p t l n = meets-by (refusalOf d p t n) (ruleOf d p t n) (kind p (d .deck) t l) (d .unit) (d .deck) (stepsOf-kind d p t l)
 
 -- ---- what each command does to tray, disc and event
 
@@ -299,12 +293,16 @@ does-fair (closing-it w h) = rw h
 does-fair (opening-it w h) = rw h
 does-fair {m = m} (clearing b) = closed-still m
 
-kind-fair : {c : Command} (s : Seen c) (p : List ℕ) (m : Deck) (t l : List ℕ) → Honest closed m (kindOf s p (perform c p m t l))
-kind-fair asking p m t l = closed-still m
+-- the drive's loadings are read off the deck alone, before and after
+abbrev HonestOn : Deck → Kind Deck → Type 0
+HonestOn m = Honest (λ good n. closed m n) m
+
+kind-fair : {c : Command} (s : Seen c) (p : List ℕ) (m : Deck) (t l : List ℕ) → HonestOn m (kindOf s p (perform c p m t l))
+kind-fair asking p m t l = (closed-still m, closed-still m)
 kind-fair (freeing {c} f) p m t l = (does-fair (perform-does c p m t l), closed-still m)
 kind-fair (ordering {c} n g) p m t l = (does-fair (perform-does c p m t l), closed-still m)
 
-pub packet-fair : (p : List ℕ) (m : Deck) (t l : List ℕ) → Honest closed m (kind p m t l)
+pub packet-fair : (p : List ℕ) (m : Deck) (t l : List ℕ) → HonestOn m (kind p m t l)
 packet-fair p m t l = kind-fair (seen (decode (codeOf p))) p m t l
 
 -- ---- the packet's code

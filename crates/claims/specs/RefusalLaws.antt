@@ -39,7 +39,7 @@ use Rattle.claims.specs.DriveDevice.{causes-only}
 
 -- ---- what is not refused has the number 0, and no rule beside it
 
-abbrev Numbered : {M : Type 0} → ℕ → ℕ → Reply M → Type 0
+abbrev pub Numbered : {M : Type 0} → ℕ → ℕ → Reply M → Type 0
 Numbered n rule r = (r .number ≡ n) × (r .rule ≡ rule)
 
 gate-numbered : {M : Type 0} (p c : Bool) (h : Sense) (m : M) (r : Result M) →
@@ -57,7 +57,7 @@ reply-numbered (frees (fails f)) u m = (refl, refl)
 reply-numbered (frees (goes next loading full limit start count)) u m = (refl, refl)
 reply-numbered (orders r) u m = gate-numbered (u .power) (u .change) (u .sense) m r
 
-meets-numbered : {M : Type 0} (j : ℕ) (t : List ℕ) (k : Kind M) (u : Unit) (m : M)
+pub meets-numbered : {M : Type 0} (j : ℕ) (t : List ℕ) (k : Kind M) (u : Unit) (m : M)
     → Numbered j (ruleWith j t) (meets j (ruleWith j t) k u m)
 meets-numbered zero t k u m =
     let r = reply-numbered k u m in
@@ -95,7 +95,7 @@ call-unchanged (packet p t l m) d n =
     u n
 
 -- a refused call is no cause and tells nothing
-refused-untold : (k : Attention) (b : Bool) (old new : Unit) (a : Answer) → eqb (a .number) 0 ≡ false → tellsTo k b old a new ≡ false
+pub refused-untold : (k : Attention) (b : Bool) (old new : Unit) (a : Answer) → eqb (a .number) 0 ≡ false → tellsTo k b old a new ≡ false
 unfolding _and_ _or_
 refused-untold k true old new a h = rw h
 refused-untold k false old new a h = rw h
@@ -146,7 +146,7 @@ beside-none four h = record { one = sym h; none = ap not (sym h) }
 
 -- the number n is 4 where `a` holds and the table is not fit, and the rule is what stands beside n
 module _ (n : ℕ) (t : List ℕ) (a : Bool) (four : eqb n 4 ≡ a and not (isFit t)) where
-  ruleWith-beside : Beside (eqb n 4) (ruleWith n t)
+  pub ruleWith-beside : Beside (eqb n 4) (ruleWith n t)
   unfolding ruleWith isFit if_then_else_ _and_
   ruleWith-beside = go (eqb n 4) (fault t) four (fault-first t .most)
     where

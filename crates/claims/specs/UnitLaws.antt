@@ -1,10 +1,10 @@
 -- The attention unit beside any deck: how each kind of packet turns the attentions, and what it may tell.
 use mathlib.Core.Path.{_≡_, refl, sym, _∙_}
 use mathlib.Core.Bool.{Bool, true, false, not, false≢true}
-use mathlib.Core.List.{List}
+use mathlib.Core.List.{List, []}
 use Prim.Native.Nat.{ℕ, zero, suc}
 use lib.Dec.{eqb, eqb·suc-zero}
-use Rattle.ground.specs.Tests.{_and_, _or_, if_then_else_}
+use Rattle.ground.specs.Tests.{_and_, _or_, if_then_else_, when, unless}
 use Rattle.attention.specs.declared.sense.Sense.{Sense}
 use Rattle.attention.specs.declared.Unit.{Unit}
 use Rattle.attention.specs.Sense.{senseAt, noSense, changed, powered, sameSense}
@@ -52,11 +52,23 @@ module _ {M : Type 0} where
   loadingOf (fails f) = false
   loadingOf (goes next loading full limit start count) = loading
 
-  -- `loads` reads a loading off the deck before and after: the packet's result says the same, and where nothing moves there is none
-  abbrev pub Honest : (M → M → Bool) → M → Kind M → Type 0
-  Honest loads m (asks limit) = loads m m ≡ false
-  Honest loads m (frees r) = (loads m (nextOf m r) ≡ loadingOf r) × (loads m m ≡ false)
-  Honest loads m (orders r) = (loads m (nextOf m r) ≡ loadingOf r) × (loads m m ≡ false)
+  -- and whether it went well
+  abbrev pub isDone : Result M → Bool
+  isDone (fails f) = false
+  isDone (goes next loading full limit start count) = true
+
+  -- `loads` reads a loading off whether the answer is GOOD and off the deck after it: the packet's result says the same, and where nothing is
+  -- done there is none
+  abbrev pub Honest : (Bool → M → Bool) → M → Kind M → Type 0
+  Honest loads m (asks limit) = (loads true m ≡ false) × (loads false m ≡ false)
+  Honest loads m (frees r) = (loads (isDone r) (nextOf m r) ≡ loadingOf r) × (loads false m ≡ false)
+  Honest loads m (orders r) = (loads (isDone r) (nextOf m r) ≡ loadingOf r) × (loads false m ≡ false)
+
+-- the answer to a packet that is refused by n where n is not 0
+pub meets-by : {M : Type 0} (n rule : ℕ) (k : Kind M) (u : Unit) (m : M) {r : Reply M} → r ≡ reply k u m
+    → (if eqb n 0 then r else refuse n rule u m) ≡ meets n rule k u m
+meets-by zero rule k u m e = when _ _ _ refl ∙ e
+meets-by (suc n) rule k u m e = unless _ _ _ (eqb·suc-zero n)
 
 -- ---- `or` with false, and `only` of false
 
@@ -130,28 +142,28 @@ unfolding _and_ if_then_else_ give
 give-turn a u true e = rw e (tells-first a (u .power) (u .change) (u .sense) noSense)
 give-turn a u false e = rw e (unmoved a u noSense)
 
-module _ {M : Type 0} (loads : M → M → Bool) (a : Attention) (memory : List ℕ) (m : M) where
+module _ {M : Type 0} (loads : Bool → M → Bool) (a : Attention) (memory : List ℕ) (m : M) where
   -- how the answer r to a packet turns the attention
   abbrev Turns : Bool → Unit → Reply M → Type 0
-  Turns asking u r = Turn a u (tellsTo a asking u (answerOf memory r) (r .unit)) (loads m (r .deck)) (r .unit)
+  Turns asking u r = Turn a u (tellsTo a asking u (answerOf memory r) (r .unit)) (loads (isGood (answerOf memory r)) (r .deck)) (r .unit)
 
-  asks-turn : (limit : ℕ) (u : Unit) → loads m m ≡ false → Turns true u (requestSense limit u m)
+  asks-turn : (limit : ℕ) (u : Unit) → loads true m ≡ false → Turns true u (requestSense limit u m)
   unfolding _and_ _or_ senseAt
   asks-turn limit u q = rw q (give-turn a u _ refl)
 
   -- CHECK CONDITION with a fault's triple
-  fails-turn : (f : Fault) (u : Unit) → loads m m ≡ false → Turns false u (pass u m (fails f))
+  fails-turn : (f : Fault) (u : Unit) → loads false m ≡ false → Turns false u (pass u m (fails f))
   unfolding _and_ _or_
   fails-turn f u q = rw (q, fault-untold a f) (unmoved a u (senseOf f))
 
   -- GOOD, the sense left or cleared
-  goes-turn : (s : Sense) (u : Unit) (next : M) (loading : Bool) (full : List ℕ) (limit start count : ℕ) → loads m next ≡ loading
+  goes-turn : (s : Sense) (u : Unit) (next : M) (loading : Bool) (full : List ℕ) (limit start count : ℕ) → loads true next ≡ loading
       → Turns false u (good full limit start count (attend loading (hold s u)) next)
   unfolding _and_ _or_
   goes-turn s u next loading full limit start count q = rw q (attended a u s loading)
 
   -- step 2, and the steps after it where nothing is pending
-  meet-turn : (p c : Bool) (h : Sense) (r : Result M) → loads m (nextOf m r) ≡ loadingOf r → loads m m ≡ false →
+  meet-turn : (p c : Bool) (h : Sense) (r : Result M) → loads (isDone r) (nextOf m r) ≡ loadingOf r → loads false m ≡ false →
       let u : Unit = record { power = p; change = c; sense = h } in
       Turns false u (gate u m r)
   unfolding _and_ _or_ if_then_else_ gate pendingOf
@@ -163,14 +175,14 @@ module _ {M : Type 0} (loads : M → M → Bool) (a : Attention) (memory : List 
   -- each kind of packet, refused or not
   pub meets-turn : (n rule : ℕ) (k : Kind M) (u : Unit) → Honest loads m k → Turns (isAsking k) u (meets n rule k u m)
   unfolding _and_ _or_
-  meets-turn zero rule (asks limit) u q = asks-turn limit u q
+  meets-turn zero rule (asks limit) u q = asks-turn limit u (q .0)
   meets-turn zero rule (frees (fails f)) u q = fails-turn f u (q .1)
   meets-turn zero rule (frees (goes next loading full limit start count)) u q =
       goes-turn (u .sense) u next loading full limit start count (q .0)
   meets-turn zero rule (orders r) u q = meet-turn (u .power) (u .change) (u .sense) r (q .0) (q .1)
-  meets-turn (suc n) rule (asks limit) u q = rw (q, eqb·suc-zero n) (unmoved a u (u .sense))
-  meets-turn (suc n) rule (frees r) u q = rw (q .1, eqb·suc-zero n) (unmoved a u (u .sense))
-  meets-turn (suc n) rule (orders r) u q = rw (q .1, eqb·suc-zero n) (unmoved a u (u .sense))
+  meets-turn (suc n) rule (asks limit) u q = rw (eqb·suc-zero n, q .1) (unmoved a u (u .sense))
+  meets-turn (suc n) rule (frees r) u q = rw (eqb·suc-zero n, q .1) (unmoved a u (u .sense))
+  meets-turn (suc n) rule (orders r) u q = rw (eqb·suc-zero n, q .1) (unmoved a u (u .sense))
 
 -- ---- while an attention is pending
 
@@ -220,31 +232,47 @@ none-pending a u h = decided (pending a u) refl
     decided true e = absurd (false≢true (sym h ∙ any-pending a u e))
     decided false e = e
 
--- ---- the deck: what holds of it and of what a packet comes to holds of the answer's
+-- ---- the deck: what holds of it and of what a packet comes to holds of the answer's, be it GOOD or not
 
 module _ {M : Type 0} where
-  gate-keeps : (P : M → Type 0) (p c : Bool) (h : Sense) (m : M) (r : Result M) → P m → P (nextOf m r) →
-      let u : Unit = record { power = p; change = c; sense = h } in
-      P (gate u m r .deck)
-  unfolding gate pendingOf if_then_else_
-  gate-keeps P true c h m r a b = a
-  gate-keeps P false true h m r a b = a
-  gate-keeps P false false h m (fails f) a b = a
-  gate-keeps P false false h m (goes next loading full limit start count) a b = b
-
-  -- what a packet comes to, of the deck alone
+  -- what a packet comes to, of the deck alone, and whether it went well
   abbrev pub comesTo : M → Kind M → M
   comesTo m (asks limit) = m
   comesTo m (frees r) = nextOf m r
   comesTo m (orders r) = nextOf m r
 
-  reply-keeps : (P : M → Type 0) (k : Kind M) (u : Unit) (m : M) → P m → P (comesTo m k) → P (reply k u m .deck)
-  reply-keeps P (asks limit) u m a b = a
-  reply-keeps P (frees (fails f)) u m a b = a
-  reply-keeps P (frees (goes next loading full limit start count)) u m a b = b
-  reply-keeps P (orders r) u m a b = gate-keeps P (u .power) (u .change) (u .sense) m r a b
+  abbrev pub comesWell : Kind M → Bool
+  comesWell (asks limit) = true
+  comesWell (frees r) = isDone r
+  comesWell (orders r) = isDone r
 
-  -- refused or not
+  module _ (P : Bool → M → Type 0) (memory : List ℕ) where
+    -- P of the answer: whether it is GOOD, and its deck
+    abbrev Says : Reply M → Type 0
+    Says r = P (isGood (answerOf memory r)) (r .deck)
+
+    gate-says : (p c : Bool) (h : Sense) (m : M) (r : Result M) → P false m → P (isDone r) (nextOf m r) →
+        let u : Unit = record { power = p; change = c; sense = h } in
+        Says (gate u m r)
+    unfolding gate pendingOf if_then_else_ _and_
+    gate-says true c h m r a b = a
+    gate-says false true h m r a b = a
+    gate-says false false h m (fails f) a b = a
+    gate-says false false h m (goes next loading full limit start count) a b = b
+
+    reply-says : (k : Kind M) (u : Unit) (m : M) → P false m → P (comesWell k) (comesTo m k) → Says (reply k u m)
+    unfolding _and_
+    reply-says (asks limit) u m a b = b
+    reply-says (frees (fails f)) u m a b = a
+    reply-says (frees (goes next loading full limit start count)) u m a b = b
+    reply-says (orders r) u m a b = gate-says (u .power) (u .change) (u .sense) m r a b
+
+    -- refused or not
+    pub meets-says : (n rule : ℕ) (k : Kind M) (u : Unit) (m : M) → P false m → (n ≡ 0 → P (comesWell k) (comesTo m k)) → Says (meets n rule k u m)
+    unfolding _and_
+    meets-says zero rule k u m a b = reply-says k u m a (b refl)
+    meets-says (suc n) rule k u m a b = rw (eqb·suc-zero n) a
+
+  -- of the deck alone
   pub meets-keeps : (P : M → Type 0) (n rule : ℕ) (k : Kind M) (u : Unit) (m : M) → P m → (n ≡ 0 → P (comesTo m k)) → P (meets n rule k u m .deck)
-  meets-keeps P zero rule k u m a b = reply-keeps P k u m a (b refl)
-  meets-keeps P (suc n) rule k u m a b = a
+  meets-keeps P = meets-says (λ good. P) []

@@ -2,16 +2,15 @@
 use mathlib.Core.Path.{_≡_, refl}
 use mathlib.Core.List.{List, _∷_}
 use mathlib.Core.Logic.{_↔_}
-use Prim.Native.Nat.{ℕ, zero, suc, _≤_}
-use native.Mathlib.Omega.{arith}
+use Prim.Native.Nat.{ℕ}
 use borrow.Author.Tests.{eq-eqb, eqb-true}
 use Rattle.drive.specs.declared.state.Drive.{Drive}
 use Rattle.claims.specs.History.{Standing}
 use Rattle.claims.specs.Call.{Form, Call, powering, answer, next, history, final, isPowerOn}
-use Rattle.claims.specs.MediaEvent.{Media, pressed, loaded, opened, numberOf, happens, replaces}
+use Rattle.claims.specs.MediaEvent.{Media, numberOf, happens, replaces}
 use Rattle.claims.specs.Stands.{stands}
 use Rattle.claims.specs.Known.{known-event}
-use Rattle.claims.specs.WaitingLaws.{isWaiting, event-turns}
+use Rattle.claims.specs.WaitingLaws.{no-event, isWaiting, event-turns}
 
 -- it happened, and later there was no power-on, none of the three, and no answer that clears
 abbrev pub Latest : Media → Drive → List Call → Type 0
@@ -33,16 +32,4 @@ module _ (f : Form) (handed : Drive) (calls : List Call) where
 
   -- and it is 0 exactly when none of the three is it
   pub waiting-none : (eventAfter handed all ≡ 0) ↔ ((k : Media) → Latest k handed all → ⊥)
-  waiting-none = (never, none (eventAfter handed all) (known-event f handed calls) (λ k e. waiting k .0 e))
-    where
-      never : eventAfter handed all ≡ 0 → (k : Media) → Latest k handed all → ⊥
-      never z pressed w = let e = waiting pressed .1 w in omega arith
-      never z loaded w = let e = waiting loaded .1 w in omega arith
-      never z opened w = let e = waiting opened .1 w in omega arith
-
-      none : (n : ℕ) → n ≤ 3 → ((k : Media) → n ≡ numberOf k → Latest k handed all) → ((k : Media) → Latest k handed all → ⊥) → n ≡ 0
-      none zero h l q = refl
-      none (suc zero) h l q = absurd (q pressed (l pressed refl))
-      none (suc (suc zero)) h l q = absurd (q loaded (l loaded refl))
-      none (suc (suc (suc zero))) h l q = absurd (q opened (l opened refl))
-      none (suc (suc (suc (suc n)))) h l q = absurd (omega arith)
+  waiting-none = no-event (eventAfter handed all) (known-event f handed calls) (λ k. Latest k handed all) waiting

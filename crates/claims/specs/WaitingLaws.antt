@@ -3,7 +3,9 @@
 use mathlib.Core.Path.{_≡_, refl, ap}
 use mathlib.Core.Bool.{Bool, true, false, not, true≢false}
 use mathlib.Core.List.{List, []}
-use Prim.Native.Nat.{ℕ, zero, suc}
+use mathlib.Core.Logic.{_↔_}
+use Prim.Native.Nat.{ℕ, zero, suc, _≤_}
+use native.Mathlib.Omega.{arith}
 use lib.ListN.{length}
 use lib.Dec.{eqb, eqb·suc-zero}
 use Rattle.ground.specs.Tests.{_and_, _or_, if_then_else_, either}
@@ -41,7 +43,7 @@ pub data Noted : (press load out clear : Bool) (old new : ℕ) → Type 0 where
 
 -- ---- the deck alone
 
-opens-still : (m : Deck) → opensOn m m ≡ false
+pub opens-still : (m : Deck) → opensOn m m ≡ false
 unfolding _and_
 opens-still m = go (m .«tray_open») _
   where
@@ -50,7 +52,7 @@ opens-still m = go (m .«tray_open») _
     go false c = refl
 
 -- the deck n after m, where an answer clears or not
-abbrev NotedOn : Bool → Deck → Deck → Type 0
+abbrev pub NotedOn : Bool → Deck → Deck → Type 0
 NotedOn clear m n = Noted false (closed m n) (opensOn m n) clear (m .event) (n .event)
 
 still-noted : (m : Deck) → NotedOn false m m
@@ -75,7 +77,7 @@ opening-noted m h = go (m .«disc_in») refl
 -- ---- a packet
 
 -- the answer r of a packet to the deck m, where `polls` says that it is 4Ah
-abbrev NotedBy : Bool → List ℕ → Deck → Reply Deck → Type 0
+abbrev pub NotedBy : Bool → List ℕ → Deck → Reply Deck → Type 0
 NotedBy polls memory m r = NotedOn (polls and isGood (answerOf memory r) and isClearing (r .full) (r .limit)) m (r .deck)
 
 -- no bytes tell nothing
@@ -142,13 +144,17 @@ kind-does asking memory p m t l = refl
 kind-does (freeing {c} f) memory p m t l = perform-does c p m t l
 kind-does (ordering {c} n g) memory p m t l = perform-does c p m t l
 
+-- a packet, refused by j or not
+pub kind-noted : (j rule : ℕ) (p t l memory : List ℕ) (u : Unit) (m : Deck) → NotedBy (isPoll p) memory m (meets j rule (kind p m t l) u m)
+kind-noted j rule p t l memory u m =
+    let c = decode (codeOf p) in
+    rw (decode-poll (codeOf p))
+    (meets-noted memory m (isTraying c p) (isPolling c) j rule (kind p m t l) u (kind-does (seen c) memory p m t l))
+
 packet-noted : (p t l memory : List ℕ) (d : Drive) → NotedBy (isPoll p) memory (d .deck) (replyTo d p t l (length memory))
 packet-noted p t l memory d =
     let n = length memory in
-    let c = decode (codeOf p) in
-    rw (decode-poll (codeOf p), reply-kind d p t l n)
-    (meets-noted memory (d .deck) (isTraying c p) (isPolling c) (refusalOf d p t n) (ruleOf d p t n) (kind p (d .deck) t l) (d .unit)
-    (kind-does (seen c) memory p (d .deck) t l))
+    rw (reply-kind d p t l n) (kind-noted (refusalOf d p t n) (ruleOf d p t n) p t l memory (d .unit) (d .deck))
 
 -- ---- the other calls
 
@@ -181,7 +187,7 @@ lift-leaves : (d : Drive) → Leaves d (lift d)
 unfolding lift
 lift-leaves d = either (Leaves d) _ (λ k. either (Leaves d) _ (λ t. refl) (λ t. refl)) (λ k. refl)
 
-moveOn-leaves : (k : ℕ) (d : Drive) → Leaves d (moveOn k d)
+pub moveOn-leaves : (k : ℕ) (d : Drive) → Leaves d (moveOn k d)
 unfolding moveOn
 moveOn-leaves k d = either (Leaves d) _ (λ h. refl) (λ h. refl)
 
@@ -198,12 +204,12 @@ call-noted (packet p t l m) d h = packet-noted p t l m d
 -- ---- one step
 
 -- the test of that one, of the three's
-abbrev testOf : Media → Bool → Bool → Bool → Bool
+abbrev pub testOf : Media → Bool → Bool → Bool → Bool
 testOf pressed p l o = p
 testOf loaded p l o = l
 testOf opened p l o = o
 
-noted-turns : (k : Media) {p l o c : Bool} {old new : ℕ} → Noted p l o c old new
+pub noted-turns : (k : Media) {p l o c : Bool} {old new : ℕ} → Noted p l o c old new
     → eqb new (numberOf k) ≡ testOf k p l o or (not ((p or l or o) or c) and eqb old (numberOf k))
 unfolding _or_ _and_
 noted-turns pressed by-press = refl
@@ -221,6 +227,22 @@ noted-turns opened by-load = refl
 noted-turns opened by-open = refl
 noted-turns opened by-answer = refl
 noted-turns opened by-none = refl
+
+-- an event of at most 3 is 0 exactly where none of the three is it
+pub no-event : (n : ℕ) → n ≤ 3 → (L : Media → Type 0) → ((k : Media) → (n ≡ numberOf k) ↔ L k) → (n ≡ 0) ↔ ((k : Media) → L k → ⊥)
+no-event n h L f = (never, none n h (λ k e. f k .0 e))
+  where
+    never : n ≡ 0 → (k : Media) → L k → ⊥
+    never z pressed w = let e = f pressed .1 w in omega arith
+    never z loaded w = let e = f loaded .1 w in omega arith
+    never z opened w = let e = f opened .1 w in omega arith
+
+    none : (n : ℕ) → n ≤ 3 → ((k : Media) → n ≡ numberOf k → L k) → ((k : Media) → L k → ⊥) → n ≡ 0
+    none zero h l q = refl
+    none (suc zero) h l q = absurd (q pressed (l pressed refl))
+    none (suc (suc zero)) h l q = absurd (q loaded (l loaded refl))
+    none (suc (suc (suc zero))) h l q = absurd (q opened (l opened refl))
+    none (suc (suc (suc (suc n)))) h l q = absurd (omega arith)
 
 -- the event of a state is that one
 abbrev pub isWaiting : Media → Drive → Bool
