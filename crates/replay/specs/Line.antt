@@ -18,6 +18,7 @@ use Rattle.deck.specs.declared.Deck.{Deck}
 use Rattle.drive.specs.declared.state.Drive.{Drive}
 use Rattle.disc.specs.Part.{unfit}
 use Rattle.outcome.specs.declared.Outcome.{Outcome}
+use Rattle.changer.specs.declared.Changer.{Changer}
 use Rattle.cue.specs.declared.write.Written.{Written}
 use Rattle.shelf.specs.Totals.{numbersOf}
 use Rattle.shelf.specs.declared.totals.Totals.{Totals}
@@ -80,9 +81,9 @@ decimals a b c = spaced (decimal a) next spaced (decimal b) next spaced (decimal
 unfoldable pub movedLine : ℕ → ℕ → Drive → List ℕ
 movedLine letter number d = call letter number next stateText d next lineEnd
 
--- `p N ST LEN START COUNT`
-unfoldable pub outcomeText : Outcome → List ℕ
-outcomeText o = ruledCall 112 (o .number) (o .rule) next spaced (hexByte (o .status)) next decimals (o .len) (o .start) (o .count)
+-- `p N ST LEN START COUNT`; K11: `P N ST LEN START COUNT`
+unfoldable pub outcomeText : ℕ → Outcome → List ℕ
+outcomeText letter o = ruledCall letter (o .number) (o .rule) next spaced (hexByte (o .status)) next decimals (o .len) (o .start) (o .count)
 
 -- `DATA SUM`
 unfoldable pub memoryText : List ℕ → List ℕ → List ℕ
@@ -90,7 +91,24 @@ memoryText bytes memory = spaced (shown bytes) next sumText memory next lineEnd
 
 -- `p N ST LEN START COUNT STATE DATA SUM`
 unfoldable pub packetLine : Outcome → List ℕ → List ℕ
-packetLine o memory = outcomeText o next stateText (o .state) next memoryText (take (o .len) memory) memory
+packetLine o memory = outcomeText 112 o next stateText (o .state) next memoryText (take (o .len) memory) memory
+
+-- K11: "H is decimal, SLOTS two hex digits a slot or `-`"
+unfoldable pub slotsText : ℕ → List ℕ → List ℕ
+slotsText home slots = spaced (decimal home) next spaced (shown slots)
+
+-- K11: `STATE H SLOTS`
+unfoldable pub changerText : Changer → List ℕ → List ℕ
+changerText c slots = stateText (c .drive) next slotsText (c .home) slots
+
+-- K11: `O N STATE H SLOTS`, `Q N STATE H SLOTS`, `M N STATE H SLOTS`
+unfoldable pub stoodLine : ℕ → ℕ → Changer → List ℕ → List ℕ
+stoodLine letter number c slots = call letter number next changerText c slots next lineEnd
+
+-- K11: `P N ST LEN START COUNT STATE H SLOTS DATA SUM`
+unfoldable pub changerLine : Outcome → ℕ → List ℕ → List ℕ → List ℕ
+changerLine o home slots memory =
+    outcomeText 80 o next changerText (record { drive = o .state; home = home }) slots next memoryText (take (o .len) memory) memory
 
 -- `a N M S F`
 unfoldable pub msfLine : ℕ → ℕ → ℕ → ℕ → List ℕ

@@ -1,4 +1,4 @@
-// What is kept from record to record, and what each kind of record does with it.
+// What is kept from record to record, and what each kind of record does with it (those of the changer in `magazine`).
 use crate::given::TOTALS;
 use crate::given::totals_of;
 use crate::line::put_address;
@@ -8,6 +8,10 @@ use crate::line::put_msf;
 use crate::line::put_packet;
 use crate::line::put_part;
 use crate::line::put_written;
+use crate::magazine::call_changer;
+use crate::magazine::call_outside;
+use crate::magazine::call_power;
+use crate::magazine::set_slots;
 use address::Block;
 use address::Msf;
 use address::to_block;
@@ -32,12 +36,15 @@ use target::packet::packet;
 ghost use mathlib.Core.Path.{_≡_};
 ghost use lib.ListN.{length, replicate};
 
-// The drive, and how many bytes of the table, of the parameter list and of the response memory are lent.
+// The drive, the home of the disc in it, how many bytes of the table, of the parameter list and of the response memory are lent, and how many
+// slots.
 pub struct Bench {
     pub drive: Drive,
+    pub home: u8,
     pub table: usize,
     pub list: usize,
     pub memory: usize,
+    pub slots: usize,
 }
 
 // What a record came to: whether it ends the run, how many bytes the line has, and what is kept.
@@ -47,7 +54,7 @@ pub struct Turn {
     pub bench: Bench,
 }
 
-// Everything zero, no table, no list and no memory.
+// Everything zero, no table, no list, no memory and no slots.
 pub(crate) fn empty() -> Bench {
     let sense = Sense {
         key: 0,
@@ -78,9 +85,11 @@ pub(crate) fn empty() -> Bench {
     };
     Bench {
         drive: Drive { unit, deck },
+        home: 0,
         table: 0,
         list: 0,
         memory: 0,
+        slots: 0,
     }
 }
 
@@ -88,14 +97,29 @@ pub(crate) fn empty() -> Bench {
 fn with_drive(bench: Bench, drive: Drive) -> Bench {
     Bench {
         drive,
+        home: bench.home,
         table: bench.table,
         list: bench.list,
         memory: bench.memory,
+        slots: bench.slots,
+    }
+}
+
+// What is kept, with so many bytes of the table, of the list and of the memory.
+fn with_lent(bench: Bench, table: usize, list: usize, memory: usize) -> Bench {
+    let drive = bench.drive;
+    Bench {
+        drive,
+        home: bench.home,
+        table,
+        list,
+        memory,
+        slots: bench.slots,
     }
 }
 
 // The run goes on, and the line has len bytes.
-fn printed(len: usize, bench: Bench) -> Turn {
+pub(crate) fn printed(len: usize, bench: Bench) -> Turn {
     Turn {
         over: false,
         len,
@@ -193,48 +217,42 @@ fn set_state(body: &[u8], bench: Bench, line: &mut [u8]) -> Turn {
 
 // Kind 1: the table lent from now on.
 fn set_table(body: &[u8], bench: Bench, table: &mut [u8]) -> Turn {
-    let drive = bench.drive;
-    printed(
-        0,
-        Bench {
-            drive,
-            table: copy_front(body, table),
-            list: bench.list,
-            memory: bench.memory,
-        },
-    )
+    let n = copy_front(body, table);
+    printed(0, with_lent(bench, n, bench.list, bench.memory))
 }
 
 // Kind 13: the parameter list lent from now on.
 fn set_list(body: &[u8], bench: Bench, list: &mut [u8]) -> Turn {
-    let drive = bench.drive;
-    printed(
-        0,
-        Bench {
-            drive,
-            table: bench.table,
-            list: copy_front(body, list),
-            memory: bench.memory,
-        },
-    )
+    let n = copy_front(body, list);
+    printed(0, with_lent(bench, bench.table, n, bench.memory))
+}
+
+// Kind 16: the home of the disc in the drive.
+fn set_home(body: &[u8], bench: Bench, line: &mut [u8]) -> Turn {
+    if body.len() == 1 {
+        let drive = bench.drive;
+        return printed(
+            0,
+            Bench {
+                drive,
+                home: body[0],
+                table: bench.table,
+                list: bench.list,
+                memory: bench.memory,
+                slots: bench.slots,
+            },
+        );
+    }
+    bad(bench, line)
 }
 
 // Kind 2: the response memory from now on.
 fn set_memory(body: &[u8], bench: Bench, memory: &mut [u8], line: &mut [u8]) -> Turn {
-    let drive = bench.drive;
     if body.len() == 3 {
         let n = word16(body[0], body[1]);
         if n <= memory.len() {
             fill(&mut memory[..n], body[2]);
-            return printed(
-                0,
-                Bench {
-                    drive,
-                    table: bench.table,
-                    list: bench.list,
-                    memory: n,
-                },
-            );
+            return printed(0, with_lent(bench, bench.table, bench.list, n));
         }
     }
     bad(bench, line)
@@ -361,6 +379,7 @@ pub(crate) fn meet(
     table: &mut [u8],
     list: &mut [u8],
     memory: &mut [u8],
+    slots: &mut [u8],
     line: &mut [u8],
 ) -> Turn {
     match kind {
@@ -375,6 +394,11 @@ pub(crate) fn meet(
         12 => call_move(body, bench, line),
         13 => set_list(body, bench, list),
         14 => call_sheet(body, bench, memory, line),
+        15 => set_slots(body, bench, slots, line),
+        16 => set_home(body, bench, line),
+        17 | 18 => call_power(kind, body, bench, slots, line),
+        19 => call_changer(body, bench, table, list, memory, slots, line),
+        20 => call_outside(body, bench, slots, line),
         24 => call_shelf(body, bench, line),
         _ => bad(bench, line),
     }

@@ -1,4 +1,5 @@
 // The lines that a call prints.
+use changer::Changer;
 use cue::write::Written;
 use deck::Deck;
 use disc::part::UNFIT;
@@ -23,7 +24,7 @@ use shelf::totals::numbers;
 ghost use mathlib.Core.Path.{_≡_};
 ghost use Rattle.ground.specs.Memory.{Laid};
 ghost use Rattle.replay.specs.Line.{digit as Line·digit};
-ghost use Rattle.replay.specs.Line.{playText, pageText, keptText, stateText, call, ruleText, ruledCall, sumText, decimals, movedLine, outcomeText, memoryText, packetLine, msfLine, addressLine, summedText, partLine, writtenLine, totalsLine, countedLine};
+ghost use Rattle.replay.specs.Line.{playText, pageText, keptText, stateText, call, ruleText, ruledCall, sumText, decimals, movedLine, outcomeText, memoryText, packetLine, slotsText, changerText, stoodLine, changerLine, msfLine, addressLine, summedText, partLine, writtenLine, totalsLine, countedLine};
 
 // A flag as '0' or '1'.
 fn digit(b: bool) -> u8
@@ -144,11 +145,11 @@ pub(crate) fn put_moved(letter: u8, number: u8, d: Drive, out: &mut [u8]) -> usi
     at
 }
 
-// A packet's outcome, up to its state.
-fn put_outcome(o: Outcome, out: &mut [u8]) -> usize
-    ensures { λ r. ⌜ Laid (now (out .entry)) (outcomeText o) r (now (out .exit)) ⌝ }
+// A packet's letter and outcome, up to its state.
+fn put_outcome(letter: u8, o: Outcome, out: &mut [u8]) -> usize
+    ensures { λ r. ⌜ Laid (now (out .entry)) (outcomeText letter o) r (now (out .exit)) ⌝ }
 {
-    let mut at = put_ruled(b'p', o.number, o.rule, out);
+    let mut at = put_ruled(letter, o.number, o.rule, out);
     at += next_hex(o.status, &mut out[at..]);
     at += next_decimals(o.len, o.start, o.count, &mut out[at..]);
     at
@@ -169,8 +170,53 @@ pub(crate) fn put_packet(o: Outcome, memory: &[u8], out: &mut [u8]) -> usize
     ensures { λ r. ⌜ Laid (now (out .entry)) (packetLine o (now (memory .entry))) r (now (out .exit)) ⌝ }
 {
     let state = o.state;
-    let mut at = put_outcome(o, out);
+    let mut at = put_outcome(b'p', o, out);
     at += next_state(state, &mut out[at..]);
+    at += next_memory(front(memory, o.len), memory, &mut out[at..]);
+    at
+}
+
+// The home and the slots, a byte each.
+fn next_slots(home: u8, slots: &[u8], out: &mut [u8]) -> usize
+    ensures { λ r. ⌜ Laid (now (out .entry)) (slotsText home (now (slots .entry))) r (now (out .exit)) ⌝ }
+{
+    let mut at = next_decimal(wide(home), out);
+    at += next_shown(slots, &mut out[at..]);
+    at
+}
+
+// The changer's state: the drive's, the home and the slots.
+fn next_changer(c: Changer, slots: &[u8], out: &mut [u8]) -> usize
+    ensures { λ r. ⌜ Laid (now (out .entry)) (changerText c (now (slots .entry))) r (now (out .exit)) ⌝ }
+{
+    let mut at = next_state(c.drive, out);
+    at += next_slots(c.home, slots, &mut out[at..]);
+    at
+}
+
+// The line of a call on the changer that is no packet.
+pub(crate) fn put_stood(letter: u8, number: u8, c: Changer, slots: &[u8], out: &mut [u8]) -> usize
+    ensures { λ r. ⌜ Laid (now (out .entry)) (stoodLine letter number c (now (slots .entry))) r (now (out .exit)) ⌝ }
+{
+    let mut at = put_call(letter, number, out);
+    at += next_changer(c, slots, &mut out[at..]);
+    at += copy_front(b"\n", &mut out[at..]);
+    at
+}
+
+// The line of a packet to the changer, with the slots and the response memory afterwards.
+pub(crate) fn put_changer(
+    o: Outcome,
+    home: u8,
+    slots: &[u8],
+    memory: &[u8],
+    out: &mut [u8],
+) -> usize
+    ensures { λ r. ⌜ Laid (now (out .entry)) (changerLine o home (now (slots .entry)) (now (memory .entry))) r (now (out .exit)) ⌝ }
+{
+    let drive = o.state;
+    let mut at = put_outcome(b'P', o, out);
+    at += next_changer(Changer { drive, home }, slots, &mut out[at..]);
     at += next_memory(front(memory, o.len), memory, &mut out[at..]);
     at
 }
