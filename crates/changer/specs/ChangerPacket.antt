@@ -2,8 +2,8 @@
 use Prim.Native.Nat.{ℕ, min}
 use mathlib.Core.Path.{_≡_}
 use mathlib.Core.Bool.{Bool, not}
-use mathlib.Core.List.{List}
-use lib.ListN.{length, take}
+use mathlib.Core.List.{List, _++_}
+use lib.ListN.{length, take, drop}
 use lib.Dec.{eqb, ltb}
 use Rattle.ground.specs.Tests.{_and_, _or_, if_then_else_}
 use Rattle.ground.specs.Memory.{fill}
@@ -22,6 +22,7 @@ use Rattle.target.specs.Packet as drive
 use Rattle.changer.specs.declared.Slot.{Slot}
 use Rattle.changer.specs.declared.Changer.{Changer}
 use Rattle.changer.specs.declared.Outcome.{Outcome}
+use Rattle.changer.specs.declared.Lent.{Lent}
 use Rattle.changer.specs.Mechanism.{Mechanism, loUnlo, starts, namedSlot, loadUnload}
 use Rattle.changer.specs.Status.{statusLength, mechanismStatus}
 use Rattle.changer.specs.Changer.{outOfOrder, isInOrder}
@@ -111,3 +112,10 @@ pub record Answered (a : Reply Mechanism) (m : List ℕ) (r : Outcome) (m′ : L
   pub outcome : r ≡ outcomeOf a
   pub memory : m′ ≡ fill m (bytesOf a)
   pub slots : s′ ≡ a .deck .slots
+
+-- where the slots are the first n of s: the outcome and the memory m′ are what the answer says, of the memory m, and so are the first slots;
+-- the others stay as they were
+pub record AnsweredOn (c : Changer) (s : List Slot) (n : ℕ) (p t l m : List ℕ) (r : Lent) (m′ : List ℕ) : Type 0 where
+  pub outcome : r .outcome ≡ outcomeOf (answer c (take n s) p t l (length m))
+  pub memory : m′ ≡ fill m (bytesOf (answer c (take n s) p t l (length m)))
+  pub slots : r .slots ≡ answer c (take n s) p t l (length m) .deck .slots ++ drop n s

@@ -1,12 +1,12 @@
 -- How the code's outcomes meet an answer.
-use Prim.Native.Nat.{ℕ, _≤_, _<_}
+use Prim.Native.Nat.{ℕ, _≤_, _<_, min}
 use mathlib.Core.Path.{_≡_, refl, sym, ap, _∙_}
 use mathlib.Core.Bool.{Bool, true, false, not, false≢true}
-use mathlib.Core.List.{List}
+use mathlib.Core.List.{List, _++_}
 use native.Mathlib.Nat.{lt-of-not-le}
 use native.Mathlib.Decide.{decLe}
 use native.Mathlib.Omega.{arith}
-use lib.ListN.{length, take, length-take}
+use lib.ListN.{length, take, drop, length-take, drop-of-length-le}
 use lib.Seq.{take-all}
 use lib.Dec.{eqb, ltb}
 use borrow.Author.Tests.{eq-eqb, ne-eqb, lt-ltb, le-ltb, lt-leb, ltb-true}
@@ -39,6 +39,8 @@ use Rattle.changer.specs.declared.Slot.{Slot}
 use Rattle.changer.specs.declared.Changer.{Changer}
 use Rattle.changer.specs.declared.Moves.{Moves}
 use Rattle.changer.specs.declared.Met.{Met}
+use Rattle.changer.specs.declared.Outcome.{Outcome}
+use Rattle.changer.specs.declared.Lent.{Lent}
 use Rattle.changer.specs.declared.load.Act.{Act}
 use Rattle.changer.specs.Slot.{most}
 use Rattle.changer.specs.Mechanism.{Mechanism, loUnlo, starts, namedSlot, loadUnload}
@@ -46,7 +48,7 @@ use Rattle.changer.specs.Status.{statusLength, mechanismStatus}
 use Rattle.changer.specs.MechanismLaws.{deckOf, after, Homed, ActedOn}
 use Rattle.changer.specs.Changer.{outOfOrder, hasHome, isInOrder}
 use Rattle.changer.specs.RowLaws.{room, settled, Within, staying, within-staying, settled-still}
-use Rattle.changer.specs.ChangerPacket.{mechanismOf, isOwn, own, carried, steps, refusalOf, answer, outcomeOf, bytesOf, Answered}
+use Rattle.changer.specs.ChangerPacket.{mechanismOf, isOwn, own, carried, steps, refusalOf, answer, outcomeOf, bytesOf, Answered, AnsweredOn}
 
 -- what is handed back and the memory are what the answer says, and what becomes of the slots s makes them the answer's; where it is refused
 -- nothing becomes of them
@@ -323,3 +325,35 @@ module _ (c : Changer) (ys : List Slot) (p t l m : List ℕ) where
             memory = x .memory ∙ ap (λ (r : Reply Mechanism). fill m (bytesOf r)) a ∙ sym (ap (λ (r : Reply Mechanism). fill m (bytesOf r)) b);
             slots = e ∙ settled-still ys (d .moves) z ∙ sym (ap (λ (r : Reply Mechanism). r .deck .slots) b);
           }
+
+-- ---- the first slots of an array
+
+-- the first k are lent, and come back before the others
+pub answeredOn-first : (c : Changer) (s : List Slot) (k : ℕ) (p t l m : List ℕ) {o : Outcome} {m′ : List ℕ} {s′ : List Slot}
+    → Answered (answer c (take k s) p t l (length m)) m o m′ s′ → AnsweredOn c s k p t l m (record { slots = s′ ++ drop k s; outcome = o }) m′
+answeredOn-first c s k p t l m x =
+    record { outcome = x .outcome; memory = x .memory; slots = ap (λ (z : List Slot). z ++ drop k s) (x .slots) }
+
+-- where there are no more than b, the smaller of n and b of them are the first n
+module _ {A : Type 0} (s : List A) (n b : ℕ) (h : length s ≤ b) where
+  take-smaller : take (min n b) s ≡ take n s
+  take-smaller = elim (decLe n b) [
+    | yes w ↦ let e : min n b ≡ n = omega arith in ap (λ (k : ℕ). take k s) e
+    | no w ↦ let v = lt-of-not-le w in take-all (min n b) s (omega arith) ∙ sym (take-all n s (omega arith))
+  ]
+
+  drop-smaller : drop (min n b) s ≡ drop n s
+  drop-smaller = elim (decLe n b) [
+    | yes w ↦ let e : min n b ≡ n = omega arith in ap (λ (k : ℕ). drop k s) e
+    | no w ↦ let v = lt-of-not-le w in drop-of-length-le s {i = min n b} (omega arith) ∙ sym (drop-of-length-le s {i = n} (omega arith))
+  ]
+
+pub answeredOn-smaller : (c : Changer) (s : List Slot) (n b : ℕ) (p t l m : List ℕ) {r : Lent} {m′ : List ℕ} → length s ≤ b → AnsweredOn c s (min n b) p t l m r m′ → AnsweredOn c s n p t l m r m′
+answeredOn-smaller c s n b p t l m h x =
+    let e = take-smaller s n b h in
+    let told : List Slot → Reply Mechanism = λ z. answer c z p t l (length m) in
+    record {
+      outcome = x .outcome ∙ ap (λ (z : List Slot). outcomeOf (told z)) e;
+      memory = x .memory ∙ ap (λ (z : List Slot). fill m (bytesOf (told z))) e;
+      slots = x .slots ∙ ap (λ (z : List Slot). told z .deck .slots ++ drop (min n b) s) e ∙ ap (λ (z : List Slot). told (take n s) .deck .slots ++ z) (drop-smaller s n b h);
+    }

@@ -7,11 +7,13 @@ mod status;
 
 use crate::meet::meet;
 use drive::state::Drive;
+use ground::number::smaller;
+ghost use Prim.Native.Nat.{_≤_};
 ghost use mathlib.Core.Path.{_≡_};
 ghost use lib.ListN.{length};
 ghost use Rattle.changer.specs.RowLaws.{rowNone, rowPush, rowUpTo, Within, settled};
 ghost use Rattle.changer.specs.Changer.{emptied, powerOn, powerOnWithoutChange, movesOn};
-ghost use Rattle.changer.specs.ChangerPacket.{answer, Answered};
+ghost use Rattle.changer.specs.ChangerPacket.{answer, Answered, AnsweredOn};
 
 // A slot record: disc present, disc changed.
 pub struct Slot {
@@ -62,6 +64,12 @@ pub struct Moves {
 pub struct Met {
     pub outcome: Outcome,
     pub moves: Moves,
+}
+
+// What a packet comes to, and an array of slots after it.
+pub struct Lent {
+    pub slots: [Slot; 255],
+    pub outcome: Outcome,
 }
 
 impl Changer {
@@ -179,4 +187,41 @@ pub fn packet(
     let d = meet(row, c, p, table, list, mem);
     settle(slots, d.moves);
     d.outcome
+}
+
+// The same where the slots are the first k of an array.
+fn packet_first(
+    slots: [Slot; 255],
+    k: usize,
+    c: Changer,
+    p: &[u8],
+    table: &[u8],
+    list: &[u8],
+    mem: &mut [u8],
+) -> Lent
+    requires { ⌜ k ≤ 255 ⌝ }
+    ensures { λ r. ⌜ AnsweredOn c slots k (now (p .entry)) (now (table .entry)) (now (list .entry)) (now (mem .entry)) r (now (mem .exit)) ⌝ }
+{
+    let mut all = slots;
+    let o = packet(&mut all[..k], c, p, table, list, mem);
+    Lent {
+        slots: all,
+        outcome: o,
+    }
+}
+
+// The same where the slots are the first n of an array, or all of it: its callers hold no reference to a slot.
+pub fn packet_on(
+    slots: [Slot; 255],
+    n: usize,
+    c: Changer,
+    p: &[u8],
+    table: &[u8],
+    list: &[u8],
+    mem: &mut [u8],
+) -> Lent
+    ensures { λ r. ⌜ AnsweredOn c slots n (now (p .entry)) (now (table .entry)) (now (list .entry)) (now (mem .entry)) r (now (mem .exit)) ⌝ }
+{
+    let k = smaller(n, 255);
+    packet_first(slots, k, c, p, table, list, mem)
 }
