@@ -1,12 +1,13 @@
 //! An independent second program for the packet target of the build
-//! definition (called "01" in the comments; K1 to K10, K12 and K13 are the change
-//! requests built on it). It shares no code with the target: the two meet through files only.
+//! definition (called "01" in the comments; K1 to K13 are the change requests built
+//! on it). It shares no code with the target: the two meet through files only.
 
 pub mod address;
 pub mod adler;
 pub mod answers;
 pub mod appendix;
 pub mod cases;
+pub mod changer;
 pub mod cue;
 pub mod drive;
 pub mod events;

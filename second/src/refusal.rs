@@ -24,6 +24,9 @@ pub enum Refusal {
     BadAddress,
     /// "a session asked for is 0 or over S"
     NoSession,
+    /// K11: "no slots, more than 31, an open tray, or a drive's disc whose home is
+    /// occupied or beyond the last"
+    Changer,
     /// K12: "a length not a multiple of 8"
     SheetLength,
     /// K12: "no fit table has those tracks, controls and addresses or the entries
@@ -34,7 +37,7 @@ pub enum Refusal {
 }
 
 impl Refusal {
-    /// 1 to 8, 10 and 12 to 14: where K9 took one away, "Other numbers stay."
+    /// 1 to 8 and 10 to 14: where K9 took one away, "Other numbers stay."
     pub fn number(self) -> u8 {
         match self {
             Refusal::PacketLength => 1,
@@ -46,6 +49,7 @@ impl Refusal {
             Refusal::CannotLift => 7,
             Refusal::BadAddress => 8,
             Refusal::NoSession => 10,
+            Refusal::Changer => 11,
             Refusal::SheetLength => 12,
             Refusal::UnfitSheet => 13,
             Refusal::SmallOutput => 14,

@@ -5,6 +5,7 @@ use std::fmt::Write;
 
 use crate::address::{self, Msf};
 use crate::adler::adler32;
+use crate::changer::{self, Answer, Changer, Slot};
 use crate::cue;
 use crate::drive::State;
 use crate::limits::REPLAY_BODY;
@@ -31,13 +32,19 @@ pub const POWER_ON_WITHOUT_CHANGE: u8 = 11;
 pub const MOVE_ON: u8 = 12;
 pub const LIST: u8 = 13;
 pub const CUE_SHEET: u8 = 14;
-/// K13's; the kinds between are for requests still to come.
+pub const SLOTS: u8 = 15;
+pub const HOME: u8 = 16;
+pub const CHANGER_POWER_ON: u8 = 17;
+pub const CHANGER_POWER_ON_WITHOUT_CHANGE: u8 = 18;
+pub const CHANGER_PACKET: u8 = 19;
+pub const CHANGER_MOVE_ON: u8 = 20;
+/// K13's; the kinds between are for a request still to come.
 pub const SHELF: u8 = 24;
 
 /// Whether a record of this kind is a call, and so has a line of its own: the
 /// others set what the calls behind them meet.
 pub fn is_call(kind: u8) -> bool {
-    ![STATE, TABLE, MEMORY, LIST].contains(&kind)
+    ![STATE, TABLE, MEMORY, LIST, SLOTS, HOME].contains(&kind)
 }
 
 /// Bytes of kind 0's body: five flags, the sense, K2's play record, K4's page and
@@ -60,9 +67,11 @@ const START: State = State {
 pub struct BadRecord;
 
 /// "At the start: state all zero, no table, no memory." K4's parameter list is
-/// "empty at the start".
+/// "empty at the start"; of K11 no slots are lent then and the home is 0.
 struct Bench {
     state: State,
+    home: u8,
+    slots: Vec<Slot>,
     table: Vec<u8>,
     list: Vec<u8>,
     memory: Vec<u8>,
@@ -73,6 +82,8 @@ struct Bench {
 pub fn run(input: &[u8]) -> String {
     let mut bench = Bench {
         state: START,
+        home: 0,
+        slots: Vec::new(),
         table: Vec::new(),
         list: Vec::new(),
         memory: Vec::new(),
@@ -162,6 +173,19 @@ pub fn state_text(state: State) -> String {
     format!("{digits} {sense} {play} {mode} {}", state.event)
 }
 
+/// Kind 15's body: "a byte a slot: 80h present, 01h changed, no other bit; at most
+/// 255".
+fn slots_of(body: &[u8]) -> Result<Vec<Slot>, BadRecord> {
+    if body.len() > 255 || body.iter().any(|byte| byte & 0x7E != 0) {
+        return Err(BadRecord);
+    }
+    let slot = |byte: &u8| Slot {
+        present: byte & 0x80 != 0,
+        changed: byte & 0x01 != 0,
+    };
+    Ok(body.iter().map(slot).collect())
+}
+
 /// Kind 24's totals: 8 bytes each, high byte first, in the order of the lines.
 fn totals_of(bytes: &[u8]) -> Totals {
     let mut totals = Totals::default();
@@ -240,6 +264,20 @@ impl Bench {
                 self.line(line);
             }
             (CUE_SHEET, sheet) => self.cue_sheet(sheet),
+            (SLOTS, slots) => self.slots = slots_of(slots)?,
+            (HOME, &[home]) => self.home = home,
+            // K11: "the changer's power-on in its two forms"
+            (CHANGER_POWER_ON, []) => {
+                self.changer_moved('O', Ok(self.changer().power_on()));
+            }
+            (CHANGER_POWER_ON_WITHOUT_CHANGE, []) => {
+                self.changer_moved('Q', Ok(self.changer().power_on_without_change()));
+            }
+            (CHANGER_MOVE_ON, &[a, b, c, d]) => {
+                let k = u32::from_be_bytes([a, b, c, d]);
+                self.changer_moved('M', self.changer().move_on(k.into()));
+            }
+            (CHANGER_PACKET, packet) => self.changer_packet(packet),
             (SHELF, body) => {
                 let (totals, tables) = body.split_at_checked(SHELF_BYTES).ok_or(BadRecord)?;
                 self.shelf(totals_of(totals), tables);
@@ -283,6 +321,47 @@ impl Bench {
             Err(TooLarge) => "too large".to_string(),
         };
         self.line(format!("h {text}"));
+    }
+
+    /// K11: "State, table, list and memory are those of the other records."
+    fn changer(&self) -> Changer {
+        Changer {
+            drive: self.state,
+            home: self.home,
+        }
+    }
+
+    /// STATE, the home, a decimal, and the slots, "two hex digits a slot or `-`".
+    fn changer_text(&self) -> String {
+        let slots: Vec<u8> = self.slots.iter().map(|slot| slot.byte()).collect();
+        let state = state_text(self.state);
+        format!("{state} {} {}", self.home, hex(&slots))
+    }
+
+    /// A power-on of the changer, or the outside call on it.
+    fn changer_moved(&mut self, letter: char, result: Result<Changer, Refusal>) {
+        let number = number(result.err());
+        let next = result.unwrap_or(self.changer());
+        (self.state, self.home) = (next.drive, next.home);
+        self.line(format!("{letter} {number} {}", self.changer_text()));
+    }
+
+    fn changer_packet(&mut self, packet: &[u8]) {
+        let (changer, table, list) = (self.changer(), &self.table, &self.list);
+        let (memory, slots) = (&mut self.memory, &mut self.slots);
+        let Answer { reply, home } = changer::perform(changer, table, list, packet, memory, slots);
+        (self.state, self.home) = (reply.next, home);
+        self.line(format!(
+            "P {} {:02X} {} {} {} {} {} {:08X}",
+            number(reply.refusal),
+            reply.status,
+            reply.length,
+            reply.start,
+            reply.count,
+            self.changer_text(),
+            hex(&self.memory[..reply.length]),
+            adler32(&self.memory),
+        ));
     }
 
     fn packet(&mut self, packet: &[u8]) {

@@ -25,14 +25,16 @@ pub const SEED: u64 = 0x01C_D0D;
 /// shelves come on top.
 pub const CALLS: usize = 40_500;
 
-/// Drawn shelves come behind one scene in so many: most of those stored are picked.
+/// Drawn shelves and changers come behind one scene in so many: most of those stored are
+/// picked.
 const SHELVES: usize = 150;
+const CHANGERS: usize = 12;
 
 pub fn stored_stream() -> Stream {
     let mut stream = Stream::new();
     picked::all(&mut stream);
     let mut rng = Rng::new(SEED);
-    random::fill_with(&mut stream, &mut rng, CALLS, SHELVES);
+    random::fill_with(&mut stream, &mut rng, CALLS, SHELVES, CHANGERS);
     bad::end(&mut stream, &mut rng, SEED);
     stream
 }

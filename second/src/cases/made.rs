@@ -10,9 +10,10 @@ use crate::cases::sheet::{disc_e, two_sessions, Sheet};
 use crate::cases::shelf_files::stored_shelf;
 use crate::cases::stream::Stream;
 use crate::cases::{
-    cue_files, mmc_sheets, mode_five, picked, picked_audio, picked_cancel, picked_codes,
-    picked_cue, picked_cue_entries, picked_event, picked_fields, picked_mode, picked_power,
-    picked_shelf, picked_state, picked_tables, picked_twins, random, several, shelf_files,
+    cue_files, mmc_sheets, mode_five, picked, picked_audio, picked_cancel, picked_changer,
+    picked_changer_state, picked_changer_status, picked_codes, picked_cue, picked_cue_entries,
+    picked_event, picked_fields, picked_mode, picked_power, picked_shelf, picked_state,
+    picked_tables, picked_twins, random, several, shelf_files,
 };
 use crate::cue;
 use crate::examples;
@@ -64,7 +65,7 @@ macro_rules! named {
     };
 }
 
-const MAKERS: [(&str, Maker); 188] = [
+const MAKERS: [(&str, Maker); 228] = [
     named!(Start, picked_state::from_nothing),
     named!(Calls, picked_state::attentions),
     named!(Calls, picked_state::senses),
@@ -216,6 +217,45 @@ const MAKERS: [(&str, Maker); 188] = [
     named!(Calls, picked_shelf::too_large_in_the_middle),
     named!(Calls, picked_shelf::totals_in_order),
     named!(Calls, picked_shelf::shelf_moves_nothing),
+    named!(Calls, picked_changer::marked_changer),
+    named!(Calls, picked_changer::every_pair),
+    named!(Calls, picked_changer::every_slot),
+    named!(Calls, picked_changer::last_slots),
+    named!(Calls, picked_changer::changed_marks),
+    named!(Calls, picked_changer::moves_in_turn),
+    named!(Calls, picked_changer::unloads),
+    named!(Calls, picked_changer::locked_moves),
+    named!(Calls, picked_changer::moves_while_pending),
+    named!(Calls, picked_changer::moves_and_senses),
+    named!(Calls, picked_changer::move_events),
+    named!(Calls, picked_changer::move_records),
+    named!(Calls, picked_changer::played_and_moved),
+    named!(Calls, picked_changer::tables_in_turn),
+    named!(Calls, picked_changer::move_bits),
+    named!(Calls, picked_changer::all_in_turn),
+    named!(Calls, picked_changer_status::status_lengths),
+    named!(Calls, picked_changer_status::status_counts),
+    named!(Calls, picked_changer_status::status_homes),
+    named!(Calls, picked_changer_status::status_slots),
+    named!(Calls, picked_changer_status::status_moves_nothing),
+    named!(Calls, picked_changer_status::status_told_first),
+    named!(Calls, picked_changer_status::status_bits),
+    named!(Calls, picked_changer_state::nothing_lent),
+    named!(Calls, picked_changer_state::slot_counts),
+    named!(Calls, picked_changer_state::every_home),
+    named!(Calls, picked_changer_state::occupied_homes),
+    named!(Calls, picked_changer_state::open_trays),
+    named!(Calls, picked_changer_state::causes_together),
+    named!(Calls, picked_changer_state::tests_in_order),
+    named!(Calls, picked_changer_state::eleven_in_place),
+    named!(Calls, picked_changer_state::tables_looked_at),
+    named!(Calls, picked_changer_state::devices_alike),
+    named!(Calls, picked_changer_state::every_code),
+    named!(Calls, picked_changer_state::no_tray_calls),
+    named!(Calls, picked_changer_state::changer_power_ons),
+    named!(Calls, picked_changer_state::outside_calls),
+    named!(Calls, picked_changer_state::unknown_on_the_first),
+    named!(Calls, picked_changer_state::devices_in_turn),
     named!(random::fill, Calls(drawn)),
     named!(
         random::trace_scene,
@@ -252,6 +292,10 @@ const MAKERS: [(&str, Maker); 188] = [
     named!(
         random::shelf_scene,
         Calls(|stream| scenes(stream, random::shelf_scene))
+    ),
+    named!(
+        random::changer_scene,
+        Calls(|stream| scenes(stream, random::changer_scene))
     ),
     named!(
         random::broken_scene,

@@ -134,6 +134,28 @@ pub fn event_status(classes: u8, length: u16) -> Packet {
     p
 }
 
+/// LOAD/UNLOAD of this pair of LoUnlo and Start, and of this slot (K11).
+pub fn load_unload(low_bits: u8, slot: u8) -> Packet {
+    let mut p = with_byte_4(0xA6, low_bits);
+    p[8] = slot;
+    p
+}
+
+pub fn load(slot: u8) -> Packet {
+    load_unload(3, slot)
+}
+
+pub fn unload() -> Packet {
+    load_unload(2, 0)
+}
+
+/// MECHANISM STATUS of this length (K11).
+pub fn mechanism_status(length: u16) -> Packet {
+    let mut p = plain(0xBD);
+    p[8..10].copy_from_slice(&length.to_be_bytes());
+    p
+}
+
 /// The codes the board answers, K2's three, K4's two and K7's one last.
 pub const CODES: [u8; 16] = [
     0x00, 0x03, 0x12, 0x1B, 0x1E, 0x25, 0x28, 0x2B, 0x43, 0xA8, 0x45, 0x4B, 0x42, 0x5A, 0x55, 0x4A,
@@ -214,6 +236,11 @@ pub fn named_bits(code: u8) -> Packet {
             bits[6..9].fill(0xFF);
         }
         0xA8 => bits[2..10].fill(0xFF),
+        0xA6 => {
+            bits[4] = 0x03;
+            bits[8] = 0xFF;
+        }
+        0xBD => bits[8..10].fill(0xFF),
         _ => {}
     }
     bits

@@ -2,9 +2,10 @@
 
 use crate::cases::stream::Stream;
 use crate::cases::{
-    mmc_sheets, picked_audio, picked_cancel, picked_codes, picked_cue, picked_cue_entries,
-    picked_event, picked_fields, picked_mode, picked_power, picked_shelf, picked_state,
-    picked_tables, picked_twins,
+    mmc_sheets, picked_audio, picked_cancel, picked_changer, picked_changer_state,
+    picked_changer_status, picked_codes, picked_cue, picked_cue_entries, picked_event,
+    picked_fields, picked_mode, picked_power, picked_shelf, picked_state, picked_tables,
+    picked_twins,
 };
 
 /// Every hand-picked case, from the very start of a run.
@@ -160,6 +161,45 @@ pub fn all(stream: &mut Stream) {
     picked_shelf::too_large_in_the_middle(stream);
     picked_shelf::totals_in_order(stream);
     picked_shelf::shelf_moves_nothing(stream);
+    picked_changer::marked_changer(stream);
+    picked_changer::every_pair(stream);
+    picked_changer::every_slot(stream);
+    picked_changer::last_slots(stream);
+    picked_changer::changed_marks(stream);
+    picked_changer::moves_in_turn(stream);
+    picked_changer::unloads(stream);
+    picked_changer::locked_moves(stream);
+    picked_changer::moves_while_pending(stream);
+    picked_changer::moves_and_senses(stream);
+    picked_changer::move_events(stream);
+    picked_changer::move_records(stream);
+    picked_changer::played_and_moved(stream);
+    picked_changer::tables_in_turn(stream);
+    picked_changer::move_bits(stream);
+    picked_changer::all_in_turn(stream);
+    picked_changer_status::status_lengths(stream);
+    picked_changer_status::status_counts(stream);
+    picked_changer_status::status_homes(stream);
+    picked_changer_status::status_slots(stream);
+    picked_changer_status::status_moves_nothing(stream);
+    picked_changer_status::status_told_first(stream);
+    picked_changer_status::status_bits(stream);
+    picked_changer_state::nothing_lent(stream);
+    picked_changer_state::slot_counts(stream);
+    picked_changer_state::every_home(stream);
+    picked_changer_state::occupied_homes(stream);
+    picked_changer_state::open_trays(stream);
+    picked_changer_state::causes_together(stream);
+    picked_changer_state::tests_in_order(stream);
+    picked_changer_state::eleven_in_place(stream);
+    picked_changer_state::tables_looked_at(stream);
+    picked_changer_state::devices_alike(stream);
+    picked_changer_state::every_code(stream);
+    picked_changer_state::no_tray_calls(stream);
+    picked_changer_state::changer_power_ons(stream);
+    picked_changer_state::outside_calls(stream);
+    picked_changer_state::unknown_on_the_first(stream);
+    picked_changer_state::devices_in_turn(stream);
 }
 
 /// Kinds 8 and 9 at all boundaries.

@@ -4,9 +4,11 @@ use crate::address::to_msf;
 use crate::cases::cue_sheet::any_sheet;
 use crate::cases::packets::{
     any_audio, any_event_status, any_list, any_mode, any_packet, capacity, event_status,
-    mode_select, mode_sense, one_of_each, pause, play, position, prevent, read12, request_sense,
-    resume, seek, start_stop, test_ready, toc, with_junk, Marks, Packet, EJECT, LOAD,
+    load_unload, mechanism_status, mode_select, mode_sense, one_of_each, pause, play, position,
+    prevent, read12, request_sense, resume, seek, start_stop, test_ready, toc, with_junk, Marks,
+    Packet, EJECT, LOAD,
 };
+use crate::cases::picked_changer_state::CHANGER_FORMS;
 use crate::cases::picked_power::FORMS;
 use crate::cases::picked_state::{strangers, MEMORY};
 use crate::cases::sheet::{any_fit, fit, longest, small_fit, Sheet};
@@ -14,6 +16,7 @@ use crate::cases::shelf_stream::{any_shelf, any_totals};
 use crate::cases::spoil::{any_broken, spoil};
 use crate::cases::stream::Stream;
 use crate::cases::twin_tables::{is_format_2, one_session, twin_of};
+use crate::changer::Slot;
 use crate::cue;
 use crate::drive::State;
 use crate::events::NO_EVENT;
@@ -24,24 +27,37 @@ use crate::rng::Rng;
 use crate::sense::{self, Sense, TRIPLES};
 use crate::table::{self, Mode};
 
-/// Adds scenes until the stream has at least this many calls, not counting cue sheets and
-/// shelves. Those (K12, K13) are drawn apart and come on top: the other scenes are what they
-/// would be without them.
+/// Adds scenes until the stream has at least this many calls, not counting cue sheets,
+/// shelves and the changer's scenes. Those (K12, K13, K11) are drawn apart and come on top:
+/// the other scenes are what they would be without them.
 pub fn fill(stream: &mut Stream, rng: &mut Rng, calls: usize) {
-    fill_with(stream, rng, calls, 16);
+    fill_with(stream, rng, calls, 16, 8);
 }
 
-/// The same, with shelves behind one scene in so many.
-pub fn fill_with(stream: &mut Stream, rng: &mut Rng, calls: usize, shelves: usize) {
+/// The same, with shelves and a changer behind one scene in so many.
+pub fn fill_with(
+    stream: &mut Stream,
+    rng: &mut Rng,
+    calls: usize,
+    shelves: usize,
+    changers: usize,
+) {
     let mut apart = Rng::new(rng.clone().word());
     let mut farther = Rng::new(apart.clone().word());
-    while stream.calls - stream.sheets - stream.shelves < calls {
+    let mut farthest = Rng::new(farther.clone().word());
+    let mut beside = 0;
+    while stream.calls - stream.sheets - stream.shelves - beside < calls {
         scene(stream, rng);
         if apart.one_in(16) {
             sheet_scene(stream, &mut apart);
         }
         if farther.one_in(shelves) {
             shelf_scene(stream, &mut farther);
+        }
+        if farthest.one_in(changers) {
+            let before = stream.calls;
+            changer_scene(stream, &mut farthest);
+            beside += stream.calls - before;
         }
     }
 }
@@ -808,6 +824,206 @@ pub fn shelf_scene(stream: &mut Stream, rng: &mut Rng) {
         let totals = any_totals(rng, &tables);
         stream.shelf(totals, &tables);
     }
+}
+
+/// A changer (K11): loads and unloads of every pair and slot, the status, what is the
+/// first device's on both devices, other discs' tables between, the lock, power-ons,
+/// outside calls, and now and then slots, a home or a tray that 11 refuses.
+pub fn changer_scene(stream: &mut Stream, rng: &mut Rng) {
+    let mut marks = lend(stream, &with_audio(rng));
+    lend_memory(stream, rng);
+    let mut count = stage(stream, rng, &marks);
+    for _ in 0..rng.range(20, 50) {
+        match rng.below(40) {
+            0..=9 => move_and_tell(stream, rng, count),
+            10..=12 => stream.changer_packet(&any_move(rng, count)),
+            13..=16 => stream.changer_packet(&any_status(rng, count)),
+            17 => stream.changer_packet(&start_stop(rng.pick(&[0, 1, EJECT, LOAD]))),
+            18..=20 => stream.changer_packet(&any_audio(rng, &marks)),
+            21 => stream.changer_packet(&any_event_status(rng)),
+            22 => stream.changer_packet(&rng.pick(&one_of_each())),
+            23..=26 => stream.changer_packet(&any_packet(rng, &marks)),
+            27 | 28 => stream.changer_move_on(any_step(rng)),
+            29 => rng.pick(&CHANGER_FORMS)(stream),
+            30 => locked_move(stream, rng, count),
+            31 => marks = lend(stream, &with_audio(rng)),
+            32 => unfit_between(stream, rng, &mut marks, count),
+            33 => tray_between(stream, rng, count),
+            34 => on_the_first(stream, rng, &marks),
+            35 => refused_between(stream, rng, &marks, count),
+            _ => count = stage(stream, rng, &marks),
+        }
+    }
+    lend_memory(stream, rng);
+}
+
+/// Slots, a drive and its disc's home set outright; their number. One in six has something
+/// that 11 refuses, one in twelve a state that 2 does.
+fn stage(stream: &mut Stream, rng: &mut Rng, marks: &Marks) -> usize {
+    let few = rng.range(1, 8);
+    let count = rng.pick(&[1, 2, 3, few, few, few, few, 30, 31, 31]);
+    let mut slots: Vec<Slot> = (0..count).map(|_| any_slot(rng)).collect();
+    let mut home = rng.below(count);
+    slots[home].present = false;
+    let mut drive = State {
+        tray_open: false,
+        disc_in: rng.below(3) > 0,
+        ..loaded_state(rng, marks)
+    };
+    match rng.below(24) {
+        0 => slots[home].present = true,
+        1 => home = rng.pick(&[count, count + 1, 31, 32, 127, 128, 255]),
+        2 => drive.tray_open = true,
+        3 => slots.resize(rng.pick(&[0, 32, 33, 40, 255]), Slot::default()),
+        4 | 5 => drive = any_state(rng, marks),
+        _ => {}
+    }
+    stream.slots(&slots);
+    stream.home(home as u8);
+    stream.state(drive);
+    slots.len()
+}
+
+/// Two in three with a disc, one in three changed.
+fn any_slot(rng: &mut Rng) -> Slot {
+    Slot {
+        present: rng.below(3) > 0,
+        changed: rng.one_in(3),
+    }
+}
+
+/// A slot of so many, or one beyond the last.
+fn any_slot_byte(rng: &mut Rng, count: usize) -> u8 {
+    let within = rng.below(count.max(1)) as u8;
+    let beyond = rng.pick(&[count as u8, count as u8 + 1, 31, 32, 255]);
+    let any = rng.byte();
+    rng.pick(&[within, within, within, within, within, within, beyond, any])
+}
+
+/// A6h of any pair, Load most often, with anything in what no rule names now and then.
+fn any_move(rng: &mut Rng, count: usize) -> Packet {
+    let low_bits = rng.pick(&[3, 3, 3, 3, 3, 2, 2, 1, 0]);
+    let packet = load_unload(low_bits, any_slot_byte(rng, count));
+    match rng.one_in(4) {
+        true => with_junk(rng, packet),
+        false => packet,
+    }
+}
+
+/// A move, and most often what it leaves to be told is told at once, by one packet or the
+/// other; 4Ah tells the event.
+fn move_and_tell(stream: &mut Stream, rng: &mut Rng, count: usize) {
+    let low_bits = rng.pick(&[3, 3, 2]);
+    let slot = rng.below(count.max(1)) as u8;
+    stream.changer_packet(&load_unload(low_bits, slot));
+    match rng.below(6) {
+        0 => {}
+        1 => stream.changer_packet(&request_sense(18)),
+        2 => stream.packet(&test_ready()),
+        3 => {
+            stream.changer_packet(&event_status(0x18, 8));
+            stream.changer_packet(&test_ready());
+        }
+        _ => stream.changer_packet(&test_ready()),
+    }
+}
+
+/// BDh of any length, near the header's end and each slot's.
+fn any_status(rng: &mut Rng, count: usize) -> Packet {
+    let whole = 8 + 4 * count as u16;
+    let inside = rng.below(usize::from(whole) + 4) as u16;
+    let length = rng.pick(&[
+        0,
+        1,
+        6,
+        7,
+        8,
+        9,
+        inside,
+        inside,
+        inside,
+        whole - 1,
+        whole,
+        whole,
+        whole,
+        whole + 1,
+        0x0100,
+        0xFFFF,
+    ]);
+    let packet = mechanism_status(length);
+    match rng.one_in(4) {
+        true => with_junk(rng, packet),
+        false => packet,
+    }
+}
+
+/// Under lock: a move or two, and most often the lock taken off.
+fn locked_move(stream: &mut Stream, rng: &mut Rng, count: usize) {
+    for _ in 0..rng.range(1, 2) {
+        stream.changer_packet(&prevent(1));
+    }
+    for _ in 0..rng.range(1, 2) {
+        stream.changer_packet(&any_move(rng, count));
+    }
+    if rng.below(4) > 0 {
+        stream.changer_packet(&prevent(0));
+        stream.changer_packet(&prevent(0));
+    }
+}
+
+/// A broken table lent for a few packets.
+fn unfit_between(stream: &mut Stream, rng: &mut Rng, marks: &mut Marks, count: usize) {
+    stream.table(&any_broken(rng));
+    for _ in 0..rng.range(1, 4) {
+        stream.changer_packet(&match rng.below(4) {
+            0 => any_status(rng, count),
+            1 => any_packet(rng, marks),
+            _ => any_move(rng, count),
+        });
+    }
+    *marks = lend(stream, &with_audio(rng));
+}
+
+/// The first device's tray opened, the changer asked, and closed again, with the disc that
+/// was in it, without it or with another.
+fn tray_between(stream: &mut Stream, rng: &mut Rng, count: usize) {
+    stream.button();
+    stream.changer_packet(&any_move(rng, count));
+    if rng.one_in(2) {
+        stream.changer_packet(&rng.pick(&one_of_each()));
+    }
+    match rng.below(4) {
+        0 => stream.lift(),
+        1 => stream.lay(),
+        _ => {}
+    }
+    stream.button();
+    for _ in 0..rng.below(3) {
+        stream.changer_packet(&test_ready());
+    }
+}
+
+/// A call on the first device, which shares the state.
+fn on_the_first(stream: &mut Stream, rng: &mut Rng, marks: &Marks) {
+    match rng.below(6) {
+        0 => any_power_on(stream, rng),
+        1 => stream.move_on(any_step(rng)),
+        2 => stream.packet(&load_unload(3, rng.byte() % 4)),
+        3 => stream.packet(&mechanism_status(16)),
+        _ => stream.packet(&any_packet(rng, marks)),
+    }
+}
+
+/// A packet of another length, or a short memory, for a call or two.
+fn refused_between(stream: &mut Stream, rng: &mut Rng, marks: &Marks, count: usize) {
+    let length = rng.pick(&[0, 11, 11, 13]);
+    let mut packet = any_move(rng, count).to_vec();
+    packet.resize(length, 0);
+    stream.changer_packet(&packet);
+    stream.memory(rng.pick(&[0, MEMORY - 1, MEMORY - 1]), rng.byte());
+    stream.changer_packet(&any_move(rng, count));
+    stream.changer_packet(&any_packet(rng, marks));
+    lend_memory(stream, rng);
 }
 
 /// A small fit table with an audio track, but for a few.

@@ -1,5 +1,6 @@
 //! Writes replay records and counts the calls among them.
 
+use crate::changer::Slot;
 use crate::drive::State;
 use crate::replay;
 use crate::shelf::Totals;
@@ -119,6 +120,39 @@ impl Stream {
     /// K12's cue sheet.
     pub fn cue_sheet(&mut self, sheet: &[u8]) {
         self.record(replay::CUE_SHEET, sheet);
+    }
+
+    /// K11's slots, lent from now on.
+    pub fn slots(&mut self, slots: &[Slot]) {
+        let bytes: Vec<u8> = slots.iter().map(|slot| slot.byte()).collect();
+        self.record(replay::SLOTS, &bytes);
+    }
+
+    /// The home slot of the disc in the drive.
+    pub fn home(&mut self, home: u8) {
+        self.record(replay::HOME, &[home]);
+    }
+
+    pub fn changer_power_on(&mut self) {
+        self.record(replay::CHANGER_POWER_ON, &[]);
+    }
+
+    pub fn changer_power_on_without_change(&mut self) {
+        self.record(replay::CHANGER_POWER_ON_WITHOUT_CHANGE, &[]);
+    }
+
+    pub fn changer_packet(&mut self, packet: &[u8]) {
+        self.record(replay::CHANGER_PACKET, packet);
+    }
+
+    /// A packet to the changer, its drive set just before it.
+    pub fn changer_packet_from(&mut self, drive: State, packet: &[u8]) {
+        self.state(drive);
+        self.changer_packet(packet);
+    }
+
+    pub fn changer_move_on(&mut self, k: u32) {
+        self.record(replay::CHANGER_MOVE_ON, &k.to_be_bytes());
     }
 
     /// K13's tables, counted on top of these totals.
