@@ -21,20 +21,21 @@ use crate::rng::Rng;
 /// The seed of everything stored; 5 modulo 8 ends the stream with a bad flag.
 pub const SEED: u64 = 0x01C_D0D;
 
-/// Calls in the stored stream, the picked ones among them; K12's cue sheets and K13's
-/// shelves come on top.
-pub const CALLS: usize = 40_500;
+/// Calls drawn for the stored stream behind the picked ones; K12's cue sheets, K13's
+/// shelves and K11's scenes come on top.
+pub const DRAWN: usize = 600;
 
 /// Drawn shelves and changers come behind one scene in so many: most of those stored are
 /// picked.
 const SHELVES: usize = 150;
-const CHANGERS: usize = 12;
+const CHANGERS: usize = 6;
 
 pub fn stored_stream() -> Stream {
     let mut stream = Stream::new();
     picked::all(&mut stream);
     let mut rng = Rng::new(SEED);
-    random::fill_with(&mut stream, &mut rng, CALLS, SHELVES, CHANGERS);
+    let picked = stream.calls - stream.sheets - stream.shelves;
+    random::fill_with(&mut stream, &mut rng, picked + DRAWN, SHELVES, CHANGERS);
     bad::end(&mut stream, &mut rng, SEED);
     stream
 }

@@ -3,13 +3,15 @@
 //! plays, 42h and outside calls, by status (K2), how many 5Ah, by page control,
 //! and 55h, by outcome (K4), how many 4Ah, by class and by outcome, and presses
 //! under lock (K7), how many pairs of calls that may cancel (K8), how many calls are met
-//! by twin tables, by command (K10), how many cue sheets, by outcome (K12), and what its
-//! shelves hold (K13).
+//! by twin tables, by command (K10), how many cue sheets, by outcome (K12), what its shelves
+//! hold (K13), and what the changer is asked for, by outcome (K11).
 
 use std::fmt::Write;
 
 use crate::cases::twin_tables::{are_twins, is_format_2};
+use crate::changer::{obstacle, Changer, Obstacle, Slot, LOAD_UNLOAD, MECHANISM_STATUS};
 use crate::cue;
+use crate::drive::State;
 use crate::events::{is_event, EXTERNAL, MEDIA, NO_EVENT};
 use crate::mode_page::{PAGE, SETTINGS};
 use crate::play::STATUSES;
@@ -40,7 +42,7 @@ pub fn of(stream: &[u8]) -> [Met; 7] {
         if let Some((letter, rule)) = lines.next().and_then(refused_by_4) {
             let met = &mut tally[rule - 1];
             met.tables += usize::from(fresh);
-            met.packets += usize::from(letter == "p");
+            met.packets += usize::from(letter.eq_ignore_ascii_case("p"));
             met.parts += usize::from(letter == "s");
             fresh = false;
         }
@@ -200,10 +202,16 @@ pub fn modes(stream: &[u8]) -> Modes {
     modes
 }
 
+/// Whether a record is a packet to either device: the state stands behind four words of
+/// its line.
+fn is_packet(kind: u8) -> bool {
+    [replay::PACKET, replay::CHANGER_PACKET].contains(&kind)
+}
+
 /// Whether the recovery byte in a line is one of the twenty: it stands behind the
 /// play record, which has three words.
 fn has_a_setting(words: &[&str], kind: u8) -> bool {
-    let place = if kind == replay::PACKET { 13 } else { 9 };
+    let place = if is_packet(kind) { 13 } else { 9 };
     let named = |setting: &u8| format!("{setting:02X}") == words[place];
     SETTINGS.iter().any(named)
 }
@@ -280,7 +288,7 @@ pub fn events(stream: &[u8]) -> Events {
 
 /// The event in a line, the last word of the state.
 fn event_in(words: &[&str], kind: u8) -> Option<u8> {
-    let place = if kind == replay::PACKET { DATA - 1 } else { 11 };
+    let place = if is_packet(kind) { DATA - 1 } else { 11 };
     words.get(place)?.parse().ok()
 }
 
@@ -374,11 +382,11 @@ pub fn pairs(stream: &[u8]) -> Pairs {
     pairs
 }
 
-/// The flags in the line of a call on the drive.
+/// The flags in the line of a call on the drive, or on the changer, which shares it.
 fn state_in<'a>(words: &[&'a str]) -> Option<&'a str> {
     match words[0] {
-        "o" | "q" | "b" | "d" | "u" | "m" => Some(words[2]),
-        "p" => Some(words[6]),
+        "o" | "q" | "b" | "d" | "u" | "m" | "O" | "Q" | "M" => Some(words[2]),
+        "p" | "P" => Some(words[6]),
         _ => None,
     }
 }
@@ -648,10 +656,179 @@ impl Shelves {
     }
 }
 
+/// What a stream has of K11.
+#[derive(Clone, Copy, Debug, Default, PartialEq, Eq)]
+pub struct Changes {
+    /// Loads that take a disc, and those from an empty slot.
+    pub taken: usize,
+    pub from_empty: usize,
+    /// Of both, those of the home slot of the drive's disc, and all that return one first.
+    pub of_the_home: usize,
+    pub returned_first: usize,
+    /// Unloads with a disc in the drive, and without.
+    pub unloads: [usize; 2],
+    /// A6h that fail by their pair, by their slot and by the lock.
+    pub pairs: usize,
+    pub slots: usize,
+    pub locks: usize,
+    /// BDh that come whole, and those that are cut.
+    pub whole: usize,
+    pub cut: usize,
+    /// 1Bh with LoEj 1.
+    pub trays: usize,
+    /// Those three, told an attention.
+    pub told: usize,
+    /// All other packets that are not refused.
+    pub others: usize,
+    /// Packets that 1 to 4 refuse, and those that 11 does, by its cause: no slots, over 31,
+    /// an open tray, an occupied home, none such.
+    pub refused: usize,
+    pub obstacles: [usize; 5],
+    /// Power-ons of each form, and outside calls, refused ones apart.
+    pub power_ons: [usize; 2],
+    pub moves: usize,
+    pub refused_moves: usize,
+}
+
+/// The changer as the next call on it finds it, read off records and lines.
+struct Found {
+    changer: Changer,
+    slots: Vec<Slot>,
+}
+
+impl Found {
+    /// Tray, disc and lock by their digits, the home and the slots by what is printed.
+    fn see(&mut self, flags: &str) {
+        let on = |place: usize| flags.as_bytes()[place] == b'1';
+        let drive = &mut self.changer.drive;
+        (drive.tray_open, drive.disc_in, drive.lock) = (on(0), on(1), on(2));
+    }
+
+    fn see_slots(&mut self, home: &str, digits: &str) {
+        self.changer.home = home.parse().unwrap_or(0);
+        let count = digits.trim_start_matches('-').len() / 2;
+        let byte = |place| byte_at(digits, place).unwrap_or(0);
+        self.slots = (0..count).map(|place| slot_of(byte(place))).collect();
+    }
+}
+
+fn slot_of(byte: u8) -> Slot {
+    Slot {
+        present: byte & 0x80 != 0,
+        changed: byte & 0x01 != 0,
+    }
+}
+
+/// Each call by what it found: kinds 0, 15 and 16 set it, and the lines show what is left.
+pub fn changes(stream: &[u8]) -> Changes {
+    let lines = replay::run(stream);
+    let mut lines = lines.lines();
+    let (mut rest, mut changes) = (stream, Changes::default());
+    let mut found = Found {
+        changer: Changer {
+            drive: State::EMPTY,
+            home: 0,
+        },
+        slots: Vec::new(),
+    };
+    while let Ok((kind, body, after)) = take_record(rest) {
+        rest = after;
+        match (kind, body) {
+            (replay::STATE, [tray, disc, lock, ..]) => found.see(&format!("{tray}{disc}{lock}")),
+            (replay::SLOTS, bytes) => found.slots = bytes.iter().map(|&one| slot_of(one)).collect(),
+            (replay::HOME, &[home]) => found.changer.home = home,
+            _ => {}
+        }
+        if !replay::is_call(kind) {
+            continue;
+        }
+        let Some(line) = lines.next().filter(|&line| line != "bad record") else {
+            break;
+        };
+        let words: Vec<&str> = line.split(' ').collect();
+        changes.count(kind, body, &words, &found);
+        if let Some(flags) = state_in(&words) {
+            found.see(flags);
+        }
+        match words[0] {
+            "O" | "Q" | "M" => found.see_slots(words[12], words[13]),
+            "P" => found.see_slots(words[DATA], words[DATA + 1]),
+            _ => {}
+        }
+    }
+    changes
+}
+
+impl Changes {
+    fn count(&mut self, kind: u8, body: &[u8], words: &[&str], found: &Found) {
+        match (kind, words[1]) {
+            (replay::CHANGER_POWER_ON, _) => self.power_ons[0] += 1,
+            (replay::CHANGER_POWER_ON_WITHOUT_CHANGE, _) => self.power_ons[1] += 1,
+            (replay::CHANGER_MOVE_ON, "0") => self.moves += 1,
+            (replay::CHANGER_MOVE_ON, _) => self.refused_moves += 1,
+            (replay::CHANGER_PACKET, "0") => self.count_packet(body, words, found),
+            (replay::CHANGER_PACKET, "11") => {
+                if let Some(why) = obstacle(found.changer, &found.slots) {
+                    self.obstacles[place_of(why)] += 1;
+                }
+            }
+            (replay::CHANGER_PACKET, _) => self.refused += 1,
+            _ => {}
+        }
+    }
+
+    /// A packet that is not refused: by its code, its outcome and what it found.
+    fn count_packet(&mut self, p: &[u8], words: &[&str], found: &Found) {
+        let good = words[2] == "00";
+        let told = !good && words[7] == "06";
+        let tray = p[0] == 0x1B && p[4] & 2 != 0;
+        match p[0] {
+            LOAD_UNLOAD | MECHANISM_STATUS | 0x1B if told && (tray || p[0] != 0x1B) => {
+                self.told += 1;
+            }
+            LOAD_UNLOAD if good && p[4] & 1 == 0 => {
+                self.unloads[usize::from(!found.changer.drive.disc_in)] += 1;
+            }
+            LOAD_UNLOAD if good => self.count_load(p[8], words, found),
+            LOAD_UNLOAD if p[4] & 2 == 0 => self.pairs += 1,
+            LOAD_UNLOAD if usize::from(p[8]) >= found.slots.len() => self.slots += 1,
+            LOAD_UNLOAD => self.locks += 1,
+            MECHANISM_STATUS if words[3] == (8 + 4 * found.slots.len()).to_string() => {
+                self.whole += 1;
+            }
+            MECHANISM_STATUS => self.cut += 1,
+            _ if tray => self.trays += 1,
+            _ => self.others += 1,
+        }
+    }
+
+    /// A GOOD Load of this slot.
+    fn count_load(&mut self, slot: u8, words: &[&str], found: &Found) {
+        let takes = words[6][1..].starts_with('1');
+        self.taken += usize::from(takes);
+        self.from_empty += usize::from(!takes);
+        if found.changer.drive.disc_in {
+            self.returned_first += 1;
+            self.of_the_home += usize::from(slot == found.changer.home);
+        }
+    }
+}
+
+/// Where a cause of 11 stands in `obstacles`.
+fn place_of(why: Obstacle) -> usize {
+    match why {
+        Obstacle::NoSlots => 0,
+        Obstacle::TooManySlots => 1,
+        Obstacle::OpenTray => 2,
+        Obstacle::HomeTaken => 3,
+        Obstacle::NoSuchHome => 4,
+    }
+}
+
 /// A header and a line for each rule, then one and a line for each form, then
 /// K2's: plays and pauses, then a line for each status; then K4's two packets and
 /// K7's one, with the presses under lock; then K8's pairs and K10's twins; then K12's
-/// sheets; last K13's shelves.
+/// sheets; then K13's shelves; last K11's changer.
 pub fn print(stream: &[u8]) -> String {
     let mut out = "rule tables packets parts\n".to_string();
     for (met, rule) in of(stream).iter().zip(1..) {
@@ -680,6 +857,7 @@ pub fn print(stream: &[u8]) -> String {
     print_twins(&mut out, &twins(stream));
     print_sheets(&mut out, &sheets(stream));
     print_shelves(&mut out, &shelves(stream));
+    print_changes(&mut out, &changes(stream));
     out
 }
 
@@ -814,4 +992,39 @@ fn print_shelves(out: &mut String, shelves: &Shelves) {
     let unfit = unfit.map(|count| count.to_string()).join(" ");
     let line = format!("shelves {streams} {tables} {fit} {unfit} {cut_off} {over} {too_large}\n");
     out.push_str(&line);
+}
+
+fn print_changes(out: &mut String, changes: &Changes) {
+    let Changes {
+        taken,
+        from_empty,
+        of_the_home,
+        returned_first,
+        unloads: [with_disc, without],
+        pairs,
+        slots,
+        locks,
+        whole,
+        cut,
+        trays,
+        told,
+        others,
+        refused,
+        obstacles,
+        power_ons: [default, second],
+        moves,
+        refused_moves,
+    } = changes;
+    out.push_str("A6h taken from-empty of-the-home returned-first unload unload-empty\n");
+    let loads = format!("{taken} {from_empty} {of_the_home} {returned_first}");
+    out.push_str(&format!("A6h {loads} {with_disc} {without}\n"));
+    out.push_str("A6h-fault pair slot lock\n");
+    out.push_str(&format!("A6h-fault {pairs} {slots} {locks}\n"));
+    out.push_str("changer BDh-whole BDh-cut 1Bh-LoEj told other 1-to-4 O Q M M-2\n");
+    let packets = format!("{whole} {cut} {trays} {told} {others} {refused}");
+    let calls = format!("{default} {second} {moves} {refused_moves}");
+    out.push_str(&format!("changer {packets} {calls}\n"));
+    out.push_str("eleven no-slots over-31 open-tray home-occupied home-beyond\n");
+    let causes = obstacles.map(|count| count.to_string()).join(" ");
+    out.push_str(&format!("eleven {causes}\n"));
 }

@@ -822,7 +822,7 @@ n st key asc ascq len data start count
 fn streams_have_audio() {
     for stream in [stored::stored_stream(), random_stream(56, 17_000)] {
         let audio = tally::audio(&stream.bytes);
-        assert!(audio.plays > 300 && audio.failed > 300, "{audio:?}");
+        assert!(audio.plays > 250 && audio.failed > 300, "{audio:?}");
         assert!(
             audio.pauses > 100 && audio.refused_pauses > 100,
             "{audio:?}"

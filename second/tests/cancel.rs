@@ -917,8 +917,8 @@ fn text_of(body: &[u8]) -> String {
 fn state_in(line: &str) -> Option<String> {
     let words: Vec<&str> = line.split(' ').collect();
     let from = match words[0] {
-        "o" | "q" | "b" | "d" | "u" | "m" => 2,
-        "p" => 6,
+        "o" | "q" | "b" | "d" | "u" | "m" | "O" | "Q" | "M" => 2,
+        "p" | "P" => 6,
         _ => return None,
     };
     Some(words[from..from + 10].join(" "))

@@ -801,8 +801,8 @@ fn state_of(body: &[u8]) -> [u8; 3] {
 fn state_in(line: &str) -> Option<[u8; 3]> {
     let words: Vec<&str> = line.split(' ').collect();
     let from = match words[0] {
-        "o" | "q" | "b" | "d" | "u" | "m" => 2,
-        "p" => 6,
+        "o" | "q" | "b" | "d" | "u" | "m" | "O" | "Q" | "M" => 2,
+        "p" | "P" => 6,
         _ => return None,
     };
     let digits = words[from].as_bytes();

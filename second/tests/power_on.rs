@@ -296,8 +296,8 @@ fn streams_have_both_forms() {
 fn state_in(line: &str) -> Option<Vec<u8>> {
     let words: Vec<&str> = line.split(' ').collect();
     let from = match words[0] {
-        "o" | "q" | "b" | "d" | "u" | "m" => 2,
-        "p" => 6,
+        "o" | "q" | "b" | "d" | "u" | "m" | "O" | "Q" | "M" => 2,
+        "p" | "P" => 6,
         _ => return None,
     };
     let mut state: Vec<u8> = words[from].bytes().map(|digit| digit - b'0').collect();
@@ -344,6 +344,8 @@ fn told_apart(stream: &[u8]) -> (usize, usize) {
         rest = after;
         if let Some(place) = SET.iter().position(|&one| one == kind) {
             set[place] = body.to_vec();
+        }
+        if !replay::is_call(kind) {
             continue;
         }
         if kind == replay::POWER_ON_WITHOUT_CHANGE && set[0][..2] == [0, 1] {

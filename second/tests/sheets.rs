@@ -1235,7 +1235,7 @@ fn nothing_else_moves() {
     let bare = |line: &str| {
         // A packet's data and sum, and every line without one, but for the sum.
         let words: Vec<&str> = line.split(' ').collect();
-        let end = words.len() - usize::from(words[0] == "p");
+        let end = words.len() - usize::from(["p", "P"].contains(&words[0]));
         words[..end].join(" ")
     };
     for seed in [8, 16] {
@@ -1509,7 +1509,7 @@ fn streams_have_sheets() {
         assert!(lengths > 20 && memories > 10 && undescribed > 100 && unfit > 40);
     }
     let stored = tally::sheets(&stored::stored_stream().bytes);
-    assert!(stored.written > 500 && stored.undescribed > 200 && stored.unfit > 150);
+    assert!(stored.written > 400 && stored.undescribed > 150 && stored.unfit > 100);
 }
 
 /// The picked sheets stand in the stored stream as they are picked.

@@ -1121,7 +1121,7 @@ fn streams_have_twins() {
         assert!(twins.runs > 20 && twins.calls > 500, "{twins:?}");
         assert!(twins.told > 5 && twins.untold > 2, "{twins:?}");
         assert!(twins.met.iter().all(|&times| times > 1), "{twins:?}");
-        assert!(twins.others > 20, "{twins:?}");
+        assert!(twins.others > 10, "{twins:?}");
         assert_eq!(twins.unlike, 0);
     }
     let (mut scenes, mut rng) = (Stream::new(), Rng::new(109));

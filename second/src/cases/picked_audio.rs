@@ -355,6 +355,10 @@ pub fn resets(stream: &mut Stream) {
                 play: Play::new(status, 160, 290),
                 ..flags
             };
+            // With both pending or neither: the tray is moved by no attention.
+            if flags.power != flags.change {
+                continue;
+            }
             for call in [
                 Stream::power_on,
                 Stream::power_on_without_change,
@@ -365,7 +369,7 @@ pub fn resets(stream: &mut Stream) {
                 stream.state(state);
                 call(stream);
             }
-            if flags.power || flags.change {
+            if flags.power {
                 continue;
             }
             for bits in [0, 1, EJECT, LOAD] {
@@ -490,12 +494,19 @@ fn all_calls(stream: &mut Stream, state: State, form: fn(&mut Stream)) {
     form(stream);
 }
 
-/// Refusal 2 "also covers another status": each of the 256.
+/// Refusal 2 "also covers another status": each of the 256, met by a packet and an outside
+/// call; those next to the four by every call.
 pub fn every_status(stream: &mut Stream) {
     lend(stream, &disc_e());
     for status in 0..=255u8 {
-        let form = FORMS[usize::from(status % 2)];
-        all_calls(stream, with(status, 1, 2), form);
+        let near = |known: u8| (known ^ status).count_ones() < 2;
+        if STATUSES.into_iter().any(near) || status % 32 == 0 {
+            let form = FORMS[usize::from(status % 2)];
+            all_calls(stream, with(status, 1, 2), form);
+        } else {
+            stream.packet_from(with(status, 1, 2), &position(false));
+            stream.move_on(1);
+        }
     }
 }
 
@@ -573,7 +584,11 @@ pub fn audio_bits(stream: &mut Stream) {
         for bit in 8..96 {
             let mut p = packet;
             p[bit / 8] ^= 0x80 >> (bit % 8);
-            stream.packet_from(state, &p);
+            let silent = named[bit / 8] & 0x80 >> (bit % 8) == 0;
+            // Bits that no rule names: one in three is enough.
+            if !silent || bit % 3 == 0 {
+                stream.packet_from(state, &p);
+            }
         }
         // All the bits that no rule names at once.
         let mut full = packet;

@@ -4,7 +4,8 @@
 use crate::cases::breaks::breaks;
 use crate::cases::packets::{
     capacity, event_status, inquiry, load, load_unload, mechanism_status, mode_select, one_of_each,
-    page_list, plain, prevent, request_sense, start_stop, test_ready, unload, Packet, EJECT, LOAD,
+    page_list, plain, prevent, request_sense, start_stop, test_ready, unload, Packet, CODES, EJECT,
+    LOAD,
 };
 use crate::cases::picked_changer::{bench, locked, packets, place, KINDS};
 use crate::cases::picked_state::{all_flags, MEMORY};
@@ -61,16 +62,17 @@ pub fn slot_counts(stream: &mut Stream) {
     bench(stream, State::READY, 0, &[0]);
     for count in (0..=33).chain([64, 127, 128, 255]) {
         let bytes = vec![0x00; count];
-        for drive in [State::READY, State::EMPTY] {
-            place(stream, drive, 0, &bytes);
-            packets(stream, &[test_ready(), load_unload(2, 0)]);
+        place(stream, State::READY, 0, &bytes);
+        packets(stream, &[mechanism_status(8), load_unload(2, 0)]);
+        if count < 2 || count > 30 {
+            place(stream, State::EMPTY, 0, &bytes);
+            packets(stream, &[load(0), test_ready()]);
         }
-        stream.changer_packet(&mechanism_status(8));
     }
 }
 
-/// Every home byte: of a disc in the drive with four empty slots and with 31, and of no
-/// disc.
+/// Every home byte of a disc in the drive with four empty slots; with 31, and of no disc,
+/// those next to a border.
 pub fn every_home(stream: &mut Stream) {
     bench(stream, State::READY, 0, &[0x00; 4]);
     for home in 0..=255 {
@@ -83,7 +85,7 @@ pub fn every_home(stream: &mut Stream) {
         stream.changer_packet(&test_ready());
     }
     place(stream, State::EMPTY, 0, &[0x80, 0x81]);
-    for home in 0..=255 {
+    for home in [0, 1, 2, 3, 30, 31, 32, 127, 128, 254, 255] {
         stream.home(home);
         stream.changer_packet(&request_sense(0));
     }
@@ -112,12 +114,14 @@ pub fn occupied_homes(stream: &mut Stream) {
 pub fn open_trays(stream: &mut Stream) {
     bench(stream, State::READY, 2, &KINDS);
     for flags in all_flags().filter(|flags| flags.tray_open) {
-        place(stream, flags, 2, &KINDS);
-        packets(stream, &[load(0), mechanism_status(8), test_ready()]);
+        stream.state(flags);
+        packets(stream, &[load(0), mechanism_status(8)]);
     }
     for drive in [State::READY, State::EMPTY] {
         place(stream, ajar(drive), 2, &KINDS);
-        packets(stream, &one_of_each());
+        for packet in one_of_each().iter().step_by(3) {
+            stream.changer_packet(packet);
+        }
         // The tray is the first device's: closed there, it is the changer's again.
         stream.button();
         packets(stream, &[load(1), load(1), test_ready()]);
@@ -195,7 +199,7 @@ pub fn eleven_in_place(stream: &mut Stream) {
 /// every packet, the changer's own too, where one is in as the call begins.
 pub fn tables_looked_at(stream: &mut Stream) {
     bench(stream, State::READY, 2, &KINDS);
-    for table in breaks().into_iter().step_by(23) {
+    for table in breaks().into_iter().skip(11).step_by(101) {
         stream.table(&table.table);
         for drive in [State::READY, State::EMPTY] {
             place(stream, drive, 2, &KINDS);
@@ -205,7 +209,9 @@ pub fn tables_looked_at(stream: &mut Stream) {
     stream.table(&disc_e().bytes()[..58]);
     for drive in [State::READY, State::EMPTY] {
         place(stream, drive, 2, &KINDS);
-        packets(stream, &one_of_each());
+        for packet in one_of_each().iter().step_by(2) {
+            stream.changer_packet(packet);
+        }
         packets(stream, &[mechanism_status(8), start_stop(EJECT), unload()]);
     }
 }
@@ -228,25 +234,33 @@ pub fn devices_alike(stream: &mut Stream) {
                 change: told && drive.lock,
                 ..drive
             };
-            for packet in one_of_each() {
-                stream.packet_from(drive, &packet);
-                place(stream, drive, 2, &KINDS);
-                stream.changer_packet(&packet);
+            // Told, most packets show the same.
+            let step = if told { 3 } else { 1 };
+            for packet in one_of_each().iter().step_by(step) {
+                stream.packet_from(drive, packet);
+                stream.changer_packet_from(drive, packet);
             }
         }
     }
     stream.list(&[]);
 }
 
-/// All 256 codes on the changer, with a disc in its drive and without.
+/// All 256 codes on the changer with a disc in its drive; with none the known ones and one
+/// in sixteen.
 pub fn every_code(stream: &mut Stream) {
     bench(stream, State::READY, 2, &KINDS);
     for (drive, fill) in [(State::READY, 0x00), (State::EMPTY, 0x02)] {
-        for code in 0..=255 {
+        for code in 0..=255u8 {
+            let known = CODES.contains(&code) || [0xA6, 0xBD].contains(&code);
             let mut p: Packet = [fill; 12];
             p[0] = code;
-            place(stream, drive, 2, &KINDS);
-            stream.changer_packet(&p);
+            // An unknown code leaves all but the sense.
+            if known || drive.disc_in || code % 16 == 7 {
+                if known {
+                    place(stream, drive, 2, &KINDS);
+                }
+                stream.changer_packet(&p);
+            }
         }
     }
 }
@@ -270,7 +284,7 @@ pub fn no_tray_calls(stream: &mut Stream) {
                 ..drive
             };
             for low_bits in [0, 1, EJECT, LOAD, 0xFE, 0xFD] {
-                place(stream, drive, 2, &KINDS);
+                stream.state(drive);
                 packets(stream, &[start_stop(low_bits); 2]);
             }
         }
@@ -292,10 +306,11 @@ pub fn changer_power_ons(stream: &mut Stream) {
     };
     for drive in all_flags().chain([strange]) {
         for form in CHANGER_FORMS {
-            place(stream, drive, 3, &KINDS);
+            stream.home(3);
+            stream.state(drive);
             form(stream);
-            stream.changer_packet(&test_ready());
         }
+        stream.changer_packet(&test_ready());
     }
     let full = State {
         sense: Sense::new(5, 0x24, 0),
@@ -309,7 +324,7 @@ pub fn changer_power_ons(stream: &mut Stream) {
             for form in CHANGER_FORMS {
                 place(stream, full, home, bytes);
                 form(stream);
-                packets(stream, &[test_ready(), load(0), mechanism_status(8)]);
+                packets(stream, &[test_ready(), load(0)]);
             }
         }
     }

@@ -133,17 +133,22 @@ pub fn every_recovery(stream: &mut Stream) {
 }
 
 /// Refusal 2 "covers a recovery byte outside the twenty": each of the 256 held,
-/// met by every call, power-on last.
+/// met by a packet and by one of the other calls; those next to a setting and one in
+/// eight by every call, power-on last.
 pub fn every_recovery_held(stream: &mut Stream) {
     bench(stream, State::READY);
     for recovery in 0..=255u8 {
         stream.state(with(State::EMPTY.opened(), recovery, recovery ^ 0x5A));
         stream.packet(&mode_sense(0, 1, 12));
-        stream.lay();
-        stream.lift();
-        stream.button();
-        stream.move_on(1);
-        FORMS[usize::from(recovery % 2)](stream);
+        let calls: [fn(&mut Stream); 4] = [Stream::lay, Stream::lift, Stream::button, |stream| {
+            stream.move_on(1)
+        }];
+        if recovery % 8 == 2 || SETTINGS.contains(&recovery) {
+            calls.iter().for_each(|call| call(stream));
+            FORMS[usize::from(recovery % 2)](stream);
+        } else {
+            calls[usize::from(recovery / 2 % 4)](stream);
+        }
     }
     // Whatever the packet.
     stream.list(&page_list(0x01, 1));

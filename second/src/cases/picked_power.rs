@@ -28,14 +28,15 @@ fn packets(stream: &mut Stream, list: &[Packet]) {
 /// others: tray and disc alone decide what is pending. A 00h is told the power-on.
 pub fn every_state(stream: &mut Stream) {
     lend_e(stream);
-    for held in [
-        sense::NONE,
-        sense::PREVENTED,
-        sense::CHANGED,
-        Sense::new(6, 0x28, 1),
-        Sense::new(0xFF, 0xFF, 0xFF),
+    for (held, part) in [
+        (sense::NONE, 1),
+        (sense::PREVENTED, 3),
+        (sense::CHANGED, 1),
+        (Sense::new(6, 0x28, 1), 1),
+        (Sense::new(0xFF, 0xFF, 0xFF), 3),
     ] {
-        for flags in all_flags() {
+        // All of the flags under three senses, one in three under the others.
+        for flags in all_flags().step_by(part) {
             for form in FORMS {
                 stream.state(State {
                     sense: held,

@@ -25,12 +25,16 @@ pub fn meet(stream: &mut Stream, list: &[Break]) {
     for (i, broken) in list.iter().enumerate() {
         stream.table(&broken.table);
         stream.part(1);
-        stream.packet_from(State::READY, &test_ready());
+        // What is refused leaves the state.
+        if [0, 3].contains(&(i % 5)) {
+            stream.state(State::READY);
+        }
+        stream.packet(&test_ready());
         match i % 5 {
             0 => stream.part(0),
             1 => stream.part(255),
             2 => stream.packet_from(State::READY.power_on(), &request_sense(18)),
-            3 => stream.packet_from(State::READY, &start_stop(2)),
+            3 => stream.packet(&start_stop(2)),
             _ => stream.packet_from(State::READY.opened(), &test_ready()),
         }
     }
@@ -95,7 +99,7 @@ pub fn fit(stream: &mut Stream) {
         stream.packet(&test_ready());
         stream.packet(&capacity());
         for format in 0..3 {
-            stream.packet(&toc(false, format, sheet.last, 200));
+            stream.packet(&toc(false, format, sheet.last, 120));
             stream.packet(&toc(true, format, 0, 60));
         }
         stream.packet(&toc(true, 0, 0xAA, 804));

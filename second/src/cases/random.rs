@@ -834,23 +834,23 @@ pub fn changer_scene(stream: &mut Stream, rng: &mut Rng) {
     lend_memory(stream, rng);
     let mut count = stage(stream, rng, &marks);
     for _ in 0..rng.range(20, 50) {
-        match rng.below(40) {
-            0..=9 => move_and_tell(stream, rng, count),
-            10..=12 => stream.changer_packet(&any_move(rng, count)),
-            13..=16 => stream.changer_packet(&any_status(rng, count)),
-            17 => stream.changer_packet(&start_stop(rng.pick(&[0, 1, EJECT, LOAD]))),
-            18..=20 => stream.changer_packet(&any_audio(rng, &marks)),
-            21 => stream.changer_packet(&any_event_status(rng)),
-            22 => stream.changer_packet(&rng.pick(&one_of_each())),
-            23..=26 => stream.changer_packet(&any_packet(rng, &marks)),
-            27 | 28 => stream.changer_move_on(any_step(rng)),
-            29 => rng.pick(&CHANGER_FORMS)(stream),
-            30 => locked_move(stream, rng, count),
-            31 => marks = lend(stream, &with_audio(rng)),
-            32 => unfit_between(stream, rng, &mut marks, count),
-            33 => tray_between(stream, rng, count),
-            34 => on_the_first(stream, rng, &marks),
-            35 => refused_between(stream, rng, &marks, count),
+        match rng.below(48) {
+            0..=17 => move_and_tell(stream, rng, count),
+            18..=21 => stream.changer_packet(&any_move(rng, count)),
+            22..=26 => stream.changer_packet(&any_status(rng, count)),
+            27 => stream.changer_packet(&start_stop(rng.pick(&[0, 1, EJECT, LOAD]))),
+            28..=30 => stream.changer_packet(&any_audio(rng, &marks)),
+            31 => stream.changer_packet(&any_event_status(rng)),
+            32 => stream.changer_packet(&rng.pick(&one_of_each())),
+            33..=35 => stream.changer_packet(&any_packet(rng, &marks)),
+            36 | 37 => stream.changer_move_on(any_step(rng)),
+            38 => rng.pick(&CHANGER_FORMS)(stream),
+            39 => locked_move(stream, rng, count),
+            40 => marks = lend(stream, &with_audio(rng)),
+            41 => unfit_between(stream, rng, &mut marks, count),
+            42 => tray_between(stream, rng, count),
+            43 => on_the_first(stream, rng, &marks),
+            44 => refused_between(stream, rng, &marks, count),
             _ => count = stage(stream, rng, &marks),
         }
     }
@@ -868,6 +868,7 @@ fn stage(stream: &mut Stream, rng: &mut Rng, marks: &Marks) -> usize {
     let mut drive = State {
         tray_open: false,
         disc_in: rng.below(3) > 0,
+        lock: rng.one_in(10),
         ..loaded_state(rng, marks)
     };
     match rng.below(24) {
@@ -881,6 +882,9 @@ fn stage(stream: &mut Stream, rng: &mut Rng, marks: &Marks) -> usize {
     stream.slots(&slots);
     stream.home(home as u8);
     stream.state(drive);
+    if rng.one_in(3) {
+        stream.changer_move_on(any_step(rng));
+    }
     slots.len()
 }
 
