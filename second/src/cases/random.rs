@@ -899,7 +899,7 @@ fn any_slot(rng: &mut Rng) -> Slot {
 /// A slot of so many, or one beyond the last.
 fn any_slot_byte(rng: &mut Rng, count: usize) -> u8 {
     let within = rng.below(count.max(1)) as u8;
-    let beyond = rng.pick(&[count as u8, count as u8 + 1, 31, 32, 255]);
+    let beyond = rng.pick(&[count as u8, (count + 1) as u8, 31, 32, 255]);
     let any = rng.byte();
     rng.pick(&[within, within, within, within, within, within, beyond, any])
 }
