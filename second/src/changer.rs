@@ -15,8 +15,8 @@ pub const LOAD_UNLOAD: u8 = 0xA6;
 pub const MECHANISM_STATUS: u8 = 0xBD;
 const START_STOP: u8 = 0x1B;
 
-/// Packets that are no command of the first device: with nothing pending it answers
-/// 05/20/00 and writes no byte.
+/// A code that is none of the first device's: with nothing pending it answers 05/20/00
+/// and writes no byte.
 const UNKNOWN: u8 = LOAD_UNLOAD;
 
 /// "The slot records stand beside one another in memory that the caller lends, each
@@ -28,6 +28,14 @@ pub struct Slot {
 }
 
 impl Slot {
+    /// A slot by its byte, of which no other bit is looked at.
+    pub fn of(byte: u8) -> Slot {
+        Slot {
+            present: byte & 0x80 != 0,
+            changed: byte & 0x01 != 0,
+        }
+    }
+
     /// "present bit 7 and changed bit 0", in a status answer as in a line.
     pub fn byte(self) -> u8 {
         u8::from(self.present) << 7 | u8::from(self.changed)

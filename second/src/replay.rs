@@ -179,11 +179,7 @@ fn slots_of(body: &[u8]) -> Result<Vec<Slot>, BadRecord> {
     if body.len() > 255 || body.iter().any(|byte| byte & 0x7E != 0) {
         return Err(BadRecord);
     }
-    let slot = |byte: &u8| Slot {
-        present: byte & 0x80 != 0,
-        changed: byte & 0x01 != 0,
-    };
-    Ok(body.iter().map(slot).collect())
+    Ok(body.iter().map(|&byte| Slot::of(byte)).collect())
 }
 
 /// Kind 24's totals: 8 bytes each, high byte first, in the order of the lines.

@@ -708,14 +708,7 @@ impl Found {
         self.changer.home = home.parse().unwrap_or(0);
         let count = digits.trim_start_matches('-').len() / 2;
         let byte = |place| byte_at(digits, place).unwrap_or(0);
-        self.slots = (0..count).map(|place| slot_of(byte(place))).collect();
-    }
-}
-
-fn slot_of(byte: u8) -> Slot {
-    Slot {
-        present: byte & 0x80 != 0,
-        changed: byte & 0x01 != 0,
+        self.slots = (0..count).map(|place| Slot::of(byte(place))).collect();
     }
 }
 
@@ -735,7 +728,9 @@ pub fn changes(stream: &[u8]) -> Changes {
         rest = after;
         match (kind, body) {
             (replay::STATE, [tray, disc, lock, ..]) => found.see(&format!("{tray}{disc}{lock}")),
-            (replay::SLOTS, bytes) => found.slots = bytes.iter().map(|&one| slot_of(one)).collect(),
+            (replay::SLOTS, bytes) => {
+                found.slots = bytes.iter().map(|&one| Slot::of(one)).collect()
+            }
             (replay::HOME, &[home]) => found.changer.home = home,
             _ => {}
         }

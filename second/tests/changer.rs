@@ -532,7 +532,8 @@ fn status_cut() {
 fn status_changes_the_sense_alone() {
     for drive in [full(READY), full(EMPTY), locked(full(READY))] {
         let mut rig = Rig::new(drive, 2, &KINDS);
-        rig.good(&mechanism_status(24));
+        let answer = rig.good(&mechanism_status(24));
+        assert_eq!(answer[1..8], [0, 0, 0, 0, 4, 0, 16]);
         assert_eq!(rig.place(), (2, KINDS.to_vec()));
         assert_eq!(
             rig.drive,

@@ -17,11 +17,7 @@ use crate::sense::{self, TRIPLES};
 
 /// Slots by their bytes: 80h present, 01h changed.
 pub fn slots(bytes: &[u8]) -> Vec<Slot> {
-    let slot = |byte: &u8| Slot {
-        present: byte & 0x80 != 0,
-        changed: byte & 0x01 != 0,
-    };
-    bytes.iter().map(slot).collect()
+    bytes.iter().map(|&byte| Slot::of(byte)).collect()
 }
 
 /// Table E, a memory and no list; this drive, its disc's home and these slots.
