@@ -205,7 +205,7 @@ fn five_six_seven_tray() {
     }
 }
 
-/// K9: "Other numbers stay." 8 and 10 are met in `marked` and `rules`, K11's in `changer`,
+/// K9: "Other numbers stay." 8 and 10 are met in `marked` and `rules`, K11's in `changers`,
 /// K12's in `sheets`.
 #[test]
 fn numbers_in_use() {
