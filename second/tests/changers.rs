@@ -1226,24 +1226,32 @@ fn devices_share_the_state() {
     assert_eq!(starts, due);
 }
 
-/// What `tally` counts of a small stream, and how it prints it.
-#[test]
-fn tally_counts_the_changer() {
+/// A stream that has one of each, and a few of some.
+fn one_of_each_count() -> Stream {
     let mut stream = Stream::new();
     picked_changer::bench(&mut stream, READY, 2, &KINDS);
-    let list = [load(0), test_ready(), load(0), test_ready(), load(3)];
-    picked_changer::packets(&mut stream, &list);
-    let list = [unload(), load(1), load(0), test_ready(), unload()];
-    picked_changer::packets(&mut stream, &list);
-    let list = [load(4), load_unload(1, 0), prevent(1), unload()];
-    picked_changer::packets(&mut stream, &list);
-    let list = [
+    for packet in [
+        load(0),
+        test_ready(),
+        load(0),
+        test_ready(),
+        load(3),
+        unload(),
+        load(1),
+        load(0),
+        test_ready(),
+        unload(),
+        load(4),
+        load_unload(1, 0),
+        prevent(1),
+        unload(),
         mechanism_status(24),
         mechanism_status(23),
         start_stop(EJECT),
         start_stop(0),
-    ];
-    picked_changer::packets(&mut stream, &list);
+    ] {
+        stream.changer_packet(&packet);
+    }
     stream.changer_packet(&[]);
     for (drive, home, bytes) in [
         (READY, 0, &[][..]),
@@ -1255,6 +1263,13 @@ fn tally_counts_the_changer() {
         picked_changer::place(&mut stream, drive, home, bytes);
         stream.changer_packet(&load(0));
     }
+    stream
+}
+
+/// What `tally` counts of a small stream, and how it prints it.
+#[test]
+fn tally_counts_the_changer() {
+    let mut stream = one_of_each_count();
     stream.changer_move_on(1);
     stream.state(State { event: 4, ..READY });
     stream.changer_move_on(1);
@@ -1344,10 +1359,8 @@ fn facts_of(packet: &Packet, words: &[&str], count: usize) -> Vec<String> {
                 format!("BDh: {come}"),
             ]
         }
-        code => vec![
-            format!("code {code}: {come}"),
-            format!("1Bh {low_bits}: {come}"),
-        ],
+        0x1B => vec![format!("1Bh {low_bits}: {come}")],
+        code => vec![format!("code {code}: {come}")],
     }
 }
 
@@ -1379,11 +1392,9 @@ fn often() -> Vec<String> {
     list
 }
 
-/// The streams have every boundary of the changer; the stored one has more.
-#[test]
-fn streams_have_every_boundary() {
-    let stored = facts(&stored::stored_stream().bytes);
-    let mut more = often();
+/// What the stored stream has beside.
+fn stored_too() -> Vec<String> {
+    let mut more = Vec::new();
     for count in 0..=33 {
         let number = if (1..=31).contains(&count) { 0 } else { 11 };
         more.push(format!("{count} slots: {number}"));
@@ -1397,22 +1408,24 @@ fn streams_have_every_boundary() {
         more.push(format!("slot {slot} of 3, pair 3: {}", come(3)));
         more.push(format!("slot {slot} of 1, pair 2: {}", come(1)));
     }
-    for length in 0..=12 {
+    for length in (0..=12).chain([19, 20, 131, 132]) {
         more.push(format!("BDh of {length}: {length} bytes"));
     }
-    for length in [19, 20] {
-        more.push(format!("BDh of {length}: {length} bytes"));
+    for (length, whole) in [(21, 20), (133, 132), (256, 12), (65_535, 132)] {
+        more.push(format!("BDh of {length}: {whole} bytes"));
     }
-    more.push("BDh of 21: 20 bytes".to_string());
-    for length in [131, 132] {
-        more.push(format!("BDh of {length}: {length} bytes"));
-    }
-    more.push("BDh of 133: 132 bytes".to_string());
     for low_bits in [2, 3] {
         more.push(format!("1Bh {low_bits}: 0 02 05/24/00"));
         more.push(format!("1Bh {low_bits}: 0 02 06/29/00"));
     }
-    for fact in more {
+    more
+}
+
+/// The streams have every boundary of the changer; the stored one has more.
+#[test]
+fn streams_have_every_boundary() {
+    let stored = facts(&stored::stored_stream().bytes);
+    for fact in often().into_iter().chain(stored_too()) {
         assert!(stored.contains(&fact), "{fact}");
     }
     let drawn = facts(&random_stream(120, 40_000).bytes);

@@ -65,7 +65,7 @@ macro_rules! named {
     };
 }
 
-const MAKERS: [(&str, Maker); 228] = [
+const MAKERS: [(&str, Maker); 229] = [
     named!(Start, picked_state::from_nothing),
     named!(Calls, picked_state::attentions),
     named!(Calls, picked_state::senses),
@@ -253,6 +253,7 @@ const MAKERS: [(&str, Maker); 228] = [
     named!(Calls, picked_changer_state::every_code),
     named!(Calls, picked_changer_state::no_tray_calls),
     named!(Calls, picked_changer_state::changer_power_ons),
+    named!(Calls, picked_changer_state::power_ons_in_turn),
     named!(Calls, picked_changer_state::outside_calls),
     named!(Calls, picked_changer_state::unknown_on_the_first),
     named!(Calls, picked_changer_state::devices_in_turn),

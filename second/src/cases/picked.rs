@@ -197,6 +197,7 @@ pub fn all(stream: &mut Stream) {
     picked_changer_state::every_code(stream);
     picked_changer_state::no_tray_calls(stream);
     picked_changer_state::changer_power_ons(stream);
+    picked_changer_state::power_ons_in_turn(stream);
     picked_changer_state::outside_calls(stream);
     picked_changer_state::unknown_on_the_first(stream);
     picked_changer_state::devices_in_turn(stream);

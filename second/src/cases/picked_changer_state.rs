@@ -328,7 +328,11 @@ pub fn changer_power_ons(stream: &mut Stream) {
             }
         }
     }
-    // One after another, and the first device's power-on between, which keeps the disc.
+}
+
+/// One power-on after another, and the first device's between, which keeps the disc.
+pub fn power_ons_in_turn(stream: &mut Stream) {
+    bench(stream, State::READY, 2, &KINDS);
     for first in CHANGER_FORMS {
         for last in CHANGER_FORMS {
             place(stream, State::READY, 2, &KINDS);
