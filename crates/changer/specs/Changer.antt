@@ -1,11 +1,10 @@
 -- The changer's state, "the drive's and the home slot of the disc in the drive", and the calls that are no packets.
 use Prim.Native.Nat.{ℕ}
-use mathlib.Core.Bool.{Bool, true, false, not}
+use mathlib.Core.Bool.{Bool, false, not}
 use mathlib.Core.List.{List}
 use lib.ListN.{length}
 use lib.Dec.{leb, ltb}
 use Rattle.ground.specs.Tests.{_and_, _or_}
-use Rattle.deck.specs.declared.Deck.{Deck}
 use Rattle.deck.specs.Deck.{closing, withDisc}
 use Rattle.drive.specs.declared.state.Drive.{Drive}
 use Rattle.drive.specs.declared.state.Moved.{Moved}

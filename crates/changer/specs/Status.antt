@@ -1,6 +1,6 @@
 -- BDh, MECHANISM STATUS: "the header of 000 (no fault, ready, home slot or 0, byte 1 zero, address 0, slots, table length) and 4 bytes a slot".
 use Prim.Native.Nat.{ℕ, zero, suc, _+_, _*_}
-use mathlib.Core.Bool.{Bool, false}
+use mathlib.Core.Bool.{false}
 use mathlib.Core.List.{List, [], _∷_, _++_}
 use lib.ListN.{length}
 use Rattle.ground.specs.Tests.{if_then_else_}

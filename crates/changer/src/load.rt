@@ -18,7 +18,6 @@ ghost use mathlib.Core.Path.{_≡_};
 ghost use mathlib.Core.Bool.{true};
 ghost use Prim.Native.Nat.{_<_};
 ghost use lib.ListN.{length};
-ghost use Rattle.gate.specs.Gate.{fails};
 ghost use Rattle.command.specs.Tray.{moving as shifted};
 ghost use Rattle.command.specs.Done.{doneOf};
 ghost use Rattle.changer.specs.Slot.{slotAt, putBack};

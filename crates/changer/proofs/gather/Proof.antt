@@ -1,4 +1,4 @@
--- `changer::gather` meets its contract: a walk of its MIR, by hand, with a loop.
+-- `changer::gather` meets its contract, by a walk of its MIR by hand: after i turns the row has the first i slots.
 -- Assumes nothing.
 use mathlib.Core.Path.{_≡_, refl, sym, ap, subst, _∙_}
 use Prim.Native.Nat.{ℕ, zero, suc, _+_, _*_, _≤_, _<_, _^_}

@@ -1,4 +1,5 @@
--- `changer::packet` meets its contract: a walk of its MIR, by hand, written by edgewalk. The slots are lent to `gather` as a `&`, for a lifetime that is made for the call, and come back; `meet` is called with the row; and `settle` is given the slots for good.
+-- `changer::packet` meets its contract, by a walk of its MIR by hand: the slots are lent to `gather` as a `&` for a lifetime that is made for
+-- the call, and come back; `meet` is called with the row; `settle` is given the slots for good; and `edge-answered` says what that comes to.
 -- Assumes nothing.
 use mathlib.Core.Path.{_≡_, refl, sym, ap, subst, _∙_}
 use Prim.Native.Nat.{ℕ, _<_, _^_}

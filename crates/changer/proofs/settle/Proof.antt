@@ -1,4 +1,4 @@
--- `changer::settle` meets its contract: a walk of its MIR, by hand, with a branch.
+-- `changer::settle` meets its contract, by a walk of its MIR by hand: where anything moves, two stores to places within the slots.
 -- Assumes nothing.
 use mathlib.Core.Path.{_≡_, refl, sym, ap, subst, _∙_}
 use Prim.Native.Nat.{ℕ, zero, suc, _+_, _*_, _<_, _^_}

@@ -1,6 +1,4 @@
 -- `changer::load::load` meets its contract: with a disc in the drive it is exchanged, else the named slot alone changes, if it holds one.
-use mathlib.Core.Path.{sym, ap, _∙_}
-use Rattle.changer.specs.declared.Slot.{Slot}
 use Rattle.changer.specs.MechanismLaws.{mechanism, acted-take, acted-no-take}
 use borrow.Author.Needs.{needs}
 use Rattle.changer.proofs.load.load.Statement.{statement}

@@ -1,8 +1,4 @@
 -- `changer::load::load_unload` meets its contract: the pair, the slot and the lock stop it in this order.
-use mathlib.Core.Path.{_≡_, sym, _∙_}
-use Prim.Native.Nat.{_<_, _≤_}
-use lib.ListN.{length}
-use Rattle.changer.specs.RowLaws.{slotsOf}
 use Rattle.changer.specs.MechanismLaws.{mechanism, acted-fails, loadUnload-pair, loadUnload-slot, loadUnload-locked, loadUnload-loads, loadUnload-unloads}
 use borrow.Author.Needs.{needs}
 use Rattle.changer.proofs.load.load_unload.Statement.{statement}

@@ -2,7 +2,6 @@
 use mathlib.Core.Path.{_≡_, sym, ap, _∙_}
 use Prim.Native.Nat.{ℕ}
 use native.Mathlib.Omega.{arith}
-use denote.Ref.{now}
 use Rattle.attention.specs.declared.Unit.{Unit}
 use Rattle.gate.specs.declared.unit.Pending.{Pending}
 use Rattle.gate.specs.declared.unit.Pending.the-variants.{Power, Change}

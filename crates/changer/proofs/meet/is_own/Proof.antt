@@ -1,6 +1,5 @@
 -- `changer::meet::is_own` meets its contract: each test that stops it is one of the three, by the packet's code.
-use mathlib.Core.Path.{_≡_, refl, sym, ap, _∙_}
-use mathlib.Core.Bool.{true}
+use mathlib.Core.Path.{refl}
 use borrow.Author.Needs.{needs}
 use borrow.Author.Tests.{eq-eqb, ne-eqb}
 use Rattle.ground.specs.Tests.{_and_, _or_}

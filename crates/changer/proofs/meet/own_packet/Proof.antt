@@ -1,5 +1,5 @@
 -- `changer::meet::own_packet` meets its contract: with a disc in the drive its table is fit or the call is refused.
-use mathlib.Core.Path.{_≡_, sym, ap, _∙_}
+use mathlib.Core.Path.{sym, ap, _∙_}
 use mathlib.Core.Bool.{true≢false}
 use Prim.Native.Nat.{ℕ}
 use denote.Ref.{now}

@@ -1,11 +1,11 @@
 -- `changer::slots::is_in_order` meets its contract: each test that stops it is one of refusal 11's.
-use mathlib.Core.Path.{_≡_, refl, sym, ap, _∙_}
+use mathlib.Core.Path.{sym, ap, _∙_}
 use mathlib.Core.Bool.{not}
 use native.Mathlib.Omega.{arith}
 use lib.ListN.{length}
 use borrow.Author.Tests.{le-leb, lt-leb}
 use Rattle.ground.specs.Tests.{and-on, and-off, and-late, or-left, or-else}
-use Rattle.changer.specs.Changer.{isInOrder, hasHome}
+use Rattle.changer.specs.Changer.{isInOrder}
 use Rattle.changer.specs.RowLaws.{slotsOf}
 use borrow.Author.Needs.{needs}
 use Rattle.changer.proofs.slots.is_in_order.Statement.{statement}

@@ -1,5 +1,4 @@
 -- `changer::status::mechanism_status` meets its contract: the answer of at most 136 bytes is laid, cut to the allocation length.
-use mathlib.Core.Path.{_≡_}
 use Prim.Native.Nat.{_≤_}
 use native.Mathlib.Omega.{arith}
 use lib.ListN.{length}

@@ -1,8 +1,7 @@
 -- `changer::status::put_full` meets its contract: header and tables are laid one after the other (`laid-more`).
-use mathlib.Core.Path.{_≡_}
 use Prim.Native.Nat.{_≤_}
 use native.Mathlib.Omega.{arith}
-use Rattle.ground.specs.Memory.{laid-more, laid-within, laid-length}
+use Rattle.ground.specs.Memory.{laid-more}
 use Rattle.changer.specs.Status.{statusBytes}
 use Rattle.changer.specs.RowLaws.{slotsOf-count}
 use borrow.Author.Needs.{needs}
