@@ -1,4 +1,4 @@
--- The changer's state, "the drive's and the home slot of the disc in the drive", and the calls that are no packets.
+-- The changer's state, the drive's and "the home slot of the disc in the drive", when refusal 11 meets it, and the calls that are no packets.
 use Prim.Native.Nat.{ℕ}
 use mathlib.Core.Bool.{Bool, false, not}
 use mathlib.Core.List.{List}

@@ -71,7 +71,7 @@ steps u m p t l =
     if isOwn p then gate u m (own p m)
     else carried m (drive.steps (decode (codeOf p)) u (m .deck) p t l)
 
--- "Refusals: 11, after 3": 1, 2, 3, 11 and then 4, "only where a disc is in the drive"; n is the length of the response memory
+-- "Refusals: 11, after 3": 1, 2, 3, 11 and then 4, where a disc is in the drive; n is the length of the response memory
 unfoldable pub refusalOf : Changer → List Slot → List ℕ → List ℕ → ℕ → ℕ
 refusalOf c s p t n =
     if not (eqb (length p) 12) then notTwelve
