@@ -133,7 +133,7 @@ pub fn every_recovery(stream: &mut Stream) {
 }
 
 /// Refusal 2 "covers a recovery byte outside the twenty": each of the 256 held,
-/// met by a packet and by one of the other calls; those next to a setting and one in
+/// met by a packet and by one of the other calls; the twenty settings and one in
 /// eight by every call, power-on last.
 pub fn every_recovery_held(stream: &mut Stream) {
     bench(stream, State::READY);
