@@ -8,6 +8,7 @@ use lib.ListN.{length}
 use Rattle.ground.specs.Tests.{_and_}
 use Rattle.changer.specs.declared.Slot.{Slot}
 use Rattle.changer.specs.declared.Changer.{Changer}
+use Rattle.changer.specs.ChangerPacket.{isOwn}
 use Rattle.claims.specs.Telling.{Attention, change, isGood}
 use Rattle.claims.specs.History.{Event, Standing, At}
 use Rattle.claims.specs.Call.{Form, isNeeding}
@@ -15,7 +16,7 @@ use Rattle.claims.specs.Runs.{Pairwise, pairwise-map, runs-long}
 use Rattle.claims.specs.Carried.{runs-carried}
 use Rattle.claims.specs.Device.{pends, blocked, told-once, runs}
 use Rattle.changerclaims.specs.ChangerCall.{Call, powering, packet, Answer, Happening, answer, next, event, history, final, isPending, isAttending, isPacket, isPowerOn, isLoad, isLoading, isCause, causes, tells, isSuccess, Alike, same, tables, Sharing, itself, fitting, lend, left, Board, historyOn, finalOn}
-use Rattle.changerclaims.specs.ChangerDevice.{changer, changer-told, power-alone, loading-disc, refused-silent, packet-blocked, cause-attends, lend-alike, left-alike}
+use Rattle.changerclaims.specs.ChangerDevice.{changer, changer-told, power-alone, loading-disc, refused-silent, packet-blocked, own-blocked, cause-attends, lend-alike, left-alike}
 
 -- ---- "From power-on, over any calls: an attention is pending exactly when its cause happened at or since the last power-on and no later
 -- answer told it."
@@ -59,6 +60,11 @@ changer-loading = loading-disc
 pub changer-no-success : (k : Attention) (d : Changer) (p t l m : List ℕ) (s : List Slot) → isPending k d ≡ true → isNeeding p ≡ true
     → isGood (answer (packet p t l m s) d .given) ≡ false
 changer-no-success = packet-blocked
+
+-- nor is A6h, BDh or 1Bh with LoEj 1, which need none: a pending attention is told first
+pub changer-no-success-own : (k : Attention) (d : Changer) (p t l m : List ℕ) (s : List Slot) → isPending k d ≡ true → isOwn p ≡ true
+    → isGood (answer (packet p t l m s) d .given) ≡ false
+changer-no-success-own = own-blocked
 
 -- from power-on, in either form, over any calls: no call is such a success while one stands in the history
 pub changer-no-success-since : (k : Attention) (f : Form) (handed : Changer) (calls : List Call) (c : Call)

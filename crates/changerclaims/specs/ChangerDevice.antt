@@ -271,13 +271,21 @@ changer-turns k (powering f) c = power-turns k f c
 changer-turns k (movingOn n) c = call-turns k (movingOn n) c refl
 changer-turns k (packet p t l m s) c = call-turns k (packet p t l m s) c refl
 
+-- a packet that meets the gate is not answered GOOD while an attention is pending
+orders-blocked : (k : Attention) (c : Changer) (p t l m : List ℕ) (s : List Slot) {r : Result Mechanism} → isPending k c ≡ true
+    → kindOn p (mechanismOf c s) t l ≡ orders r → isGood (answer (packet p t l m s) c .given) ≡ false
+orders-blocked k c p t l m s {r} h e =
+    rw (reply-kind c s p t l (length m), e)
+    (orders-blocks (refusalOf c s p t (length m)) (ruleOf c s p t (length m)) r (c .drive .unit) (mechanismOf c s) m
+    (any-pending k (c .drive .unit) h))
+
 pub packet-blocked : (k : Attention) (c : Changer) (p t l m : List ℕ) (s : List Slot) → isPending k c ≡ true → isNeeding p ≡ true
     → isGood (answer (packet p t l m s) c .given) ≡ false
-packet-blocked k c p t l m s h n =
-    let o = kind-orders p (mechanismOf c s) t l n in
-    rw (reply-kind c s p t l (length m), o .1)
-    (orders-blocks (refusalOf c s p t (length m)) (ruleOf c s p t (length m)) (o .0) (c .drive .unit) (mechanismOf c s) m
-    (any-pending k (c .drive .unit) h))
+packet-blocked k c p t l m s h n = orders-blocked k c p t l m s h (kind-orders p (mechanismOf c s) t l n .1)
+
+pub own-blocked : (k : Attention) (c : Changer) (p t l m : List ℕ) (s : List Slot) → isPending k c ≡ true → isOwn p ≡ true
+    → isGood (answer (packet p t l m s) c .given) ≡ false
+own-blocked k c p t l m s h n = orders-blocked k c p t l m s h (when _ _ _ n)
 
 pub changer-blocks : (k : Attention) (b : Call) (c : Changer) → isPending k c ≡ true → isSuccess (event b c) ≡ false
 unfolding _and_

@@ -3,10 +3,11 @@
 use mathlib.Core.Path.{_≡_, sym, ap, _∙_}
 use mathlib.Core.Bool.{Bool, true, false, false≢true}
 use mathlib.Core.List.{List}
-use Prim.Native.Nat.{ℕ}
+use Prim.Native.Nat.{ℕ, _≤_}
+use native.Mathlib.Omega.{arith}
 use lib.ListN.{length, take}
 use lib.Dec.{eqb, ltb}
-use Rattle.ground.specs.Tests.{_and_, _or_, if_then_else_}
+use Rattle.ground.specs.Tests.{_and_, _or_, if_then_else_, either}
 use Rattle.attention.specs.declared.sense.Sense.{Sense}
 use Rattle.attention.specs.Sense.{triple, senseAt}
 use Rattle.deck.specs.declared.Deck.{Deck}
@@ -24,7 +25,7 @@ use Rattle.changer.specs.Status.{statusBytes, statusLength}
 use Rattle.changer.specs.Changer.{isInOrder}
 use Rattle.changer.specs.ChangerPacket.{mechanismOf, isLoadUnload, isStatus, isTray, isOwn, own, carried, answer, stateOf, bytesOf, outcomeOf}
 use Rattle.changerclaims.specs.ChangerDiscs.{discs}
-use Rattle.changerclaims.specs.ChangerKeptLaws.{answer-discs, answer-others, answer-slots, answer-own, own-load, own-status, own-tray, load-own, status-own, tray-own, answer-drive}
+use Rattle.changerclaims.specs.ChangerKeptLaws.{isInOrder-order, answer-discs, answer-others, answer-slots, answer-own, own-load, own-status, own-tray, load-own, status-own, tray-own, answer-drive}
 use Rattle.changerclaims.specs.ChangerLoadLaws.{isGranted, goesWell, answer-still, loadUnload-bad, loadUnload-locked, loadUnload-free, settle-granted, present-full, present-home, load-took, load-home, load-empty, load-leaves, unload-leaves, left-gave, left-rests}
 
 -- of every state, slots, packet, table, parameter list and length of the response memory
@@ -202,6 +203,15 @@ module _ (c : Changer) (s : List Slot) (p t l : List ℕ) (n : ℕ) where
         answer-own c s p t l n (status-own p h) unrefused quiet
         ∙ ap (settle (c .drive .unit) (mechanismOf c s)) (own-status p (mechanismOf c s) h) in
         (ap isGranted a, ap bytesOf a, (ap (λ (r : Reply Mechanism). r .deck .slots) a, ap stateOf a))
+
+  -- past refusal 11 "home slot or 0" is at most 30, so of byte 0 the bits of fault and state are 0 ("no fault, ready"), and the slot whose disc is
+  -- in the drive shows none
+  pub changer-status-home : isInOrder c s ≡ true
+      → ((if hasDisc then c .home else 0) ≤ 30) × (hasDisc ≡ true → slotAt s (c .home) .present ≡ false)
+  changer-status-home h =
+      let o = isInOrder-order c s h in
+      let few = o .few in
+      (either (λ n. n ≤ 30) hasDisc (λ d. let w = o .place d in omega arith) (λ d. omega arith), o .free)
 
   -- ---- every packet that is not A6h, BDh or 1Bh with LoEj 1, past refusal 11, is answered exactly as by the drive, home and slots as they were
 
