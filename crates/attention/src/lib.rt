@@ -8,6 +8,7 @@ ghost use mathlib.Core.Path.{_≡_};
 ghost use Rattle.attention.specs.Unit.{poweredOn, attend};
 
 // What is pending and what is held: this is the same for every device that stands behind the gate.
+#[repr(C)]
 pub struct Unit {
     pub power: bool,
     pub change: bool,

@@ -2,6 +2,7 @@
 ghost use mathlib.Core.Path.{_≡_};
 ghost use Rattle.attention.specs.Sense.{senseAt, sameSense, isKnown};
 
+#[repr(C)]
 pub struct Sense {
     pub key: u8,
     pub asc: u8,

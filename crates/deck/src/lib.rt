@@ -7,6 +7,7 @@ ghost use mathlib.Core.Path.{_≡_};
 ghost use Rattle.deck.specs.Deck.{isEvent, eventMoved, opening, closedPlay, closing, restarted, withDisc, withLock, withPlay, withPage, withEvent, isLoaded};
 
 // Tray open or closed; disc in or not; lock; the play record; the mode page; the media event.
+#[repr(C)]
 pub struct Deck {
     pub tray_open: bool,
     pub disc_in: bool,

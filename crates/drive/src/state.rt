@@ -9,12 +9,14 @@ use page::is_setting;
 ghost use mathlib.Core.Path.{_≡_};
 ghost use Rattle.drive.specs.State.{isKnownState, withDeck, shift, powerOnWith, powerOn, powerOnWithoutChange, moves, refuse, button, lay, lift, moveOn};
 
+#[repr(C)]
 pub struct Drive {
     pub unit: Unit,
     pub deck: Deck,
 }
 
 // A call's answer: the refusal's number or 0, and the next state.
+#[repr(C)]
 pub struct Moved {
     pub number: u8,
     pub state: Drive,

@@ -2,6 +2,7 @@
 ghost use mathlib.Core.Path.{_≡_};
 ghost use Rattle.page.specs.Page.{defaults, among, isSetting};
 
+#[repr(C)]
 pub struct Page {
     pub recovery: u8,
     pub retry: u8,

@@ -5,6 +5,7 @@ ghost use Prim.Native.Nat.{_+_};
 ghost use lib.Dec.{ltb};
 ghost use Rattle.play.specs.Play.{noPlay, withStatus, isStatus, isPlay, movedOn};
 
+#[repr(C)]
 pub struct Play {
     pub status: u8,
     pub position: usize,

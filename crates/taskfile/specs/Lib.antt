@@ -1,0 +1,5 @@
+pub mod TaskFile
+pub mod Run
+pub mod RunLaws
+pub mod Host
+pub mod HostLaws
