@@ -73,6 +73,14 @@ fn perform(f: TaskFile, list: &[u8], d: Drive, table: &[u8], mem: &mut [u8]) -> 
     }
 }
 
+// The same with the list that the record has.
+fn perform_listed(f: TaskFile, d: Drive, table: &[u8], mem: &mut [u8]) -> Stepped
+    ensures { λ r. ⌜ Performed (asks f (f .list) d (now (table .entry)) (now (mem .entry))) f (now (mem .entry)) r (now (mem .exit)) ⌝ }
+{
+    let list = f.list;
+    perform(f, &list, d, table, mem)
+}
+
 // The next byte of the answer, out of the memory lent now; the record becomes next.
 fn give(f: TaskFile, next: TaskFile, d: Drive, mem: &[u8]) -> Stepped
     requires { ⌜ f .at < 6538 ⌝ }
@@ -115,10 +123,7 @@ fn step(
             answer: plain(0, 0, state),
         },
         Due::Performs => perform(next, &[], state, table, mem),
-        Due::PerformsListed => {
-            let list = next.list;
-            perform(next, &list, state, table, mem)
-        }
+        Due::PerformsListed => perform_listed(next, state, table, mem),
         Due::Gives => give(file, next, state, mem),
         Due::Resets => Stepped {
             file: next,
