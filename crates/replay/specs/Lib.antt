@@ -1,1 +1,2 @@
 pub mod Line
+pub mod Task

@@ -1,6 +1,7 @@
-// What is kept from record to record, and what each kind of record does with it (those of the changer in `magazine`).
+// What is kept from record to record, and what each kind of record does with it (those of the changer in `magazine`, of the registers in `host`).
 use crate::given::TOTALS;
 use crate::given::totals_of;
+use crate::host::call_host;
 use crate::line::put_address;
 use crate::line::put_counted;
 use crate::line::put_moved;
@@ -33,13 +34,16 @@ use play::Play;
 use print::front::front;
 use shelf::stream::count_all;
 use target::packet::packet;
+use taskfile::TaskFile;
+use taskfile::started;
 ghost use mathlib.Core.Path.{_≡_};
 ghost use lib.ListN.{length, replicate};
 
-// The drive, the home of the disc in it, how many bytes of the table, of the parameter list and of the response memory are lent, and how many
-// slots.
+// The drive, the register record before it, the home of the disc in it, how many bytes of the table, of the parameter list and of the response
+// memory are lent, and how many slots.
 pub struct Bench {
     pub drive: Drive,
+    pub file: TaskFile,
     pub home: u8,
     pub table: usize,
     pub list: usize,
@@ -85,6 +89,7 @@ pub(crate) fn empty() -> Bench {
     };
     Bench {
         drive: Drive { unit, deck },
+        file: started(),
         home: 0,
         table: 0,
         list: 0,
@@ -94,28 +99,19 @@ pub(crate) fn empty() -> Bench {
 }
 
 // What is kept, with that drive.
-fn with_drive(bench: Bench, drive: Drive) -> Bench {
-    Bench {
-        drive,
-        home: bench.home,
-        table: bench.table,
-        list: bench.list,
-        memory: bench.memory,
-        slots: bench.slots,
-    }
+pub(crate) fn with_drive(bench: Bench, drive: Drive) -> Bench {
+    let mut next = bench;
+    next.drive = drive;
+    next
 }
 
 // What is kept, with so many bytes of the table, of the list and of the memory.
 fn with_lent(bench: Bench, table: usize, list: usize, memory: usize) -> Bench {
-    let drive = bench.drive;
-    Bench {
-        drive,
-        home: bench.home,
-        table,
-        list,
-        memory,
-        slots: bench.slots,
-    }
+    let mut next = bench;
+    next.table = table;
+    next.list = list;
+    next.memory = memory;
+    next
 }
 
 // The run goes on, and the line has len bytes.
@@ -230,18 +226,9 @@ fn set_list(body: &[u8], bench: Bench, list: &mut [u8]) -> Turn {
 // Kind 16: the home of the disc in the drive.
 fn set_home(body: &[u8], bench: Bench, line: &mut [u8]) -> Turn {
     if body.len() == 1 {
-        let drive = bench.drive;
-        return printed(
-            0,
-            Bench {
-                drive,
-                home: body[0],
-                table: bench.table,
-                list: bench.list,
-                memory: bench.memory,
-                slots: bench.slots,
-            },
-        );
+        let mut next = bench;
+        next.home = body[0];
+        return printed(0, next);
     }
     bad(bench, line)
 }
@@ -399,6 +386,7 @@ pub(crate) fn meet(
         17 | 18 => call_power(kind, body, bench, slots, line),
         19 => call_changer(body, bench, table, list, memory, slots, line),
         20 => call_outside(body, bench, slots, line),
+        21..=23 => call_host(kind, body, bench, table, memory, line),
         24 => call_shelf(body, bench, line),
         _ => bad(bench, line),
     }

@@ -66,7 +66,7 @@ fn next_kept(m: Deck, out: &mut [u8]) -> usize
 }
 
 // The state: five flags, the held sense, the play record, the mode page and the media event.
-fn next_state(d: Drive, out: &mut [u8]) -> usize
+pub(crate) fn next_state(d: Drive, out: &mut [u8]) -> usize
     ensures { λ r. ⌜ Laid (now (out .entry)) (stateText d) r (now (out .exit)) ⌝ }
 {
     let m = d.deck;
@@ -87,7 +87,7 @@ fn next_state(d: Drive, out: &mut [u8]) -> usize
 }
 
 // A call's letter, and the refusal's number or 0.
-fn put_call(letter: u8, number: u8, out: &mut [u8]) -> usize
+pub(crate) fn put_call(letter: u8, number: u8, out: &mut [u8]) -> usize
     ensures { λ r. ⌜ Laid (now (out .entry)) (call letter number) r (now (out .exit)) ⌝ }
 {
     let first = [letter];
@@ -109,7 +109,7 @@ fn put_rule(number: u8, rule: u8, out: &mut [u8]) -> usize
 }
 
 // The letter and number of a call that a table's rule can stand beside, and the rule.
-fn put_ruled(letter: u8, number: u8, rule: u8, out: &mut [u8]) -> usize
+pub(crate) fn put_ruled(letter: u8, number: u8, rule: u8, out: &mut [u8]) -> usize
     ensures { λ r. ⌜ Laid (now (out .entry)) (ruledCall letter number rule) r (now (out .exit)) ⌝ }
 {
     let mut at = put_call(letter, number, out);
@@ -118,7 +118,7 @@ fn put_ruled(letter: u8, number: u8, rule: u8, out: &mut [u8]) -> usize
 }
 
 // The Adler-32 of the bytes.
-fn next_sum(s: &[u8], out: &mut [u8]) -> usize
+pub(crate) fn next_sum(s: &[u8], out: &mut [u8]) -> usize
     ensures { λ r. ⌜ Laid (now (out .entry)) (sumText (now (s .entry))) r (now (out .exit)) ⌝ }
 {
     let b = bytes32(adler32(s));

@@ -3,6 +3,7 @@ use crate::bench::Bench;
 use crate::bench::Turn;
 use crate::bench::bad;
 use crate::bench::printed;
+use crate::bench::with_drive;
 use crate::line::put_changer;
 use crate::line::put_stood;
 use changer::Changer;
@@ -31,19 +32,9 @@ fn are_slots(body: &[u8]) -> bool {
 pub(crate) fn set_slots(body: &[u8], bench: Bench, slots: &mut [u8], line: &mut [u8]) -> Turn {
     if body.len() <= slots.len() {
         if are_slots(body) {
-            let drive = bench.drive;
-            let n = copy_front(body, slots);
-            return printed(
-                0,
-                Bench {
-                    drive,
-                    home: bench.home,
-                    table: bench.table,
-                    list: bench.list,
-                    memory: bench.memory,
-                    slots: n,
-                },
-            );
+            let mut next = bench;
+            next.slots = copy_front(body, slots);
+            return printed(0, next);
         }
     }
     bad(bench, line)
@@ -60,15 +51,9 @@ fn changer_of(bench: Bench) -> Changer {
 
 // What is kept, with that changer.
 fn with_changer(bench: Bench, c: Changer) -> Bench {
-    let drive = c.drive;
-    Bench {
-        drive,
-        home: c.home,
-        table: bench.table,
-        list: bench.list,
-        memory: bench.memory,
-        slots: bench.slots,
-    }
+    let mut next = with_drive(bench, c.drive);
+    next.home = c.home;
+    next
 }
 
 // A call on the changer other than a packet was answered.

@@ -1,8 +1,10 @@
 // Runs a recorded stream of calls from standard input, and prints a line for each.
 mod bench;
 mod given;
+mod host;
 mod line;
 mod magazine;
+mod task;
 
 use bench::Bench;
 use bench::Turn;
