@@ -42,10 +42,18 @@ resetLine f a = call 82 (a .number) next standText f (a .state) next lineEnd
 unfoldable pub blocksText : Answer → List ℕ
 blocksText a = ruledCall 119 (a .number) (a .rule) next spaced (decimal (a .start)) next spaced (decimal (a .count))
 
+-- `SUM`, and the line's end
+unfoldable pub lastText : List ℕ → List ℕ
+lastText memory = sumText memory next lineEnd
+
 -- `w N START COUNT REG STATE SUM`
 unfoldable pub wroteLine : TaskFile → Answer → List ℕ → List ℕ
-wroteLine f a memory = blocksText a next standText f (a .state) next sumText memory next lineEnd
+wroteLine f a memory = blocksText a next standText f (a .state) next lastText memory
+
+-- `r N BYTE`: no broken rule stands beside a data read's number
+unfoldable pub givenText : Answer → List ℕ
+givenText a = call 114 (a .number) next spaced (hexByte (a .byte))
 
 -- `r N BYTE REG SUM`
 unfoldable pub readLine : TaskFile → Answer → List ℕ → List ℕ
-readLine f a memory = call 114 (a .number) next spaced (hexByte (a .byte)) next fileText f next sumText memory next lineEnd
+readLine f a memory = givenText a next fileText f next lastText memory

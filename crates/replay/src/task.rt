@@ -17,7 +17,7 @@ use taskfile::run::phase_of;
 ghost use mathlib.Core.Path.{_≡_};
 ghost use Rattle.ground.specs.Memory.{Laid};
 ghost use Rattle.taskfile.specs.Run.{phaseOf};
-ghost use Rattle.replay.specs.Task.{phaseLetter, heldText, fileText, standText, blocksText, resetLine, wroteLine, readLine};
+ghost use Rattle.replay.specs.Task.{phaseLetter, heldText, fileText, standText, blocksText, lastText, givenText, resetLine, wroteLine, readLine};
 
 // The letter of the run that a record is in.
 fn phase_letter(s: Phase) -> u8
@@ -82,14 +82,31 @@ fn put_blocks(a: Answer, out: &mut [u8]) -> usize
     at
 }
 
+// The sum of the response memory, and the line's end.
+fn next_last(memory: &[u8], out: &mut [u8]) -> usize
+    ensures { λ r. ⌜ Laid (now (out .entry)) (lastText (now (memory .entry))) r (now (out .exit)) ⌝ }
+{
+    let mut at = next_sum(memory, out);
+    at += copy_front(b"\n", &mut out[at..]);
+    at
+}
+
 // The line of a write, with the response memory afterwards.
 pub(crate) fn put_wrote(f: TaskFile, a: Answer, memory: &[u8], out: &mut [u8]) -> usize
     ensures { λ r. ⌜ Laid (now (out .entry)) (wroteLine f a (now (memory .entry))) r (now (out .exit)) ⌝ }
 {
     let mut at = put_blocks(a, out);
     at += next_stand(f, a.state, &mut out[at..]);
-    at += next_sum(memory, &mut out[at..]);
-    at += copy_front(b"\n", &mut out[at..]);
+    at += next_last(memory, &mut out[at..]);
+    at
+}
+
+// A data read's number and byte.
+fn put_given(a: Answer, out: &mut [u8]) -> usize
+    ensures { λ r. ⌜ Laid (now (out .entry)) (givenText a) r (now (out .exit)) ⌝ }
+{
+    let mut at = put_call(b'r', a.number, out);
+    at += next_hex(a.byte, &mut out[at..]);
     at
 }
 
@@ -97,10 +114,8 @@ pub(crate) fn put_wrote(f: TaskFile, a: Answer, memory: &[u8], out: &mut [u8]) -
 pub(crate) fn put_read(f: TaskFile, a: Answer, memory: &[u8], out: &mut [u8]) -> usize
     ensures { λ r. ⌜ Laid (now (out .entry)) (readLine f a (now (memory .entry))) r (now (out .exit)) ⌝ }
 {
-    let mut at = put_call(b'r', a.number, out);
-    at += next_hex(a.byte, &mut out[at..]);
+    let mut at = put_given(a, out);
     at += next_file(f, &mut out[at..]);
-    at += next_sum(memory, &mut out[at..]);
-    at += copy_front(b"\n", &mut out[at..]);
+    at += next_last(memory, &mut out[at..]);
     at
 }
