@@ -72,29 +72,35 @@ pub struct BadRecord;
 /// "At the start: state all zero, no table, no memory." K4's parameter list is
 /// "empty at the start"; of K11 no slots are lent then and the home is 0; K14's record
 /// is as it stands behind a reset, and no other record touches it.
-struct Bench {
+pub struct Bench {
     state: State,
-    registers: Registers,
+    pub registers: Registers,
     home: u8,
     slots: Vec<Slot>,
     table: Vec<u8>,
     list: Vec<u8>,
     memory: Vec<u8>,
-    lines: String,
+    pub lines: String,
+}
+
+impl Default for Bench {
+    fn default() -> Bench {
+        Bench {
+            state: START,
+            registers: Registers::START,
+            home: 0,
+            slots: Vec::new(),
+            table: Vec::new(),
+            list: Vec::new(),
+            memory: Vec::new(),
+            lines: String::new(),
+        }
+    }
 }
 
 /// Everything that must be printed for this stream.
 pub fn run(input: &[u8]) -> String {
-    let mut bench = Bench {
-        state: START,
-        registers: Registers::START,
-        home: 0,
-        slots: Vec::new(),
-        table: Vec::new(),
-        list: Vec::new(),
-        memory: Vec::new(),
-        lines: String::new(),
-    };
+    let mut bench = Bench::default();
     let mut rest = input;
     while !rest.is_empty() {
         match take_record(rest).and_then(|(kind, body, after)| {
@@ -210,7 +216,7 @@ pub fn hex(bytes: &[u8]) -> String {
 }
 
 impl Bench {
-    fn record(&mut self, kind: u8, body: &[u8]) -> Result<(), BadRecord> {
+    pub fn record(&mut self, kind: u8, body: &[u8]) -> Result<(), BadRecord> {
         match (kind, body) {
             (STATE, body) => {
                 self.state = state_of(body.try_into().map_err(|_| BadRecord)?)?;
