@@ -29,7 +29,7 @@ pub const DRAWN: usize = 600;
 /// stored are picked.
 const SHELVES: usize = 150;
 const CHANGERS: usize = 6;
-const REGISTERS: usize = 40;
+const REGISTERS: usize = 14;
 
 pub fn stored_stream() -> Stream {
     let mut stream = Stream::new();

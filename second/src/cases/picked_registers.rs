@@ -86,13 +86,10 @@ pub fn limits_at_the_ends(stream: &mut Stream) {
     bench(stream, State::READY);
     for (count, length) in [
         (2, 3),
-        (3, 4),
         (3, 5),
         (5, 5),
-        (7, 8),
         (8, 8),
-        (0x0100, 5),
-        (0x8003, 3),
+        (0x0103, 5),
         (0xFFFD, 2),
         (0xFFFE, 3),
         (0xFFFF, 3),
@@ -194,7 +191,7 @@ pub fn count_by_halves(stream: &mut Stream) {
 /// bits and its DRV among them.
 pub fn held_registers(stream: &mut Stream) {
     bench(stream, State::READY);
-    for (features, drive) in [(0x01, 0x10), (0x03, 0xB0), (0xFF, 0xFF), (0x00, 0x00)] {
+    for (features, drive) in [(0x03, 0xB0), (0xFF, 0xFF)] {
         stream.write(Register::Features, features);
         stream.write(Register::Drive, drive);
         ask(stream, 4, &inquiry(5));

@@ -37,7 +37,8 @@ pub fn lists_by_limit(stream: &mut Stream) {
     }
 }
 
-/// By limits 4 and 0, each with 5Ah behind it; no answer comes of a list.
+/// By limits 4 and 0, each with 5Ah behind it; no answer comes of a list. One that is wrong,
+/// by limit FFFFh.
 pub fn lists_in_runs(stream: &mut Stream) {
     bench(stream, State::READY);
     for (count, recovery) in [(5, 0x24), (0, 0x31)] {
@@ -46,6 +47,8 @@ pub fn lists_in_runs(stream: &mut Stream) {
         stream.read();
         ask(stream, 16, &mode_sense(0, 1, 12));
     }
+    limit(stream, 0xFFFF);
+    select(stream, &full_list(0x02, 0x77));
 }
 
 /// Wrong in a place, or right where it is not looked at: 05/26/00 once it is whole.
@@ -65,7 +68,7 @@ pub fn wrong_lists(stream: &mut Stream) {
 pub fn lists_while_pending(stream: &mut Stream) {
     bench(stream, GREETING);
     limit(stream, 0);
-    for _ in 0..3 {
+    for _ in 0..2 {
         select(stream, &page_list(0x11, 0x22));
     }
     // It becomes pending while the list enters.
@@ -102,19 +105,15 @@ pub fn lists_refused(stream: &mut Stream) {
 pub fn no_lists(stream: &mut Stream) {
     bench(stream, State::READY);
     stream.list(&page_list(0x21, 0x12));
-    for length in [0, 8, 15, 17] {
+    for length in [0, 8, 15, 17, 0x1000, 0x0110] {
         packet(stream, &mode_select(length));
     }
-    for length in [0x0010u16, 0x1000, 0x1010, 0x0110] {
-        let mut other = mode_select(length);
-        other[0] = 0x15;
-        packet(stream, &other);
-        if length != 0x0010 {
-            packet(stream, &mode_select(length));
-        }
-    }
+    let mut other = mode_select(16);
+    other[0] = 0x15;
+    packet(stream, &other);
+    packet(stream, &mode_sense(0, 1, 16));
+    stream.reset();
     stream.list(&[]);
-    select(stream, &page_list(0x21, 0x12));
 }
 
 /// Data reads and other writes while the list enters are 15; the list is as it was.

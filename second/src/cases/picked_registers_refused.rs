@@ -32,15 +32,13 @@ fn others(stream: &mut Stream) {
 }
 
 /// At the very start: the record as a reset leaves it, a state that 2 covers, no memory.
+/// All that is left of it is a limit.
 pub fn at_the_start(stream: &mut Stream) {
     stream.read();
     stream.write(Register::Data, 0x12);
     packet(stream, &inquiry(36));
     stream.read();
-    stream.reset();
-    packet(stream, &inquiry(36));
-    stream.memory(MEMORY, 0x00);
-    ask(stream, 0, &inquiry(4));
+    stream.write(Register::CountHigh, 0x00);
 }
 
 /// A data read while idle, while the packet enters, and behind the last byte.
@@ -218,10 +216,11 @@ pub fn resets_of_states(stream: &mut Stream) {
 /// byte.
 pub fn packets_cut_off(stream: &mut Stream) {
     bench(stream, State::READY);
-    for place in 0..12 {
+    for place in [0, 1, 5, 11] {
         begin(stream);
-        enter(stream, &[0x12, 0, 0, 0, 36, 0, 0, 0, 0, 0, 0, 0][..place]);
+        enter(stream, &inquiry(36)[..place]);
         stream.reset();
+        stream.state(State::READY);
     }
     ask_again(stream, &capacity());
 }
