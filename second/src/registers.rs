@@ -190,7 +190,7 @@ impl Registers {
     pub fn left(&self) -> usize {
         match &self.transfer {
             Transfer::Idle => 0,
-            Transfer::Packet(entered) => PACKET_BYTES - entered.len(),
+            Transfer::Packet(entered) => PACKET_BYTES.saturating_sub(entered.len()),
             Transfer::List { runs, .. } | Transfer::Answer(runs) => runs.left(),
         }
     }
@@ -202,6 +202,20 @@ impl Registers {
             Transfer::Packet(_) => 'P',
             Transfer::List { .. } => 'L',
             Transfer::Answer(_) => 'A',
+        }
+    }
+
+    /// Whether calls could have made this record. "A record that no call could have made is
+    /// in no run": one with twelve bytes and still waiting, or with a list that its packet
+    /// does not ask for.
+    fn is_made(&self) -> bool {
+        match &self.transfer {
+            Transfer::Idle => true,
+            Transfer::Packet(entered) => entered.len() < PACKET_BYTES,
+            Transfer::List { packet, list, runs } => {
+                takes_list(packet) && list.len() == runs.gone && runs.gone < LIST_BYTES
+            }
+            Transfer::Answer(runs) => !runs.over() && runs.whole <= BOUND,
         }
     }
 
@@ -234,6 +248,9 @@ impl Registers {
         let Transfer::Answer(mut runs) = self.transfer else {
             return Err(Refusal::OutOfTurn);
         };
+        if !self.is_made() {
+            return Err(Refusal::OutOfTurn);
+        }
         if memory.len() < BOUND {
             return Err(Refusal::SmallMemory);
         }
@@ -287,6 +304,9 @@ impl Registers {
     /// A data write. "15 .. for .. a data write outside packet and list runs".
     fn data(&mut self, value: u8, lent: Lent) -> Written {
         let still = Written::still(lent.state, None);
+        if !self.is_made() {
+            return Written::still(lent.state, Some(Refusal::OutOfTurn));
+        }
         match self.transfer.clone() {
             Transfer::Packet(mut packet) => {
                 packet.push(value);
@@ -355,6 +375,9 @@ impl Registers {
 
 /// "Only 55h asking for 16 bytes takes a list; else it is empty."
 fn takes_list(packet: &[u8]) -> bool {
-    let asked = u16::from_be_bytes([packet[7], packet[8]]);
-    packet[0] == MODE_SELECT && usize::from(asked) == LIST_BYTES
+    let &[code, _, _, _, _, _, _, high, low, ..] = packet else {
+        return false;
+    };
+    let asked = usize::from(u16::from_be_bytes([high, low]));
+    code == MODE_SELECT && asked == LIST_BYTES
 }

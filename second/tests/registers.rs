@@ -19,7 +19,7 @@ use second::limits::BOUND;
 use second::mode_page::ModePage;
 use second::play::{Play, PLAYING};
 use second::refusal::Refusal;
-use second::registers::{run_size, Register, Registers, Written, PACKET, SIGNATURE};
+use second::registers::{run_size, Register, Registers, Transfer, Written, PACKET, SIGNATURE};
 use second::replay::{self, take_record};
 use second::rng::Rng;
 use second::sense::Sense;
@@ -870,7 +870,8 @@ fn runs_read_the_memory_lent() {
     rig.packet(&inquiry(10));
     let mut bytes = Vec::new();
     for turn in 0..10u8 {
-        rig.memory = vec![turn; BOUND + usize::from(turn)];
+        rig.memory = vec![0xEE; BOUND + usize::from(turn)];
+        rig.memory[usize::from(turn)] = turn;
         bytes.push(rig.read().expect("an answer run"));
     }
     assert_eq!(bytes, [0, 1, 2, 3, 4, 5, 6, 7, 8, 9]);
@@ -1050,6 +1051,37 @@ fn fifteen_leaves_the_record() {
     }
     assert_eq!(bytes, inquiry_answer()[..15]);
     assert_eq!(rig, plain);
+}
+
+/// "A record that no call could have made is in no run: a data read or write there is 15."
+#[test]
+fn fifteen_in_a_record_that_none_made() {
+    let list = |packet: Packet, came: usize| {
+        let Transfer::List { runs, .. } = Rig::in_list().registers.transfer else {
+            panic!("a list run");
+        };
+        Transfer::List {
+            packet: packet.to_vec(),
+            list: vec![0; came],
+            runs,
+        }
+    };
+    assert_eq!(Rig::in_list().registers.transfer, list(mode_select(16), 1));
+    for transfer in [
+        Transfer::Packet(vec![0x12; 12]),
+        Transfer::Packet(vec![0x12; 13]),
+        list(mode_select(16), 2),
+        list(mode_select(16), 0),
+        list(mode_select(8), 1),
+        list(inquiry(16), 1),
+    ] {
+        let mut rig = Rig::new(READY);
+        rig.registers.transfer = transfer;
+        assert_eq!(rig.unread(), 15);
+        assert_eq!(rig.refused(Register::Data, 0), 15);
+        rig.reset();
+        assert_eq!(rig.registers, Registers::START);
+    }
 }
 
 /// "A data read in an answer run with response memory under 6,538 bytes is refused by 3,
