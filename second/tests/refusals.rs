@@ -206,7 +206,7 @@ fn five_six_seven_tray() {
 }
 
 /// K9: "Other numbers stay." 8 and 10 are met in `marked` and `rules`, K11's in `changers`,
-/// K12's in `sheets`, K14's in `registers`.
+/// K12's in `sheets`, K14's in `transfers`.
 #[test]
 fn numbers_in_use() {
     let all = [
