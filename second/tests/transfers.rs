@@ -953,7 +953,7 @@ fn target_refusals_handed_on() {
     for rule in 1..=7 {
         let mut rig = Rig::new(READY);
         rig.table = alone(rule);
-        assert_eq!(both(rig.packet(&test_ready()).refusal), (4, rule as u8));
+        assert_eq!(both(rig.packet(&test_ready()).refusal), (4, rule));
         rig.state = EMPTY;
         assert_eq!(both(rig.packet(&test_ready()).refusal), (0, 0));
     }
@@ -1330,7 +1330,10 @@ impl Plain {
                 }
                 (0, 0)
             }
-            (1, 'I') => (self.features = value, (0, 0)).1,
+            (1, 'I') => {
+                self.features = value;
+                (0, 0)
+            }
             (4, 'I') => {
                 (
                     self.count = self.count & 0xFF00 | usize::from(value),
@@ -1345,7 +1348,10 @@ impl Plain {
                 )
                     .1
             }
-            (6, 'I') => (self.drive = value, (0, 0)).1,
+            (6, 'I') => {
+                self.drive = value;
+                (0, 0)
+            }
             (7, 'I') if value == 0xA0 => {
                 (self.part, self.left) = ('P', 12);
                 self.entered.clear();
@@ -1524,9 +1530,8 @@ fn lines_of_completing_writes() {
     assert_eq!((others.count(), lines.len()), (24, 26));
 }
 
-/// No other record touches the register record: with register calls taken out of a stream
-/// the other lines are what they were but for state and memory, and with all the others put
-/// between, a transfer goes on.
+/// No other record touches the register record: with all kinds of them put between the calls
+/// of a transfer, the records that its lines show are the same.
 #[test]
 fn no_other_record_touches_it() {
     let mut others = Stream::new();

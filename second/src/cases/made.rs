@@ -66,7 +66,7 @@ macro_rules! named {
     };
 }
 
-const MAKERS: [(&str, Maker); 269] = [
+const MAKERS: [(&str, Maker); 270] = [
     named!(Start, picked_state::from_nothing),
     named!(Calls, picked_state::attentions),
     named!(Calls, picked_state::senses),
@@ -276,6 +276,7 @@ const MAKERS: [(&str, Maker); 269] = [
     named!(Calls, picked_registers::calls_between_runs),
     named!(Calls, picked_registers::memory_between_runs),
     named!(Calls, picked_registers_lists::lists_by_limit),
+    named!(Calls, picked_registers_lists::lists_in_every_case),
     named!(Calls, picked_registers_lists::lists_in_runs),
     named!(Calls, picked_registers_lists::wrong_lists),
     named!(Calls, picked_registers_lists::lists_while_pending),

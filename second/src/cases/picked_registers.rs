@@ -1,6 +1,7 @@
 //! K14's answer runs, picked by hand: every limit, every length, what the byte count holds,
 //! and what is handed on of the packet.
 
+use crate::cases::cue_sheet::two_tracks;
 use crate::cases::host::{
     ask, ask_again, begin, enter, limit, packet, read, read_all, read_run, select,
 };
@@ -304,6 +305,8 @@ pub fn memory_between_runs(stream: &mut Stream) {
     stream.memory(8_191, 0x3C);
     read(stream, 3);
     stream.packet(&inquiry(36));
+    read(stream, 4);
+    stream.cue_sheet(&two_tracks().bytes());
     read_all(stream);
     stream.read();
 }

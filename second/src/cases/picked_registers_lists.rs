@@ -7,6 +7,7 @@ use crate::cases::packets::{
 };
 use crate::cases::picked_registers::{bench, GREETING};
 use crate::cases::picked_state::MEMORY;
+use crate::cases::several::alone;
 use crate::cases::sheet::disc_e;
 use crate::cases::stream::Stream;
 use crate::drive::State;
@@ -34,6 +35,40 @@ pub fn lists_by_limit(stream: &mut Stream) {
         limit(stream, count);
         select(stream, &full_list(0x35, count as u8));
         ask(stream, count, &mode_sense(0, 1, 16));
+    }
+}
+
+/// By each of these limits, good and wrong, with both attentions pending, with an unfit disc,
+/// with a short memory, with a state that 2 covers, and with no disc in a tray that is open
+/// or closed.
+pub fn lists_in_every_case(stream: &mut Stream) {
+    bench(stream, State::READY);
+    let (good, wrong) = (full_list(0x10, 0x01), full_list(0x08, 0x01));
+    for count in [1, 2, 3, 4, 5, 16, 0] {
+        let unsound = State {
+            event: 9,
+            ..State::READY
+        };
+        let open = State {
+            tray_open: true,
+            ..State::EMPTY
+        };
+        for drive in [State::READY, GREETING, unsound, State::EMPTY, open] {
+            stream.state(drive);
+            limit(stream, count);
+            select(stream, &good);
+        }
+        stream.state(State::READY);
+        limit(stream, count);
+        select(stream, &wrong);
+        stream.table(&alone(3));
+        limit(stream, count);
+        select(stream, &good);
+        stream.memory(MEMORY - 1, 0x00);
+        limit(stream, count);
+        select(stream, &wrong);
+        stream.memory(MEMORY, 0x00);
+        stream.table(&disc_e().bytes());
     }
 }
 
@@ -123,7 +158,7 @@ pub fn list_out_of_turn(stream: &mut Stream) {
     packet(stream, &mode_select(16));
     let list = full_list(0x14, 0x41);
     for (place, byte) in (0..).zip(list) {
-        if [0, 1, 5, 6, 7, 12, 15].contains(&place) {
+        if [0, 1, 5, 6, 7, 8, 14, 15].contains(&place) {
             stream.read();
             stream.write(Register::ALL[1 + place % 5], 0xA0);
         }
