@@ -15,6 +15,9 @@ const LIMIT: u16 = 16;
 
 const CHECK_CONDITION: u8 = 0x02;
 
+/// Times that a packet is sent again: more than there are attentions to be told.
+const AGAIN: usize = 8;
+
 /// The registers with all that is lent to them.
 pub struct Board {
     pub registers: Registers,
@@ -86,7 +89,10 @@ pub fn example() -> String {
     let mut board = Board::with_disc_e();
     board.reset();
     for packet in [inquiry(36), toc(false, 0, 0, 804), capacity()] {
-        while told(&mut board, &packet, &mut text) == CHECK_CONDITION {
+        for _ in 0..AGAIN {
+            if told(&mut board, &packet, &mut text) != CHECK_CONDITION {
+                break;
+            }
             told(&mut board, &request_sense(18), &mut text);
         }
     }

@@ -2,6 +2,7 @@
 
 use crate::cases::packets::{mode_select, Packet};
 use crate::cases::stream::Stream;
+use crate::limits::BOUND;
 use crate::registers::{Register, Transfer, PACKET};
 
 /// The byte count, low then high.
@@ -45,9 +46,12 @@ pub fn read_run(stream: &mut Stream) {
     }
 }
 
-/// Data reads until status ends the transfer.
+/// Data reads until status ends the transfer: no answer has more runs than bytes.
 pub fn read_all(stream: &mut Stream) {
-    while matches!(stream.registers().transfer, Transfer::Answer(_)) {
+    for _ in 0..BOUND {
+        if !matches!(stream.registers().transfer, Transfer::Answer(_)) {
+            return;
+        }
         read_run(stream);
     }
 }
