@@ -1,5 +1,6 @@
 //! The example files for the README.
 
+use crate::board;
 use crate::cases::draft;
 use crate::cases::mmc_sheets::samples;
 use crate::cases::packets::{capacity, read10, request_sense, test_ready, toc, Packet};
@@ -121,5 +122,7 @@ pub fn files() -> Vec<File> {
     files.extend(cue_sheets());
     files.push(("shelf.tables".into(), shelf()));
     files.push(("shelf.totals".into(), printed(&shelf()).into()));
+    // K14: what the firmware example at the registers must print.
+    files.push(("board.expected".into(), board::example().into()));
     files
 }

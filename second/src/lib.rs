@@ -1,11 +1,12 @@
 //! An independent second program for the packet target of the build
-//! definition (called "01" in the comments; K1 to K13 are the change requests built
+//! definition (called "01" in the comments; K1 to K14 are the change requests built
 //! on it). It shares no code with the target: the two meet through files only.
 
 pub mod address;
 pub mod adler;
 pub mod answers;
 pub mod appendix;
+pub mod board;
 pub mod cases;
 pub mod changer;
 pub mod cue;
@@ -19,6 +20,7 @@ pub mod mode_page;
 pub mod packet;
 pub mod play;
 pub mod refusal;
+pub mod registers;
 pub mod replay;
 pub mod rng;
 pub mod sense;

@@ -34,10 +34,14 @@ pub enum Refusal {
     UnfitSheet,
     /// K12: "output memory under 6,538 bytes"
     SmallOutput,
+    /// K14: "a data read outside answer runs, a data write outside packet and list
+    /// runs, a command other than A0h, or any other write before status has ended a
+    /// transfer"
+    OutOfTurn,
 }
 
 impl Refusal {
-    /// 1 to 8 and 10 to 14: where K9 took one away, "Other numbers stay."
+    /// 1 to 8 and 10 to 15: where K9 took one away, "Other numbers stay."
     pub fn number(self) -> u8 {
         match self {
             Refusal::PacketLength => 1,
@@ -53,6 +57,7 @@ impl Refusal {
             Refusal::SheetLength => 12,
             Refusal::UnfitSheet => 13,
             Refusal::SmallOutput => 14,
+            Refusal::OutOfTurn => 15,
         }
     }
 

@@ -13,6 +13,7 @@ use crate::mode_page::ModePage;
 use crate::packet;
 use crate::play::Play;
 use crate::refusal::Refusal;
+use crate::registers::{Register, Registers};
 use crate::sense::Sense;
 use crate::shelf::{self, TooLarge, Totals};
 use crate::table;
@@ -38,7 +39,9 @@ pub const CHANGER_POWER_ON: u8 = 17;
 pub const CHANGER_POWER_ON_WITHOUT_CHANGE: u8 = 18;
 pub const CHANGER_PACKET: u8 = 19;
 pub const CHANGER_MOVE_ON: u8 = 20;
-/// K13's; the kinds between are for a request still to come.
+pub const RESET: u8 = 21;
+pub const WRITE: u8 = 22;
+pub const READ: u8 = 23;
 pub const SHELF: u8 = 24;
 
 /// Whether a record of this kind is a call, and so has a line of its own: the
@@ -67,28 +70,37 @@ const START: State = State {
 pub struct BadRecord;
 
 /// "At the start: state all zero, no table, no memory." K4's parameter list is
-/// "empty at the start"; of K11 no slots are lent then and the home is 0.
-struct Bench {
+/// "empty at the start"; of K11 no slots are lent then and the home is 0; K14's record
+/// is as it stands behind a reset, and no other record touches it.
+pub struct Bench {
     state: State,
+    pub registers: Registers,
     home: u8,
     slots: Vec<Slot>,
     table: Vec<u8>,
     list: Vec<u8>,
     memory: Vec<u8>,
-    lines: String,
+    pub lines: String,
+}
+
+impl Default for Bench {
+    fn default() -> Bench {
+        Bench {
+            state: START,
+            registers: Registers::START,
+            home: 0,
+            slots: Vec::new(),
+            table: Vec::new(),
+            list: Vec::new(),
+            memory: Vec::new(),
+            lines: String::new(),
+        }
+    }
 }
 
 /// Everything that must be printed for this stream.
 pub fn run(input: &[u8]) -> String {
-    let mut bench = Bench {
-        state: START,
-        home: 0,
-        slots: Vec::new(),
-        table: Vec::new(),
-        list: Vec::new(),
-        memory: Vec::new(),
-        lines: String::new(),
-    };
+    let mut bench = Bench::default();
     let mut rest = input;
     while !rest.is_empty() {
         match take_record(rest).and_then(|(kind, body, after)| {
@@ -204,7 +216,7 @@ pub fn hex(bytes: &[u8]) -> String {
 }
 
 impl Bench {
-    fn record(&mut self, kind: u8, body: &[u8]) -> Result<(), BadRecord> {
+    pub fn record(&mut self, kind: u8, body: &[u8]) -> Result<(), BadRecord> {
         match (kind, body) {
             (STATE, body) => {
                 self.state = state_of(body.try_into().map_err(|_| BadRecord)?)?;
@@ -274,6 +286,16 @@ impl Bench {
                 self.changer_moved('M', self.changer().move_on(k.into()));
             }
             (CHANGER_PACKET, packet) => self.changer_packet(packet),
+            // K14: "kind 21, reset, line `R N REG STATE`"
+            (RESET, []) => {
+                self.state = self.registers.reset(self.state);
+                let registers = self.registers.text();
+                self.line(format!("R 0 {registers} {}", state_text(self.state)));
+            }
+            (WRITE, &[register, value]) => {
+                self.write(Register::at(register).ok_or(BadRecord)?, value);
+            }
+            (READ, []) => self.read(),
             (SHELF, body) => {
                 let (totals, tables) = body.split_at_checked(SHELF_BYTES).ok_or(BadRecord)?;
                 self.shelf(totals_of(totals), tables);
@@ -356,6 +378,36 @@ impl Bench {
             reply.count,
             self.changer_text(),
             hex(&self.memory[..reply.length]),
+            adler32(&self.memory),
+        ));
+    }
+
+    /// K14: "kind 22, a write: register .. and value, `w N START COUNT REG STATE SUM`".
+    /// State, table and memory are those of the other records.
+    fn write(&mut self, register: Register, value: u8) {
+        let (registers, memory) = (&mut self.registers, &mut self.memory);
+        let written = registers.write(register, value, self.state, &self.table, memory);
+        self.state = written.next;
+        self.line(format!(
+            "w {} {} {} {} {} {:08X}",
+            number(written.refusal),
+            written.start,
+            written.count,
+            self.registers.text(),
+            state_text(self.state),
+            adler32(&self.memory),
+        ));
+    }
+
+    /// K14: "kind 23, a data read, `r N BYTE REG SUM` (BYTE two hex digits, 00 where
+    /// refused)".
+    fn read(&mut self) {
+        let result = self.registers.read(&self.memory);
+        self.line(format!(
+            "r {} {:02X} {} {:08X}",
+            number(result.err()),
+            result.unwrap_or(0x00),
+            self.registers.text(),
             adler32(&self.memory),
         ));
     }

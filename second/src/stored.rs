@@ -22,20 +22,22 @@ use crate::rng::Rng;
 pub const SEED: u64 = 0x01C_D0D;
 
 /// Calls drawn for the stored stream behind the picked ones; K12's cue sheets, K13's
-/// shelves and K11's scenes come on top.
+/// shelves, K11's scenes and K14's come on top.
 pub const DRAWN: usize = 600;
 
-/// Drawn shelves and changers come behind one scene in so many: most of those stored are
-/// picked.
+/// Drawn shelves, changers and registers come behind one scene in so many: most of those
+/// stored are picked.
 const SHELVES: usize = 150;
 const CHANGERS: usize = 6;
+const REGISTERS: usize = 14;
 
 pub fn stored_stream() -> Stream {
     let mut stream = Stream::new();
     picked::all(&mut stream);
     let mut rng = Rng::new(SEED);
     let picked = stream.calls - stream.sheets - stream.shelves;
-    random::fill_with(&mut stream, &mut rng, picked + DRAWN, SHELVES, CHANGERS);
+    let calls = picked + DRAWN;
+    random::fill_with(&mut stream, &mut rng, calls, SHELVES, CHANGERS, REGISTERS);
     bad::end(&mut stream, &mut rng, SEED);
     stream
 }

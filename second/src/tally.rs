@@ -4,7 +4,8 @@
 //! and 55h, by outcome (K4), how many 4Ah, by class and by outcome, and presses
 //! under lock (K7), how many pairs of calls that may cancel (K8), how many calls are met
 //! by twin tables, by command (K10), how many cue sheets, by outcome (K12), what its shelves
-//! hold (K13), and what the changer is asked for, by outcome (K11).
+//! hold (K13), what the changer is asked for, by outcome (K11), and what the registers are,
+//! with their runs by limit (K14).
 
 use std::fmt::Write;
 
@@ -42,7 +43,7 @@ pub fn of(stream: &[u8]) -> [Met; 7] {
         if let Some((letter, rule)) = lines.next().and_then(refused_by_4) {
             let met = &mut tally[rule - 1];
             met.tables += usize::from(fresh);
-            met.packets += usize::from(letter.eq_ignore_ascii_case("p"));
+            met.packets += usize::from(["p", "P", "w"].contains(&letter));
             met.parts += usize::from(letter == "s");
             fresh = false;
         }
@@ -202,16 +203,21 @@ pub fn modes(stream: &[u8]) -> Modes {
     modes
 }
 
-/// Whether a record is a packet to either device: the state stands behind four words of
-/// its line.
-fn is_packet(kind: u8) -> bool {
-    [replay::PACKET, replay::CHANGER_PACKET].contains(&kind)
+/// Where the state begins in the line of a call of this kind: behind its number, what a
+/// packet gives, and the registers.
+fn state_place(kind: u8) -> usize {
+    match kind {
+        replay::PACKET | replay::CHANGER_PACKET => 6,
+        replay::RESET => 2 + REG,
+        replay::WRITE => 4 + REG,
+        _ => 2,
+    }
 }
 
 /// Whether the recovery byte in a line is one of the twenty: it stands behind the
 /// play record, which has three words.
 fn has_a_setting(words: &[&str], kind: u8) -> bool {
-    let place = if is_packet(kind) { 13 } else { 9 };
+    let place = state_place(kind) + 7;
     let named = |setting: &u8| format!("{setting:02X}") == words[place];
     SETTINGS.iter().any(named)
 }
@@ -288,8 +294,7 @@ pub fn events(stream: &[u8]) -> Events {
 
 /// The event in a line, the last word of the state.
 fn event_in(words: &[&str], kind: u8) -> Option<u8> {
-    let place = if is_packet(kind) { DATA - 1 } else { 11 };
-    words.get(place)?.parse().ok()
+    words.get(state_place(kind) + 9)?.parse().ok()
 }
 
 /// The byte at this place of what is printed.
@@ -382,11 +387,14 @@ pub fn pairs(stream: &[u8]) -> Pairs {
     pairs
 }
 
-/// The flags in the line of a call on the drive, or on the changer, which shares it.
+/// The flags in the line of a call on the drive, or on the changer or the registers, which
+/// share it.
 fn state_in<'a>(words: &[&'a str]) -> Option<&'a str> {
     match words[0] {
         "o" | "q" | "b" | "d" | "u" | "m" | "O" | "Q" | "M" => Some(words[2]),
         "p" | "P" => Some(words[6]),
+        "R" => Some(words[2 + REG]),
+        "w" => Some(words[4 + REG]),
         _ => None,
     }
 }
@@ -820,10 +828,195 @@ fn place_of(why: Obstacle) -> usize {
     }
 }
 
+/// Words of the register record in a line.
+const REG: usize = 7;
+
+/// What a stream has of K14.
+#[derive(Clone, Copy, Debug, Default, PartialEq, Eq)]
+pub struct Transfers {
+    /// Resets while idle, while a packet enters, while a list does, and in answer runs.
+    pub resets: [usize; 4],
+    /// Writes of features, byte count and drive that are held, and commands A0h.
+    pub held: usize,
+    pub begun: usize,
+    /// Data writes that complete no packet: of a packet, and of a list.
+    pub entered: [usize; 2],
+    /// Packets performed: GOOD with no answer, GOOD with one, CHECK CONDITION.
+    pub performed: [usize; 3],
+    /// Packets that the target refuses by 2, 3 and 4.
+    pub refused: [usize; 3],
+    /// Data reads that give a byte, and those that 3 refuses.
+    pub bytes: usize,
+    pub unread: usize,
+    /// What 15 refuses, in the order of `FIFTEEN`.
+    pub fifteen: [usize; 9],
+    /// Lists asked for; those that set the page, that are wrong, whose packet tells an
+    /// attention, and whose packet is refused.
+    pub lists: [usize; 5],
+    /// Transfers with a list or an answer, and their runs, in the order of `LIMITS`.
+    pub transfers: [usize; 6],
+    pub runs: [usize; 6],
+}
+
+/// What 15 refuses: data reads, data writes, commands while idle, and other writes, by what
+/// is under way.
+const FIFTEEN: [&str; 9] = [
+    "read-idle",
+    "read-packet",
+    "read-list",
+    "data-idle",
+    "data-answer",
+    "command",
+    "other-packet",
+    "other-list",
+    "other-answer",
+];
+
+/// The limits that K14 tells apart.
+const LIMITS: [&str; 6] = ["zero", "one", "odd", "even", "FFFEh", "FFFFh"];
+
+/// The register record in a line.
+#[derive(Clone, Copy)]
+struct Shown {
+    phase: char,
+    count: u16,
+    status: u8,
+    left: usize,
+}
+
+impl Shown {
+    const START: Shown = Shown {
+        phase: 'I',
+        count: 0xEB14,
+        status: 0,
+        left: 0,
+    };
+
+    fn of(words: &[&str]) -> Shown {
+        let hex = |word: &str| u16::from_str_radix(word, 16).unwrap_or(0);
+        Shown {
+            phase: words[0].chars().next().unwrap_or('I'),
+            count: hex(words[2]),
+            status: hex(words[5]) as u8,
+            left: words[6].parse().unwrap_or(0),
+        }
+    }
+
+    /// Where the phase stands in `resets`.
+    fn place(self) -> usize {
+        "IPLA".find(self.phase).unwrap_or(0)
+    }
+
+    /// Where its limit stands in `LIMITS`.
+    fn limit(self) -> usize {
+        match self.count {
+            0 => 0,
+            1 => 1,
+            0xFFFE => 4,
+            0xFFFF => 5,
+            count if count % 2 == 1 => 2,
+            _ => 3,
+        }
+    }
+}
+
+/// Each register call by the record before it and the one in its line.
+pub fn transfers(stream: &[u8]) -> Transfers {
+    let lines = replay::run(stream);
+    let mut lines = lines.lines();
+    let (mut rest, mut transfers) = (stream, Transfers::default());
+    let (mut before, mut limit) = (Shown::START, 0);
+    while let Ok((kind, body, after)) = take_record(rest) {
+        rest = after;
+        if !replay::is_call(kind) {
+            continue;
+        }
+        let Some(line) = lines.next().filter(|&line| line != "bad record") else {
+            break;
+        };
+        let words: Vec<&str> = line.split(' ').collect();
+        let shown = match kind {
+            replay::RESET => Shown::of(&words[2..]),
+            replay::WRITE => Shown::of(&words[4..]),
+            replay::READ => Shown::of(&words[3..]),
+            _ => continue,
+        };
+        if (before.phase, before.left) == ('P', 1) {
+            limit = before.limit();
+        }
+        transfers.count(kind, body, &words, before, shown);
+        transfers.count_run(&words, before, shown, limit);
+        before = shown;
+    }
+    transfers
+}
+
+impl Transfers {
+    fn count(&mut self, kind: u8, body: &[u8], words: &[&str], before: Shown, shown: Shown) {
+        match (kind, words[1]) {
+            (replay::RESET, _) => self.resets[before.place()] += 1,
+            (replay::READ, "0") => self.bytes += 1,
+            (replay::READ, "3") => self.unread += 1,
+            (replay::READ, _) => self.fifteen[before.place()] += 1,
+            (_, "15") => self.fifteen[fifteen(body[0], before)] += 1,
+            (_, "0") if body[0] == 7 => self.begun += 1,
+            (_, "0") if body[0] != 0 => self.held += 1,
+            (_, number) => self.count_data(number, words, before, shown),
+        }
+    }
+
+    /// A data write that 15 does not refuse.
+    fn count_data(&mut self, number: &str, words: &[&str], before: Shown, shown: Shown) {
+        let list = before.phase == 'L';
+        if number != "0" {
+            let place = usize::from(number.as_bytes()[0] - b'2');
+            self.refused[place] += 1;
+            self.lists[4] += usize::from(list);
+            return;
+        }
+        if ['P', 'L'].contains(&shown.phase) {
+            self.entered[usize::from(list)] += 1;
+            self.lists[0] += usize::from(!list && shown.phase == 'L');
+            return;
+        }
+        let answer = usize::from(shown.phase == 'A');
+        self.performed[if shown.status == 0 { answer } else { 2 }] += 1;
+        if list {
+            let key = words[5 + REG];
+            let place = match (shown.status, key) {
+                (0, _) => 1,
+                (_, "06") => 3,
+                _ => 2,
+            };
+            self.lists[place] += 1;
+        }
+    }
+
+    /// A run begins where a list or an answer does, and behind the last byte of one.
+    fn count_run(&mut self, words: &[&str], before: Shown, shown: Shown, limit: usize) {
+        if words[1] != "0" || !['L', 'A'].contains(&shown.phase) {
+            return;
+        }
+        let first = before.phase != shown.phase;
+        self.transfers[limit] += usize::from(first);
+        self.runs[limit] += usize::from(first || before.left == 1);
+    }
+}
+
+/// Where a write that 15 refuses stands in `FIFTEEN`.
+fn fifteen(register: u8, before: Shown) -> usize {
+    match (register, before.phase) {
+        (0, 'I') => 3,
+        (0, _) => 4,
+        (_, 'I') => 5,
+        _ => 5 + before.place(),
+    }
+}
+
 /// A header and a line for each rule, then one and a line for each form, then
 /// K2's: plays and pauses, then a line for each status; then K4's two packets and
 /// K7's one, with the presses under lock; then K8's pairs and K10's twins; then K12's
-/// sheets; then K13's shelves; last K11's changer.
+/// sheets; then K13's shelves; then K11's changer; last K14's registers.
 pub fn print(stream: &[u8]) -> String {
     let mut out = "rule tables packets parts\n".to_string();
     for (met, rule) in of(stream).iter().zip(1..) {
@@ -853,7 +1046,46 @@ pub fn print(stream: &[u8]) -> String {
     print_sheets(&mut out, &sheets(stream));
     print_shelves(&mut out, &shelves(stream));
     print_changes(&mut out, &changes(stream));
+    print_transfers(&mut out, &transfers(stream));
     out
+}
+
+/// Numbers, a space between.
+fn row(counts: &[usize]) -> String {
+    let counts: Vec<String> = counts.iter().map(usize::to_string).collect();
+    counts.join(" ")
+}
+
+fn print_transfers(out: &mut String, transfers: &Transfers) {
+    let Transfers {
+        resets,
+        held,
+        begun,
+        entered,
+        performed,
+        refused,
+        bytes,
+        unread,
+        fifteen,
+        lists,
+        transfers,
+        runs,
+    } = transfers;
+    out.push_str("reset idle packet list answer\n");
+    out.push_str(&format!("reset {}\n", row(resets)));
+    out.push_str("write held A0h packet list GOOD answer CHECK 2 3 4\n");
+    let packets = [row(entered), row(performed), row(refused)].join(" ");
+    out.push_str(&format!("write {held} {begun} {packets}\n"));
+    out.push_str("read byte 3\n");
+    out.push_str(&format!("read {bytes} {unread}\n"));
+    out.push_str(&format!("fifteen {}\n", FIFTEEN.join(" ")));
+    out.push_str(&format!("fifteen {}\n", row(fifteen)));
+    out.push_str("list asked set wrong told refused\n");
+    out.push_str(&format!("list {}\n", row(lists)));
+    out.push_str(&format!("limit {}\n", LIMITS.join(" ")));
+    out.push_str(&format!("limit {}\n", row(transfers)));
+    out.push_str(&format!("runs {}\n", LIMITS.join(" ")));
+    out.push_str(&format!("runs {}\n", row(runs)));
 }
 
 fn print_audio(out: &mut String, audio: &Audio) {

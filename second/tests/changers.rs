@@ -1297,7 +1297,7 @@ fn tally_counts_the_changer() {
         refused_moves: 1,
     };
     assert_eq!(tally::changes(&stream.bytes), due);
-    let tail = "\
+    let part = "\
 A6h taken from-empty of-the-home returned-first unload unload-empty
 A6h 3 1 1 3 1 1
 A6h-fault pair slot lock
@@ -1307,7 +1307,7 @@ changer 1 1 1 1 5 1 1 2 1 1
 eleven no-slots over-31 open-tray home-occupied home-beyond
 eleven 1 1 1 1 1
 ";
-    assert!(tally::print(&stream.bytes).ends_with(tail));
+    assert!(tally::print(&stream.bytes).contains(part));
 }
 
 /// What each packet to the changer meets and comes to, as a fact.

@@ -128,10 +128,10 @@ fn each_bad_record_ends_the_run() {
 /// K3: "kind 11 the second form", its body empty as kind 3's. K2: "kind 12, the
 /// outside call, body k (4 bytes)". K4: "kind 13, the parameter list lent from now
 /// on; prints nothing". K12: "kind 14, a cue sheet (the body)". K11's are 15 to 20
-/// (`changer_kinds`). 21 to 23 are no kinds yet; K13's is 24, with thirteen totals
-/// before its tables.
+/// (`changer_kinds`), K14's 21 to 23 (`register_kinds`); K13's is 24, with thirteen
+/// totals before its tables.
 #[test]
-fn kinds_are_0_to_20_and_24() {
+fn kinds_are_0_to_24() {
     assert_eq!(run(&[3, 0, 0]), "o 0 00010 00 00 00 15 0 0 00 00 0\n");
     assert_eq!(run(&[11, 0, 0]), "q 0 00010 00 00 00 15 0 0 00 00 0\n");
     // At the start the play status is 00h: 2 refuses.
@@ -161,7 +161,7 @@ fn kinds_are_0_to_20_and_24() {
         let known = run(&record).starts_with("h ");
         assert_eq!(known, length >= 104);
     }
-    for unknown in (21..=255).filter(|&kind| kind != 24) {
+    for unknown in 25..=255 {
         assert_eq!(run(&[unknown, 0, 0, 11, 0, 0]), "bad record\n");
         let body = [unknown, 0, 4, 0, 0, 0, 1];
         assert_eq!(run(&body), "bad record\n");

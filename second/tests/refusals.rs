@@ -206,7 +206,7 @@ fn five_six_seven_tray() {
 }
 
 /// K9: "Other numbers stay." 8 and 10 are met in `marked` and `rules`, K11's in `changers`,
-/// K12's in `sheets`.
+/// K12's in `sheets`, K14's in `transfers`.
 #[test]
 fn numbers_in_use() {
     let all = [
@@ -223,11 +223,12 @@ fn numbers_in_use() {
         Refusal::SheetLength,
         Refusal::UnfitSheet,
         Refusal::SmallOutput,
+        Refusal::OutOfTurn,
     ];
-    let numbers = [1, 2, 3, 4, 5, 6, 7, 8, 10, 11, 12, 13, 14];
+    let numbers = [1, 2, 3, 4, 5, 6, 7, 8, 10, 11, 12, 13, 14, 15];
     assert_eq!(all.map(Refusal::number), numbers);
     let met: BTreeSet<u8> = given().into_iter().map(|(_, number)| number).collect();
-    assert_eq!(met, (0..=8).chain(10..=14).collect());
+    assert_eq!(met, (0..=8).chain(10..=15).collect());
 }
 
 /// "Packets test 1, 2, 3, 4, then the steps below", and K9: nothing more.

@@ -1197,7 +1197,14 @@ fn streams_have_shelves() {
 fn other_kinds_stay() {
     let [with, without] = [16, usize::MAX].map(|many| {
         let mut stream = Stream::new();
-        fill_with(&mut stream, &mut Rng::new(138), 3_000, many, usize::MAX);
+        fill_with(
+            &mut stream,
+            &mut Rng::new(138),
+            3_000,
+            many,
+            usize::MAX,
+            usize::MAX,
+        );
         stream
     });
     assert!(with.shelves > 20 && without.shelves == 0);

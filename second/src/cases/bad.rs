@@ -8,11 +8,13 @@ use crate::rng::Rng;
 /// Records that end the run, each a bit of raw stream.
 pub fn bad_records() -> Vec<(&'static str, Vec<u8>)> {
     let mut list: Vec<(&'static str, Vec<u8>)> = Vec::new();
-    for kind in [21, 22, 23, 25, 128, 255] {
+    for kind in [25, 26, 128, 255] {
         list.push(("unknown kind", vec![kind, 0, 0]));
         list.push(("unknown kind with a body", vec![kind, 0, 1, 0]));
     }
-    for kind in [0, 1, 7, 10, 11, 12, 13, 14, 15, 16, 17, 19, 20, 21, 24] {
+    for kind in [
+        0, 1, 7, 10, 11, 12, 13, 14, 15, 16, 17, 19, 20, 21, 22, 23, 24,
+    ] {
         list.push(("kind alone", vec![kind]));
         list.push(("half a length", vec![kind, 0]));
         list.push(("no body", vec![kind, 0, 1]));
@@ -26,7 +28,8 @@ pub fn bad_records() -> Vec<(&'static str, Vec<u8>)> {
     list.push(("sheet cut off", vec![14, 0, 8, 1, 0, 0]));
     list.push(("shelf cut off", vec![24, 0, 104, 0, 0, 0]));
     list.push(("slots cut off", vec![15, 0, 3, 0x80, 0x81]));
-    for kind in [1, 2, 7, 11, 12, 13, 14, 15, 19, 21, 24] {
+    list.push(("write cut off", vec![22, 0, 2, 7]));
+    for kind in [1, 2, 7, 11, 12, 13, 14, 15, 19, 21, 22, 23, 24] {
         for length in [8_192u16, 8_193, 65_535] {
             let mut long = vec![kind];
             long.extend(length.to_be_bytes());
@@ -45,13 +48,16 @@ pub fn bad_records() -> Vec<(&'static str, Vec<u8>)> {
     for byte in [0x02, 0x40, 0x7E, 0x82, 0xC0, 0xFF] {
         list.push(("slot", vec![15, 0, 3, 0x81, byte, 0x00]));
     }
+    for register in [2, 3, 8, 9, 0x40, 0x87, 0xA0, 0xFF] {
+        list.push(("register", vec![22, 0, 2, register, 0xA0]));
+    }
     for count in [256u16, 300, 8_191] {
         let mut many = vec![replay::SLOTS];
         many.extend(count.to_be_bytes());
         many.resize(3 + usize::from(count), 0x80);
         list.push(("over 255 slots", many));
     }
-    let unsuited: [(u8, &[usize]); 16] = [
+    let unsuited: [(u8, &[usize]); 19] = [
         (replay::STATE, &[0, 1, 7, 8, 9, 16, 17, 18, 19, 21]),
         (replay::MEMORY, &[0, 1, 2, 4]),
         (replay::POWER_ON, &[1, 8]),
@@ -67,6 +73,9 @@ pub fn bad_records() -> Vec<(&'static str, Vec<u8>)> {
         (replay::CHANGER_POWER_ON, &[1, 8]),
         (replay::CHANGER_POWER_ON_WITHOUT_CHANGE, &[1, 8]),
         (replay::CHANGER_MOVE_ON, &[0, 1, 3, 5, 8]),
+        (replay::RESET, &[1, 2, 8]),
+        (replay::WRITE, &[0, 1, 3, 4]),
+        (replay::READ, &[1, 2, 8]),
         (replay::SHELF, &[0, 1, 8, 96, 102, 103]),
     ];
     for (kind, lengths) in unsuited {
@@ -98,8 +107,9 @@ pub fn end(stream: &mut Stream, rng: &mut Rng, seed: u64) {
             "sheet cut off",
             "shelf cut off",
             "slots cut off",
+            "write cut off",
         ],
-        5 => &["flag", "slot"],
+        5 => &["flag", "slot", "register"],
         6 => &["body that does not suit"],
         _ => &["memory of 8,192", "memory of 65,535", "over 255 slots"],
     };

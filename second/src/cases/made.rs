@@ -12,8 +12,9 @@ use crate::cases::stream::Stream;
 use crate::cases::{
     cue_files, mmc_sheets, mode_five, picked, picked_audio, picked_cancel, picked_changer,
     picked_changer_state, picked_changer_status, picked_codes, picked_cue, picked_cue_entries,
-    picked_event, picked_fields, picked_mode, picked_power, picked_shelf, picked_state,
-    picked_tables, picked_twins, random, several, shelf_files,
+    picked_event, picked_fields, picked_mode, picked_power, picked_registers,
+    picked_registers_lists, picked_registers_refused, picked_shelf, picked_state, picked_tables,
+    picked_twins, random, several, shelf_files,
 };
 use crate::cue;
 use crate::examples;
@@ -65,7 +66,7 @@ macro_rules! named {
     };
 }
 
-const MAKERS: [(&str, Maker); 229] = [
+const MAKERS: [(&str, Maker); 270] = [
     named!(Start, picked_state::from_nothing),
     named!(Calls, picked_state::attentions),
     named!(Calls, picked_state::senses),
@@ -257,6 +258,46 @@ const MAKERS: [(&str, Maker); 229] = [
     named!(Calls, picked_changer_state::outside_calls),
     named!(Calls, picked_changer_state::unknown_on_the_first),
     named!(Calls, picked_changer_state::devices_in_turn),
+    named!(Calls, picked_registers::marked_registers),
+    named!(Calls, picked_registers::board_example),
+    named!(Calls, picked_registers::every_limit),
+    named!(Calls, picked_registers::limits_at_the_ends),
+    named!(Calls, picked_registers::short_answers),
+    named!(Calls, picked_registers::answer_lengths),
+    named!(Calls, picked_registers::longest_answers),
+    named!(Calls, picked_registers::every_packet),
+    named!(Calls, picked_registers::no_answers),
+    named!(Calls, picked_registers::count_left_behind),
+    named!(Calls, picked_registers::count_by_halves),
+    named!(Calls, picked_registers::held_registers),
+    named!(Calls, picked_registers::reads_name_blocks),
+    named!(Calls, picked_registers::status_kept),
+    named!(Calls, picked_registers::performed_at_the_last_byte),
+    named!(Calls, picked_registers::calls_between_runs),
+    named!(Calls, picked_registers::memory_between_runs),
+    named!(Calls, picked_registers_lists::lists_by_limit),
+    named!(Calls, picked_registers_lists::lists_in_every_case),
+    named!(Calls, picked_registers_lists::lists_in_runs),
+    named!(Calls, picked_registers_lists::wrong_lists),
+    named!(Calls, picked_registers_lists::lists_while_pending),
+    named!(Calls, picked_registers_lists::lists_refused),
+    named!(Calls, picked_registers_lists::no_lists),
+    named!(Calls, picked_registers_lists::list_out_of_turn),
+    named!(Calls, picked_registers_lists::lists_cut_off),
+    named!(Calls, picked_registers_lists::every_list_byte),
+    named!(Calls, picked_registers_lists::lists_between_packets),
+    named!(Start, picked_registers_refused::at_the_start),
+    named!(Calls, picked_registers_refused::reads_out_of_turn),
+    named!(Calls, picked_registers_refused::writes_out_of_turn),
+    named!(Calls, picked_registers_refused::other_commands),
+    named!(Calls, picked_registers_refused::every_command),
+    named!(Calls, picked_registers_refused::target_refusals),
+    named!(Calls, picked_registers_refused::every_rule),
+    named!(Calls, picked_registers_refused::memory_made_shorter),
+    named!(Calls, picked_registers_refused::resets),
+    named!(Calls, picked_registers_refused::resets_of_states),
+    named!(Calls, picked_registers_refused::packets_cut_off),
+    named!(Calls, picked_registers_refused::record_kept),
     named!(random::fill, Calls(drawn)),
     named!(
         random::trace_scene,
@@ -297,6 +338,10 @@ const MAKERS: [(&str, Maker); 229] = [
     named!(
         random::changer_scene,
         Calls(|stream| scenes(stream, random::changer_scene))
+    ),
+    named!(
+        random::register_scene,
+        Calls(|stream| scenes(stream, random::register_scene))
     ),
     named!(
         random::broken_scene,

@@ -4,12 +4,13 @@ use crate::cases::stream::Stream;
 use crate::cases::{
     mmc_sheets, picked_audio, picked_cancel, picked_changer, picked_changer_state,
     picked_changer_status, picked_codes, picked_cue, picked_cue_entries, picked_event,
-    picked_fields, picked_mode, picked_power, picked_shelf, picked_state, picked_tables,
-    picked_twins,
+    picked_fields, picked_mode, picked_power, picked_registers, picked_registers_lists,
+    picked_registers_refused, picked_shelf, picked_state, picked_tables, picked_twins,
 };
 
-/// Every hand-picked case, from the very start of a run.
+/// The hand-picked cases that are stored, from the very start of a run.
 pub fn all(stream: &mut Stream) {
+    picked_registers_refused::at_the_start(stream);
     picked_state::from_nothing(stream);
     conversions(stream);
     picked_state::attentions(stream);
@@ -201,6 +202,36 @@ pub fn all(stream: &mut Stream) {
     picked_changer_state::outside_calls(stream);
     picked_changer_state::unknown_on_the_first(stream);
     picked_changer_state::devices_in_turn(stream);
+    registers(stream);
+}
+
+/// K14's, but for those that are long: a line a byte is much to keep.
+fn registers(stream: &mut Stream) {
+    picked_registers::marked_registers(stream);
+    picked_registers::limits_at_the_ends(stream);
+    picked_registers::no_answers(stream);
+    picked_registers::count_left_behind(stream);
+    picked_registers::count_by_halves(stream);
+    picked_registers::held_registers(stream);
+    picked_registers::reads_name_blocks(stream);
+    picked_registers::status_kept(stream);
+    picked_registers::performed_at_the_last_byte(stream);
+    picked_registers::calls_between_runs(stream);
+    picked_registers::memory_between_runs(stream);
+    picked_registers_lists::lists_in_runs(stream);
+    picked_registers_lists::lists_while_pending(stream);
+    picked_registers_lists::lists_refused(stream);
+    picked_registers_lists::no_lists(stream);
+    picked_registers_lists::list_out_of_turn(stream);
+    picked_registers_refused::reads_out_of_turn(stream);
+    picked_registers_refused::writes_out_of_turn(stream);
+    picked_registers_refused::other_commands(stream);
+    picked_registers_refused::target_refusals(stream);
+    picked_registers_refused::memory_made_shorter(stream);
+    picked_registers_refused::resets(stream);
+    picked_registers_refused::resets_of_states(stream);
+    picked_registers_refused::packets_cut_off(stream);
+    picked_registers_refused::record_kept(stream);
 }
 
 /// Kinds 8 and 9 at all boundaries.

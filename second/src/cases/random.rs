@@ -2,8 +2,9 @@
 
 use crate::address::to_msf;
 use crate::cases::cue_sheet::any_sheet;
+use crate::cases::host;
 use crate::cases::packets::{
-    any_audio, any_event_status, any_list, any_mode, any_packet, capacity, event_status,
+    any_audio, any_event_status, any_list, any_mode, any_packet, capacity, event_status, inquiry,
     load_unload, mechanism_status, mode_select, mode_sense, one_of_each, pause, play, position,
     prevent, read12, request_sense, resume, seek, start_stop, test_ready, toc, with_junk, Marks,
     Packet, EJECT, LOAD,
@@ -23,28 +24,31 @@ use crate::events::NO_EVENT;
 use crate::limits::TOP_ADDRESS;
 use crate::mode_page::{ModePage, SETTINGS};
 use crate::play::{Play, STATUSES};
+use crate::registers::Register;
 use crate::rng::Rng;
 use crate::sense::{self, Sense, TRIPLES};
 use crate::table::{self, Mode};
 
 /// Adds scenes until the stream has at least this many calls, not counting cue sheets,
-/// shelves and the changer's scenes. Those (K12, K13, K11) are drawn apart and come on top:
-/// the other scenes are what they would be without them.
+/// shelves, the changer's scenes and those at the registers. Those (K12, K13, K11, K14) are
+/// drawn apart and come on top: the other scenes are what they would be without them.
 pub fn fill(stream: &mut Stream, rng: &mut Rng, calls: usize) {
-    fill_with(stream, rng, calls, 16, 8);
+    fill_with(stream, rng, calls, 16, 8, 24);
 }
 
-/// The same, with shelves and a changer behind one scene in so many.
+/// The same, with shelves, a changer and the registers behind one scene in so many.
 pub fn fill_with(
     stream: &mut Stream,
     rng: &mut Rng,
     calls: usize,
     shelves: usize,
     changers: usize,
+    registers: usize,
 ) {
     let mut apart = Rng::new(rng.clone().word());
     let mut farther = Rng::new(apart.clone().word());
     let mut farthest = Rng::new(farther.clone().word());
+    let mut outside = Rng::new(farthest.clone().word());
     let mut beside = 0;
     while stream.calls - stream.sheets - stream.shelves - beside < calls {
         scene(stream, rng);
@@ -57,6 +61,11 @@ pub fn fill_with(
         if farthest.one_in(changers) {
             let before = stream.calls;
             changer_scene(stream, &mut farthest);
+            beside += stream.calls - before;
+        }
+        if outside.one_in(registers) {
+            let before = stream.calls;
+            register_scene(stream, &mut outside);
             beside += stream.calls - before;
         }
     }
@@ -1028,6 +1037,209 @@ fn refused_between(stream: &mut Stream, rng: &mut Rng, marks: &Marks, count: usi
     stream.changer_packet(&any_move(rng, count));
     stream.changer_packet(&any_packet(rng, marks));
     lend_memory(stream, rng);
+}
+
+/// The registers (K14): packets by any limit with their lists and answers, what is out of
+/// turn, and other calls, resets and other memories between. A transfer may be left open, so
+/// that the next scene finds it.
+pub fn register_scene(stream: &mut Stream, rng: &mut Rng) {
+    let mut marks = lend(stream, &small_fit(rng));
+    lend_memory(stream, rng);
+    stream.state(if rng.one_in(4) {
+        any_state(rng, &marks)
+    } else {
+        loaded_state(rng, &marks)
+    });
+    if rng.one_in(200) {
+        long_answer(stream, rng);
+    }
+    for _ in 0..rng.range(4, 9) {
+        match rng.below(24) {
+            0..=14 => any_transfer(stream, rng, &marks),
+            15 | 16 => out_of_turn(stream, rng),
+            17 => stream.reset(),
+            18 => stream.state(loaded_state(rng, &marks)),
+            19 => stream.state(any_state(rng, &marks)),
+            20 | 21 => between_runs(stream, rng, &marks),
+            22 => unfit_for_a_packet(stream, rng, &marks),
+            _ => marks = lend(stream, &small_fit(rng)),
+        }
+    }
+    lend_memory(stream, rng);
+}
+
+/// Limits at every border, and a few drawn.
+fn any_limit(rng: &mut Rng) -> u16 {
+    let (small, any) = (rng.below(40) as u16, rng.long() as u16);
+    let odd = (rng.below(20) as u16) << 1 | 1;
+    let borders = rng.pick(&[0, 1, 2, 3, 0x7FFF, 0x8000, 0xFFFD, 0xFFFE, 0xFFFF]);
+    rng.pick(&[small, odd, borders, borders, 16, any])
+}
+
+/// A packet most often of a short answer, or a 55h that takes a list.
+fn register_packet(rng: &mut Rng, marks: &Marks) -> Packet {
+    let length = rng.below(41);
+    let packet = match rng.below(20) {
+        0..=2 => inquiry(length as u8),
+        3 | 4 => request_sense(length as u8),
+        5..=7 => toc(rng.one_in(2), rng.below(3) as u8, 0, length as u16),
+        8..=10 => mode_select(16),
+        11 => mode_select(rng.pick(&[0, 8, 15, 17, 0x1000])),
+        12 => mode_sense(rng.byte() % 4, 1, length as u16),
+        13 => test_ready(),
+        14 => capacity(),
+        15 => any_event_status(rng),
+        16 => rng.pick(&one_of_each()),
+        _ => any_packet(rng, marks),
+    };
+    match rng.one_in(6) {
+        true => with_junk(rng, packet),
+        false => packet,
+    }
+}
+
+/// A transfer from where the registers are: one that is open is most often ended first.
+/// Now and then something is out of turn or comes between two of its bytes.
+fn any_transfer(stream: &mut Stream, rng: &mut Rng, marks: &Marks) {
+    end_of_transfer(stream, rng);
+    if rng.below(4) > 0 {
+        host::limit(stream, any_limit(rng));
+    }
+    if rng.one_in(6) {
+        let register = rng.pick(&[Register::Features, Register::Drive]);
+        stream.write(register, rng.byte());
+    }
+    host::begin(stream);
+    let packet = register_packet(rng, marks);
+    for byte in packet {
+        disturbed(stream, rng, marks);
+        host::enter(stream, &[byte]);
+    }
+    entered_list(stream, rng, marks);
+    let top = rng.pick(&[5, 40, 100, 100, 100]);
+    for _ in 0..top {
+        if stream.registers().letter() != 'A' {
+            break;
+        }
+        disturbed(stream, rng, marks);
+        stream.read();
+    }
+    if rng.one_in(8) {
+        stream.read();
+    }
+}
+
+/// The list that the registers ask for, if they do: sound or wrong, now and then cut off.
+fn entered_list(stream: &mut Stream, rng: &mut Rng, marks: &Marks) {
+    let mut list = any_list(rng);
+    list.resize(16, 0x00);
+    for byte in list {
+        if stream.registers().letter() != 'L' || rng.one_in(200) {
+            return;
+        }
+        disturbed(stream, rng, marks);
+        host::enter(stream, &[byte]);
+    }
+}
+
+/// Something out of turn, or a call of another kind, one time in fifty.
+fn disturbed(stream: &mut Stream, rng: &mut Rng, marks: &Marks) {
+    match rng.below(150) {
+        0 | 1 => out_of_turn(stream, rng),
+        2 => between_runs(stream, rng, marks),
+        _ => {}
+    }
+}
+
+/// Ends what is open: an answer by its bytes, or anything by a reset; now and then not.
+fn end_of_transfer(stream: &mut Stream, rng: &mut Rng) {
+    if stream.registers().letter() == 'I' || rng.one_in(16) {
+        return;
+    }
+    if rng.below(3) > 0 {
+        for _ in 0..60 {
+            if stream.registers().letter() != 'A' {
+                break;
+            }
+            stream.read();
+        }
+    }
+    if stream.registers().letter() != 'I' {
+        stream.reset();
+    }
+}
+
+/// Any register call, most of them refused by 15 wherever the registers are.
+fn out_of_turn(stream: &mut Stream, rng: &mut Rng) {
+    for _ in 0..rng.range(1, 3) {
+        match rng.below(6) {
+            0 => stream.read(),
+            1 => stream.write(Register::Data, rng.byte()),
+            2 => stream.write(Register::Command, rng.pick(&[0xEC, 0x08, 0xA1, 0xA0])),
+            3 => stream.write(Register::Command, rng.byte()),
+            _ => stream.write(rng.pick(&Register::ALL), rng.byte()),
+        }
+    }
+}
+
+/// What may come between two runs: a tray call, a power-on, a packet of its own, another
+/// memory, a reset, or a list lent that no packet here is to find.
+fn between_runs(stream: &mut Stream, rng: &mut Rng, marks: &Marks) {
+    match rng.below(12) {
+        0 => stream.button(),
+        1 => {
+            stream.button();
+            stream.button();
+        }
+        2 => any_power_on(stream, rng),
+        3 | 4 => stream.packet(&any_packet(rng, marks)),
+        5 => lend_memory(stream, rng),
+        6..=8 => short_memory(stream, rng),
+        9 => stream.reset(),
+        10 => stream.list(&any_list(rng)),
+        _ => stream.move_on(any_step(rng)),
+    }
+}
+
+/// A data read and a data write with too short a memory, which is then long enough again.
+fn short_memory(stream: &mut Stream, rng: &mut Rng) {
+    let length = rng.pick(&[0, 1, 36, MEMORY - 1, MEMORY - 1]);
+    stream.memory(length, rng.byte());
+    stream.read();
+    if rng.one_in(2) {
+        stream.write(Register::Data, rng.byte());
+    }
+    lend_memory(stream, rng);
+}
+
+/// A packet that the target refuses, by 2, 3 or 4.
+fn unfit_for_a_packet(stream: &mut Stream, rng: &mut Rng, marks: &Marks) {
+    end_of_transfer(stream, rng);
+    let sheet = small_fit(rng);
+    match rng.below(3) {
+        0 => {
+            stream.table(&any_broken(rng));
+            stream.state(loaded_state(rng, marks));
+        }
+        1 => stream.memory(MEMORY - 1, rng.byte()),
+        _ => stream.state(State {
+            event: 4,
+            ..loaded_state(rng, marks)
+        }),
+    }
+    host::packet(stream, &register_packet(rng, marks));
+    entered_list(stream, rng, marks);
+    stream.table(&sheet.bytes());
+    lend_memory(stream, rng);
+    stream.state(loaded_state(rng, marks));
+}
+
+/// The longest answer there is, all of it.
+fn long_answer(stream: &mut Stream, rng: &mut Rng) {
+    stream.table(&longest(rng).bytes());
+    stream.reset();
+    stream.state(State::READY);
+    host::ask(stream, any_limit(rng), &toc(false, 2, 0, 6_538));
 }
 
 /// A small fit table with an audio track, but for a few.

@@ -2,7 +2,8 @@
 
 use crate::changer::Slot;
 use crate::drive::State;
-use crate::replay;
+use crate::registers::{Register, Registers};
+use crate::replay::{self, take_record, Bench};
 use crate::shelf::Totals;
 
 #[derive(Default)]
@@ -13,6 +14,26 @@ pub struct Stream {
     pub sheets: usize,
     /// The shelves (K13) among them.
     pub shelves: usize,
+    mirror: Mirror,
+}
+
+/// A bench that follows a stream, so that a host at the registers (K14) sees how far it is.
+#[derive(Default)]
+struct Mirror {
+    bench: Bench,
+    at: usize,
+}
+
+impl Mirror {
+    fn follow(&mut self, bytes: &[u8]) {
+        while let Ok((kind, body, after)) = take_record(&bytes[self.at..]) {
+            if self.bench.record(kind, body).is_err() {
+                return;
+            }
+            self.bench.lines.clear();
+            self.at = bytes.len() - after.len();
+        }
+    }
 }
 
 impl Stream {
@@ -153,6 +174,27 @@ impl Stream {
 
     pub fn changer_move_on(&mut self, k: u32) {
         self.record(replay::CHANGER_MOVE_ON, &k.to_be_bytes());
+    }
+
+    /// K14's reset.
+    pub fn reset(&mut self) {
+        self.record(replay::RESET, &[]);
+    }
+
+    /// A write of a register.
+    pub fn write(&mut self, register: Register, value: u8) {
+        self.record(replay::WRITE, &[register.address(), value]);
+    }
+
+    /// A data read.
+    pub fn read(&mut self) {
+        self.record(replay::READ, &[]);
+    }
+
+    /// The register record as the records so far leave it.
+    pub fn registers(&mut self) -> &Registers {
+        self.mirror.follow(&self.bytes);
+        &self.mirror.bench.registers
     }
 
     /// K13's tables, counted on top of these totals.
