@@ -3,6 +3,7 @@
 pub mod board;
 
 use drive::state::Drive;
+use table::layout::BOUND;
 use target::packet::SHORT_MEMORY;
 use target::packet::packet;
 use taskfile::Due;
@@ -10,10 +11,9 @@ use taskfile::TaskFile;
 use taskfile::host::access_of;
 use taskfile::host::answered;
 use taskfile::host::turn_of;
-use taskfile::run::BOUND;
 ghost use mathlib.Core.Path.{_≡_};
-ghost use Prim.Native.Nat.{_<_, _≤_};
-ghost use lib.ListN.{length};
+ghost use Prim.Native.Nat.{_<_};
+ghost use Rattle.table.specs.Layout.{bound};
 ghost use Rattle.taskfile.specs.Host.{accessOf};
 ghost use Rattle.registers.specs.Registers.{asks, plain, Performed, gives, stepOf, memoryOf};
 
@@ -83,7 +83,7 @@ fn perform_listed(f: TaskFile, d: Drive, table: &[u8], mem: &mut [u8]) -> Steppe
 
 // The next byte of the answer, out of the memory lent now; the record becomes next.
 fn give(f: TaskFile, next: TaskFile, d: Drive, mem: &[u8]) -> Stepped
-    requires { ⌜ f .at < 6538 ⌝ }
+    requires { ⌜ f .at < bound ⌝ }
     ensures { λ r. ⌜ r ≡ gives f next d (now (mem .entry)) ⌝ }
 {
     if mem.len() < BOUND {

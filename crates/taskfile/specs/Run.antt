@@ -6,6 +6,7 @@ use lib.ListN.{getD}
 use lib.Dec.{eqb, ltb, leb}
 use Rattle.ground.specs.Number.{word16}
 use Rattle.ground.specs.Tests.{_and_, if_then_else_}
+use Rattle.table.specs.Layout.{bound}
 use Rattle.taskfile.specs.declared.TaskFile.{TaskFile}
 use Rattle.taskfile.specs.declared.Phase.{Phase}
 use Rattle.taskfile.specs.declared.Phase.the-variants.{Idle, PacketRun, ListRun, AnswerRun}
@@ -15,9 +16,9 @@ use Rattle.taskfile.specs.TaskFile.{takesListReason, takesPacketReason, 
 unfoldable pub limitOf : ℕ → ℕ
 limitOf c = if eqb c 0 then 65534 else (if eqb c 1 then 2 else c - c % 2)
 
--- the most bytes that an answer has: 01's bound as K1 has it
+-- the most bytes that an answer has
 abbrev pub mostBytes : ℕ
-mostBytes = 6538
+mostBytes = bound
 
 -- "A run is the smaller of what remains and the host's byte count limit": the run of the next byte, which began after whole runs
 abbrev pub sizeOf : TaskFile → ℕ

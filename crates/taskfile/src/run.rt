@@ -4,6 +4,7 @@ use crate::TaskFile;
 use ground::number::bytes16;
 use ground::number::smaller;
 use ground::number::word16;
+use table::layout::BOUND;
 ghost use mathlib.Core.Path.{_≡_};
 ghost use mathlib.Core.Bool.{true};
 ghost use Prim.Native.Nat.{_<_, _%_};
@@ -24,12 +25,10 @@ pub const SIGNATURE_LOW: u8 = 0x14;
 
 pub const SIGNATURE_HIGH: u8 = 0xEB;
 
-// The bytes of a packet, of a list, and the most of an answer.
+// The bytes of a packet, and of a list.
 pub const PACKET: usize = 12;
 
 pub const LIST: usize = 16;
-
-pub const BOUND: usize = 6538;
 
 // MODE SELECT(10), the one command with a list.
 const SELECT: u8 = 0x55;
