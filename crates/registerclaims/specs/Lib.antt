@@ -26,7 +26,6 @@ pub mod Along
 pub mod ReadLaws
 pub mod WriteLaws
 pub mod ListLaws
-pub mod TurnLaws
 -- over any device, and over any loop
 pub mod Agreeing
 pub mod Loop

@@ -26,7 +26,7 @@ use Rattle.registerclaims.specs.Loop.{loops-got, loops-going, loops-done
 use Rattle.registerclaims.specs.Along.{along, Listing, begun-along, list-left, Shows, along-shows}
 use Rattle.registerclaims.specs.Bench.{Bench, bench, next, afterWrites, feed, fed}
 use Rattle.registerclaims.specs.RegisterRuns.{Leaves}
-use Rattle.registerclaims.specs.TurnLaws.{listed-limit}
+use Rattle.registerclaims.specs.RegisterTurnLaws.{listed-limit}
 use Rattle.registerclaims.specs.TargetRuns.{listed-runs}
 use Rattle.registerclaims.specs.WriteLaws.{writes-last, entered, over, over-listing, listing-phase, list-turn, list-last}
 use Rattle.registerclaims.specs.ListLaws.{before, at, at-before, writes-on, write-loops}
@@ -128,7 +128,7 @@ list-answers {k} {l} {t} {x} w n =
     let v = getD l 15 0 in
     let q = w .quiet 15 (omega arith) in
     let c = w .last in
-    let e : y .file .limit ≡ x .file .limit = sym (listed-limit (y .file) Data v (c .due) .0) ∙ c .limit in
+    let e : y .file .limit ≡ x .file .limit = sym (listed-limit (y .file) v Data (c .due) .0) ∙ c .limit in
     let g = turnOf (y .file) Data v .file in
     let b : bytesOf (asks g (g .list) (y .state) t (y .memory)) ≡ bytesOf (answer (x .state) (x .file .packet) t l (length (x .memory))) =
     rw (c .packet, c .list, q .state, q .memory) refl in

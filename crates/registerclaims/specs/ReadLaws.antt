@@ -20,12 +20,13 @@ use Rattle.taskfile.specs.declared.Access.the-variants.{Read}
 use Rattle.taskfile.specs.declared.Due.the-variants.{Gives}
 use Rattle.taskfile.specs.TaskFile.{countOf, ended}
 use Rattle.taskfile.specs.Run.{sizeOf, phaseOf}
+use Rattle.taskfile.specs.RunLaws.{ended-idle}
 use Rattle.taskfile.specs.Host.{answerByte, readTurn, turnOf}
 use Rattle.registers.specs.declared.Answer.{Answer}
 use Rattle.registers.specs.declared.Stepped.{Stepped}
 use Rattle.registers.specs.Registers.{plain, stands, gives, stepBy, memoryBy, stepOf, memoryOf}
 use Rattle.registerclaims.specs.Loop.{sizeAt, Loops}
-use Rattle.registerclaims.specs.Along.{along, movedTo, Answering, gone-along, along-count, along-answer, ended-idle}
+use Rattle.registerclaims.specs.Along.{along, movedTo, Answering, gone-along, along-count, along-answer}
 use Rattle.registerclaims.specs.Bench.{Bench, bench, handed, left, next, readsOf, afterReads, isGiving, drain, drained}
 
 -- the record behind j bytes of the answer: "status ends it"

@@ -31,37 +31,12 @@ use Rattle.taskfile.specs.declared.Due.the-variants.{Refused, Held, Performs, P
 use Rattle.taskfile.specs.declared.Turn.{Turn}
 use Rattle.taskfile.specs.TaskFile.{packetBytes, listBytes, holding, ended}
 use Rattle.taskfile.specs.Run.{takesList, isAnswerRun, phaseOf}
+use Rattle.taskfile.specs.RunLaws.{isPacket, isList, isAnswer, phaseOf-tested, isAnswerRun-phase}
 use Rattle.taskfile.specs.Host.{refusedTurn, held, packetEnd, packetByte, listByte, answerByte, commandTurn, dataTurn, readTurn, writeTurn, answered, turnBy, turnOf}
+use Rattle.taskfile.specs.HostLaws.{turnOf-ways, isRefused, isPerforming, isGiving}
 use Rattle.registers.specs.declared.Stepped.{Stepped}
 use Rattle.registers.specs.Registers.{plain, stands, asks, performed, gives, stepBy, memoryBy, stepOf, memoryOf}
 use Rattle.registerclaims.specs.RegisterTurn.{readsData, writesData, writesCommand, writesOther, isOutOfTurn, endsPacket, endsList, isCompleting, packetAt, listAt, replyAt}
-use Rattle.registerclaims.specs.RegisterTurnLaws.{isPacket, isList, isAnswer, phase-tested, phase-answer, turn-ways}
-
--- ---- what is due
-
-abbrev pub isRefused : Due → Bool
-isRefused Refused = true
-isRefused Held = false
-isRefused Performs = false
-isRefused PerformsListed = false
-isRefused Gives = false
-isRefused Resets = false
-
-abbrev pub isPerforming : Due → Bool
-isPerforming Refused = false
-isPerforming Held = false
-isPerforming Performs = true
-isPerforming PerformsListed = true
-isPerforming Gives = false
-isPerforming Resets = false
-
-abbrev pub isGiving : Due → Bool
-isGiving Refused = false
-isGiving Held = false
-isGiving Performs = false
-isGiving PerformsListed = false
-isGiving Gives = true
-isGiving Resets = false
 
 -- ---- when it is due
 
@@ -132,7 +107,7 @@ module _ (f : TaskFile) (v : ℕ) where
 
   pub turn-due : (a : Access) → IsDue (isOutOfTurn f v a) (readsData a and isAnswerRun f) (isCompleting f v a) (turnOf f a v .due)
   unfolding turnOf _or_ _and_
-  turn-due a = let T = phase-tested f in rw (T .packet, T .list, T .answer) (go a (phaseOf f))
+  turn-due a = let T = phaseOf-tested f in rw (T .packet, T .list, T .answer) (go a (phaseOf f))
     where
       go : (a : Access) (s : Phase)
           → IsDue
@@ -251,7 +226,7 @@ module _ (f : TaskFile) (v : ℕ) where
 
   -- it leaves the record
   pub turn-stays : (a : Access) → Stays (turnOf f a v)
-  turn-stays = turn-ways f v {P = Stays} (record {
+  turn-stays = turnOf-ways f v {P = Stays} (record {
     refuses = λ h. refl;
     holds = λ a s h. absurd (false≢true h);
     asks = λ s h. absurd (false≢true h);
@@ -284,7 +259,7 @@ module _ (f : TaskFile) (v : ℕ) where
   packet-performed : phaseOf f ≡ PacketRun → Performed (packetByte f v)
   unfolding packetByte packetEnd
   packet-performed s =
-      let T = phase-tested f in
+      let T = phaseOf-tested f in
       let p : packetAt f v ≡ set (f .packet) (f .at) v = when _ _ _ (T .packet ∙ ap isPacket s) in
       let l : listAt f v ≡ [] = unless _ _ _ (T .list ∙ ap isList s) in
       either Performed (eqb (f .at + 1) packetBytes)
@@ -302,7 +277,7 @@ module _ (f : TaskFile) (v : ℕ) where
   list-performed : phaseOf f ≡ ListRun → Performed (listByte f v)
   unfolding listByte
   list-performed s =
-      let T = phase-tested f in
+      let T = phaseOf-tested f in
       let p : packetAt f v ≡ f .packet = unless _ _ _ (T .packet ∙ ap isPacket s) in
       let l : listAt f v ≡ set (f .list) (f .at) v = when _ _ _ (T .list ∙ ap isList s) in
       either Performed (eqb (f .at + 1) listBytes)
@@ -318,7 +293,7 @@ module _ (f : TaskFile) (v : ℕ) where
 
   pub turn-performed : (a : Access) → isCompleting f v a ≡ true → Performing (turnOf f a v)
   turn-performed a h =
-      turn-ways f v {P = Performed} (record {
+      turnOf-ways f v {P = Performed} (record {
         refuses = λ h. absurd (false≢true h);
         holds = λ a s h. absurd (false≢true h);
         asks = λ s h. absurd (false≢true h);
@@ -338,7 +313,7 @@ module _ (f : TaskFile) (v : ℕ) where
 
     pub read-3 : eqb (stepOf f Read v d t m .answer .number) 3 ≡ isAnswerRun f and ltb (length m) bound
     unfolding _and_ answerByte if_then_else_
-    read-3 = rw (phase-tested f .answer) (go (phaseOf f) refl)
+    read-3 = rw (phaseOf-tested f .answer) (go (phaseOf f) refl)
       where
         picks : (b : Bool) → (if b then true else false) ≡ b
         picks true = refl
@@ -354,7 +329,7 @@ module _ (f : TaskFile) (v : ℕ) where
         → (stepOf f Read v d t m ≡ stands f (plain 3 0 d)) × (memoryOf f Read v d t m ≡ m)
     unfolding answerByte gives memoryOf turnOf
     read-short h =
-        let s = phase-answer f (and-head _ _ h) in
+        let s = isAnswerRun-phase f (and-head _ _ h) in
         (read-step AnswerRun s ∙ when _ _ _ (and-tail _ _ h), rw s)
 
 -- ---- a refusal by the target

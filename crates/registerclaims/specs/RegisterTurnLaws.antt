@@ -1,154 +1,23 @@
--- What an access comes to, by the run that the record is in: each way out once.
+-- What an access comes to, of every record: read off the ways out of `turnOf`.
 use Prim.Native.Nat.{ℕ, _+_, _%_}
-use mathlib.Core.Path.{_≡_, refl, sym, _∙_}
-use mathlib.Core.Bool.{Bool, true, false, false≢true}
-use borrow.Author.Tests.{eqb-true}
+use mathlib.Core.Path.{_≡_, refl, _∙_}
+use native.Mathlib.Omega.{arith}
 use lib.ListN.{length, set, length-set}
 use lib.Dec.{eqb}
-use Rattle.ground.specs.Tests.{_and_, if_then_else_, either, and-head}
+use Rattle.ground.specs.Tests.{either}
 use Rattle.taskfile.specs.declared.TaskFile.{TaskFile}
-use Rattle.taskfile.specs.declared.Phase.{Phase}
-use Rattle.taskfile.specs.declared.Phase.the-variants.{Idle, PacketRun, ListRun, AnswerRun}
 use Rattle.taskfile.specs.declared.Access.{Access}
 use Rattle.taskfile.specs.declared.Access.the-variants.{Data, Features, CountLow, CountHigh, Drive, Command, Nowhere, Read, Reset}
-use Rattle.taskfile.specs.declared.Due.the-variants.{Resets}
+use Rattle.taskfile.specs.declared.Due.{Due}
+use Rattle.taskfile.specs.declared.Due.the-variants.{Performs, PerformsListed}
 use Rattle.taskfile.specs.declared.Turn.{Turn}
-use Rattle.taskfile.specs.TaskFile.{packetBytes, listBytes, bearing, asked, ended, reset}
-use Rattle.taskfile.specs.Run.{takesList, isPacketRun, isListRun, isAnswerRun, phaseOf}
-use Rattle.taskfile.specs.Host.{refusedTurn, held, gone, packetEnd, packetByte, listByte, answerByte, written, dataTurn, readTurn, writeTurn, turnOf}
-
--- ---- the runs
-
-abbrev pub isPacket : Phase → Bool
-isPacket Idle = false
-isPacket PacketRun = true
-isPacket ListRun = false
-isPacket AnswerRun = false
-
-abbrev pub isList : Phase → Bool
-isList Idle = false
-isList PacketRun = false
-isList ListRun = true
-isList AnswerRun = false
-
-abbrev pub isAnswer : Phase → Bool
-isAnswer Idle = false
-isAnswer PacketRun = false
-isAnswer ListRun = false
-isAnswer AnswerRun = true
-
--- a record is in one run at most: their reasons differ
-module _ (f : TaskFile) where
-  packet-no-list : isPacketRun f ≡ true → isListRun f ≡ false
-  unfolding isPacketRun isListRun _and_
-  packet-no-list h = let e = eqb-true (f .reason) 1 (and-head _ _ h) in rw e
-
-  packet-no-answer : isPacketRun f ≡ true → isAnswerRun f ≡ false
-  unfolding isPacketRun isAnswerRun _and_
-  packet-no-answer h = let e = eqb-true (f .reason) 1 (and-head _ _ h) in rw e
-
-  list-no-answer : isListRun f ≡ true → isAnswerRun f ≡ false
-  unfolding isListRun isAnswerRun _and_
-  list-no-answer h = let e = eqb-true (f .reason) 0 (and-head _ _ h) in rw e
-
-  -- the run by its test
-  pub record Tested (s : Phase) : Type 0 where
-    pub packet : isPacketRun f ≡ isPacket s
-    pub list : isListRun f ≡ isList s
-    pub answer : isAnswerRun f ≡ isAnswer s
-
-  pub phase-tested : Tested (phaseOf f)
-  unfolding phaseOf if_then_else_
-  phase-tested = go (isPacketRun f) (isListRun f) (isAnswerRun f) refl refl refl
-    where
-      go : (p l a : Bool) → isPacketRun f ≡ p → isListRun f ≡ l → isAnswerRun f ≡ a
-          → Tested (if p then PacketRun else (if l then ListRun else (if a then AnswerRun else Idle)))
-      go true l a h i j = record { packet = h; list = packet-no-list h; answer = packet-no-answer h }
-      go false true a h i j = record { packet = h; list = i; answer = list-no-answer i }
-      go false false true h i j = record { packet = h; list = i; answer = j }
-      go false false false h i j = record { packet = h; list = i; answer = j }
-
-  -- and back
-  pub phase-packet : isPacketRun f ≡ true → phaseOf f ≡ PacketRun
-  phase-packet h = go (phaseOf f) (sym (phase-tested .packet) ∙ h)
-    where
-      go : (s : Phase) → isPacket s ≡ true → s ≡ PacketRun
-      go Idle e = absurd (false≢true e)
-      go PacketRun e = refl
-      go ListRun e = absurd (false≢true e)
-      go AnswerRun e = absurd (false≢true e)
-
-  pub phase-list : isListRun f ≡ true → phaseOf f ≡ ListRun
-  phase-list h = go (phaseOf f) (sym (phase-tested .list) ∙ h)
-    where
-      go : (s : Phase) → isList s ≡ true → s ≡ ListRun
-      go Idle e = absurd (false≢true e)
-      go PacketRun e = absurd (false≢true e)
-      go ListRun e = refl
-      go AnswerRun e = absurd (false≢true e)
-
-  pub phase-answer : isAnswerRun f ≡ true → phaseOf f ≡ AnswerRun
-  phase-answer h = go (phaseOf f) (sym (phase-tested .answer) ∙ h)
-    where
-      go : (s : Phase) → isAnswer s ≡ true → s ≡ AnswerRun
-      go Idle e = absurd (false≢true e)
-      go PacketRun e = absurd (false≢true e)
-      go ListRun e = absurd (false≢true e)
-      go AnswerRun e = refl
-
-  -- with the reason CoD 1, IO 1 it is in none
-  pub phase-idle : f .reason ≡ 3 → phaseOf f ≡ Idle
-  unfolding phaseOf isPacketRun isListRun isAnswerRun if_then_else_ _and_
-  phase-idle h = rw h
-
--- what status has ended is in no run
-pub ended-idle : (g : TaskFile) → phaseOf (ended g) ≡ Idle
-ended-idle g = phase-idle (ended g) refl
-
--- ---- the ways out
-
--- what holds of each way out, by the run that it has
-module _ (f : TaskFile) (v : ℕ) where
-  pub record Ways (P : Turn → Type 0) : Type 0 where
-    pub refuses : P (refusedTurn f)
-    pub holds : (a : Access) → phaseOf f ≡ Idle → P (held (written f a v))
-    pub asks : phaseOf f ≡ Idle → P (held (asked f))
-    pub takesPacket : phaseOf f ≡ PacketRun → P (packetByte f v)
-    pub takesItsList : phaseOf f ≡ ListRun → P (listByte f v)
-    pub gives : phaseOf f ≡ AnswerRun → P (answerByte f)
-    pub resets : P (record { due = Resets; file = reset f })
-
-  -- holds of what any access comes to
-  module _ {P : Turn → Type 0} (w : Ways P) where
-    write-ways : (s : Phase) (t : Turn) → (s ≡ Idle → P t) → P (writeTurn s f t)
-    write-ways Idle t h = h refl
-    write-ways PacketRun t h = w .refuses
-    write-ways ListRun t h = w .refuses
-    write-ways AnswerRun t h = w .refuses
-
-    data-ways : (s : Phase) → phaseOf f ≡ s → P (dataTurn s f v)
-    data-ways Idle h = w .refuses
-    data-ways PacketRun h = w .takesPacket h
-    data-ways ListRun h = w .takesItsList h
-    data-ways AnswerRun h = w .refuses
-
-    read-ways : (s : Phase) → phaseOf f ≡ s → P (readTurn s f)
-    read-ways Idle h = w .refuses
-    read-ways PacketRun h = w .refuses
-    read-ways ListRun h = w .refuses
-    read-ways AnswerRun h = w .gives h
-
-    pub turn-ways : (a : Access) → P (turnOf f a v)
-    unfolding turnOf
-    turn-ways Data = data-ways (phaseOf f) refl
-    turn-ways Features = write-ways (phaseOf f) _ (w .holds Features)
-    turn-ways CountLow = write-ways (phaseOf f) _ (w .holds CountLow)
-    turn-ways CountHigh = write-ways (phaseOf f) _ (w .holds CountHigh)
-    turn-ways Drive = write-ways (phaseOf f) _ (w .holds Drive)
-    turn-ways Nowhere = write-ways (phaseOf f) _ (w .holds Nowhere)
-    turn-ways Command = write-ways (phaseOf f) _ (λ h. either P (eqb v 0xA0) (λ e. w .asks h) (λ e. w .refuses))
-    turn-ways Read = read-ways (phaseOf f) refl
-    turn-ways Reset = w .resets
+use Rattle.taskfile.specs.declared.Phase.the-variants.{ListRun}
+use Rattle.taskfile.specs.TaskFile.{packetBytes, listBytes, countOf, bearing}
+use Rattle.taskfile.specs.Run.{limitOf, takesList, phaseOf}
+use Rattle.taskfile.specs.Host.{gone, packetEnd, packetByte, listByte, answerByte, written, turnOf}
+use Rattle.taskfile.specs.HostLaws.{turnOf-ways}
+use Rattle.registerclaims.specs.RegisterLimit.{Limit}
+use Rattle.registerclaims.specs.Along.{list-listing}
 
 -- ---- packet and list keep their lengths
 
@@ -193,7 +62,7 @@ module _ (f : TaskFile) (v : ℕ) where
   written-lengths Reset = (refl, refl)
 
   pub turn-lengths : (a : Access) → SameLengths f (turnOf f a v .file)
-  turn-lengths = turn-ways f v {P = Lasts} (record {
+  turn-lengths = turnOf-ways f v {P = Lasts} (record {
     refuses = (refl, refl);
     holds = λ a h. written-lengths a;
     asks = λ h. (refl, refl);
@@ -201,4 +70,48 @@ module _ (f : TaskFile) (v : ℕ) where
     takesItsList = λ h. list-lengths;
     gives = λ h. answer-lengths;
     resets = (refl, refl);
+  })
+
+-- ---- the limit of an answer
+
+-- what is due is one thing alone
+never : _≡_ {A = ℕ} 0 1 → ⊥
+never h = omega arith
+
+module _ (f : TaskFile) (v : ℕ) where
+  -- "the host's byte count limit as held at the packet's end"
+  abbrev Limited : Turn → Type 0
+  Limited t = t .due ≡ Performs → t .file .limit ≡ limitOf (countOf f)
+
+  pub performs-limit : (a : Access) → Limited (turnOf f a v)
+  unfolding packetByte packetEnd listByte answerByte
+  performs-limit = turnOf-ways f v {P = Limited} (record {
+    refuses = λ e. absurd (never cc);
+    holds = λ a h e. absurd (never cc);
+    asks = λ h e. absurd (never cc);
+    takesPacket = λ h.
+        either Limited (eqb (f .at + 1) packetBytes)
+        (λ x. either Limited (takesList (set (f .packet) (f .at) v)) (λ y e. absurd (never cc)) (λ y e. refl)) (λ x e. absurd (never cc));
+    takesItsList = λ h. either Limited (eqb (f .at + 1) listBytes) (λ x e. absurd (never cc)) (λ x e. absurd (never cc));
+    gives = λ h e. absurd (never cc);
+    resets = λ e. absurd (never cc);
+  })
+
+  -- it is the limit of the answer behind a list too
+  abbrev Kept : Turn → Type 0
+  Kept t = t .due ≡ PerformsListed → (t .file .limit ≡ f .limit) × Limit (f .limit)
+
+  pub listed-limit : (a : Access) → Kept (turnOf f a v)
+  unfolding packetByte packetEnd listByte answerByte
+  listed-limit = turnOf-ways f v {P = Kept} (record {
+    refuses = λ e. absurd (never cc);
+    holds = λ a h e. absurd (never cc);
+    asks = λ h e. absurd (never cc);
+    takesPacket = λ h.
+        either Kept (eqb (f .at + 1) packetBytes)
+        (λ x. either Kept (takesList (set (f .packet) (f .at) v)) (λ y e. absurd (never cc)) (λ y e. absurd (never cc)))
+        (λ x e. absurd (never cc));
+    takesItsList = λ h. either Kept (eqb (f .at + 1) listBytes) (λ x e. (refl, list-listing f h .limited)) (λ x e. absurd (never cc));
+    gives = λ h e. absurd (never cc);
+    resets = λ e. absurd (never cc);
   })

@@ -121,21 +121,27 @@ module _ (f : TaskFile) where
       let a = and-tail _ _ (and-tail _ _ (phaseOf-tested .packet ∙ ap isPacket h)) in
       (ltb-true _ _ (and-tail _ _ a), eqb-true _ _ (and-head _ _ a))
 
+  -- in a run of list or answer
+  pub phaseOf-list-run : phaseOf f ≡ ListRun → Run f
+  unfolding isListRun
+  phaseOf-list-run h = isRun-run f (and-tail _ _ (and-tail _ _ (and-tail _ _ (phaseOf-tested .list ∙ ap isList h))))
+
+  pub phaseOf-answer-run : phaseOf f ≡ AnswerRun → Run f
+  unfolding isAnswerRun
+  phaseOf-answer-run h = isRun-run f (and-tail _ _ (and-tail _ _ (phaseOf-tested .answer ∙ ap isAnswer h)))
+
   -- in a run of the list: 16 bytes, not all of them here
   pub phaseOf-list : phaseOf f ≡ ListRun → (f .at < listBytes) × (f .len ≡ listBytes)
   unfolding isListRun
   phaseOf-list h =
-      let a = and-tail _ _ (and-tail _ _ (phaseOf-tested .list ∙ ap isList h)) in
-      let n : f .len ≡ listBytes = eqb-true _ _ (and-head _ _ a) in
-      let l = isRun-run f (and-tail _ _ a) .next in
+      let n : f .len ≡ listBytes = eqb-true _ _ (and-head _ _ (and-tail _ _ (and-tail _ _ (phaseOf-tested .list ∙ ap isList h)))) in
+      let l = phaseOf-list-run h .next in
       (omega arith, n)
 
   -- in a run of the answer: bytes that a response memory has, not all of them gone
   pub phaseOf-answer : phaseOf f ≡ AnswerRun → (f .at < f .len) × (f .len ≤ mostBytes)
   unfolding isAnswerRun
-  phaseOf-answer h =
-      let a = and-tail _ _ (phaseOf-tested .answer ∙ ap isAnswer h) in
-      (isRun-run f (and-tail _ _ a) .next, leb-true _ _ (and-head _ _ a))
+  phaseOf-answer h = (phaseOf-answer-run h .next, leb-true _ _ (and-head _ _ (and-tail _ _ (phaseOf-tested .answer ∙ ap isAnswer h))))
 
 pub ended-idle : (f : TaskFile) → phaseOf (ended f) ≡ Idle
 ended-idle f = phaseOf-idle (ended f) refl
