@@ -24,8 +24,8 @@ use Rattle.taskfile.specs.Host.{accessOf, turnOf}
 use Rattle.registers.specs.declared.Stepped.{Stepped}
 use Rattle.registers.specs.Registers.{stepOf, memoryOf}
 use Rattle.registerclaims.specs.RegisterTurn.{numberOf, readsData, isOutOfTurn, isCompleting, packetAt, listAt, replyAt}
-use Rattle.registerclaims.specs.RegisterTurnLaws.{turn-lengths}
-use Rattle.registerclaims.specs.RegisterRefusalLaws.{turn-due, Handed, step-15, step-beside, step-handed, refused-step, read-3, read-short, turn-performed, reply-ends}
+use Rattle.registerclaims.specs.RegisterTurnLaws.{turn-due, turn-lengths}
+use Rattle.registerclaims.specs.RegisterRefusalLaws.{Handed, step-15, step-beside, step-handed, refused-step, read-3, read-short, turn-performed, reply-ends}
 
 -- ---- the accesses
 

@@ -1,23 +1,128 @@
 -- What an access comes to, of every record: read off the ways out of `turnOf`.
 use Prim.Native.Nat.{ℕ, _+_, _%_}
-use mathlib.Core.Path.{_≡_, refl, _∙_}
+use mathlib.Core.Path.{_≡_, refl, sym, _∙_}
+use mathlib.Core.Bool.{Bool, true, false, not, false≢true}
 use native.Mathlib.Omega.{arith}
 use lib.ListN.{length, set, length-set}
 use lib.Dec.{eqb}
-use Rattle.ground.specs.Tests.{either}
+use Rattle.ground.specs.Tests.{_and_, _or_, if_then_else_, either}
+use Rattle.claims.specs.UnitLaws.{or-none}
 use Rattle.taskfile.specs.declared.TaskFile.{TaskFile}
+use Rattle.taskfile.specs.declared.Phase.{Phase}
+use Rattle.taskfile.specs.declared.Phase.the-variants.{Idle, PacketRun, ListRun, AnswerRun}
 use Rattle.taskfile.specs.declared.Access.{Access}
 use Rattle.taskfile.specs.declared.Access.the-variants.{Data, Features, CountLow, CountHigh, Drive, Command, Nowhere, Read, Reset}
 use Rattle.taskfile.specs.declared.Due.{Due}
 use Rattle.taskfile.specs.declared.Due.the-variants.{Performs, PerformsListed}
 use Rattle.taskfile.specs.declared.Turn.{Turn}
-use Rattle.taskfile.specs.declared.Phase.the-variants.{ListRun}
 use Rattle.taskfile.specs.TaskFile.{packetBytes, listBytes, countOf, bearing}
-use Rattle.taskfile.specs.Run.{limitOf, takesList, phaseOf}
-use Rattle.taskfile.specs.Host.{gone, packetEnd, packetByte, listByte, answerByte, written, turnOf}
-use Rattle.taskfile.specs.HostLaws.{turnOf-ways}
+use Rattle.taskfile.specs.Run.{limitOf, takesList, isAnswerRun, phaseOf}
+use Rattle.taskfile.specs.RunLaws.{isPacket, isList, isAnswer, phaseOf-tested}
+use Rattle.taskfile.specs.Host.{refusedTurn, held, gone, packetEnd, packetByte, listByte, answerByte, written, commandTurn, dataTurn, readTurn, writeTurn, turnBy, turnOf}
+use Rattle.taskfile.specs.HostLaws.{turnOf-ways, isRefused, isPerforming, isGiving}
 use Rattle.registerclaims.specs.RegisterLimit.{Limit}
+use Rattle.registerclaims.specs.RegisterTurn.{readsData, writesData, writesCommand, writesOther, isOutOfTurn, endsPacket, endsList, isCompleting}
 use Rattle.registerclaims.specs.Along.{list-listing}
+
+-- ---- what is due
+
+-- a refusal, a byte to give, a packet to perform
+pub record IsDue (refused gives performs : Bool) (e : Due) : Type 0 where
+  pub refuses : isRefused e ≡ refused
+  pub giving : isGiving e ≡ gives
+  pub performing : isPerforming e ≡ performs
+
+module _ (f : TaskFile) (v : ℕ) where
+  packet-due : IsDue false false (endsPacket f v) (packetByte f v .due)
+  unfolding packetByte packetEnd if_then_else_ _and_
+  packet-due = go (eqb (f .at + 1) packetBytes) (takesList (set (f .packet) (f .at) v)) _ _ _
+    where
+      go : (ends list : Bool) (g h k : TaskFile)
+          → IsDue false false (ends and not list) ((if ends then (if list then held g else record { due = Performs; file = h }) else held k) .due)
+      go true true g h k = record { refuses = refl; giving = refl; performing = refl }
+      go true false g h k = record { refuses = refl; giving = refl; performing = refl }
+      go false list g h k = record { refuses = refl; giving = refl; performing = refl }
+
+  list-due : IsDue false false (endsList f v) (listByte f v .due)
+  unfolding listByte if_then_else_
+  list-due = go (eqb (f .at + 1) listBytes) _ _
+    where
+      go : (ends : Bool) (g h : TaskFile) → IsDue false false ends ((if ends then record { due = PerformsListed; file = g } else held h) .due)
+      go true g h = record { refuses = refl; giving = refl; performing = refl }
+      go false g h = record { refuses = refl; giving = refl; performing = refl }
+
+  write-due : (s : Phase) (g : TaskFile) → IsDue (isPacket s or isList s or isAnswer s) false false (writeTurn s f (held g) .due)
+  unfolding _or_
+  write-due Idle g = record { refuses = refl; giving = refl; performing = refl }
+  write-due PacketRun g = record { refuses = refl; giving = refl; performing = refl }
+  write-due ListRun g = record { refuses = refl; giving = refl; performing = refl }
+  write-due AnswerRun g = record { refuses = refl; giving = refl; performing = refl }
+
+  command-due : (s : Phase)
+      → IsDue (not (eqb v 0xA0) or isPacket s or isList s or isAnswer s) false false (writeTurn s f (commandTurn f v) .due)
+  unfolding _or_ if_then_else_
+  command-due s = go s (eqb v 0xA0) _
+    where
+      go : (s : Phase) (b : Bool) (g : TaskFile)
+          → IsDue (not b or isPacket s or isList s or isAnswer s) false false (writeTurn s f (if b then held g else refusedTurn f) .due)
+      go s true g = write-due s g
+      go Idle false g = record { refuses = refl; giving = refl; performing = refl }
+      go PacketRun false g = record { refuses = refl; giving = refl; performing = refl }
+      go ListRun false g = record { refuses = refl; giving = refl; performing = refl }
+      go AnswerRun false g = record { refuses = refl; giving = refl; performing = refl }
+
+  data-due : (s : Phase)
+      → IsDue (not (isPacket s or isList s)) false (isPacket s and endsPacket f v or isList s and endsList f v) (dataTurn s f v .due)
+  unfolding _or_ _and_
+  data-due Idle = record { refuses = refl; giving = refl; performing = refl }
+  data-due PacketRun = rw (or-none (endsPacket f v)) packet-due
+  data-due ListRun = list-due
+  data-due AnswerRun = record { refuses = refl; giving = refl; performing = refl }
+
+  read-due : (s : Phase) → IsDue (not (isAnswer s)) (isAnswer s) false (readTurn s f .due)
+  unfolding answerByte
+  read-due Idle = record { refuses = refl; giving = refl; performing = refl }
+  read-due PacketRun = record { refuses = refl; giving = refl; performing = refl }
+  read-due ListRun = record { refuses = refl; giving = refl; performing = refl }
+  read-due AnswerRun = record { refuses = refl; giving = refl; performing = refl }
+
+  pub turn-due : (a : Access) → IsDue (isOutOfTurn f v a) (readsData a and isAnswerRun f) (isCompleting f v a) (turnOf f a v .due)
+  unfolding turnOf _or_ _and_
+  turn-due a = let T = phaseOf-tested f in rw (T .packet, T .list, T .answer) (go a (phaseOf f))
+    where
+      go : (a : Access) (s : Phase)
+          → IsDue
+          (readsData a and not (isAnswer s)
+          or writesData a and not (isPacket s or isList s)
+          or writesCommand a and not (eqb v 0xA0)
+          or writesOther a and (isPacket s or isList s or isAnswer s))
+          (readsData a and isAnswer s)
+          (writesData a and (isPacket s and endsPacket f v or isList s and endsList f v))
+          (turnBy a s f v .due)
+      go Data s = rw (or-none (not (isPacket s or isList s))) (data-due s)
+      go Features s = write-due s _
+      go CountLow s = write-due s _
+      go CountHigh s = write-due s _
+      go Drive s = write-due s _
+      go Nowhere s = write-due s _
+      go Command s = command-due s
+      go Read s = rw (or-none (not (isAnswer s))) (read-due s)
+      go Reset s = record { refuses = refl; giving = refl; performing = refl }
+
+  -- a refused access leaves the record
+  abbrev Stays : Turn → Type 0
+  Stays t = isRefused (t .due) ≡ true → t ≡ refusedTurn f
+
+  pub turn-stays : (a : Access) → Stays (turnOf f a v)
+  turn-stays = turnOf-ways f v {P = Stays} (record {
+    refuses = λ h. refl;
+    holds = λ a s h. absurd (false≢true h);
+    asks = λ s h. absurd (false≢true h);
+    takesPacket = λ s h. absurd (false≢true (sym (packet-due .refuses) ∙ h));
+    takesItsList = λ s h. absurd (false≢true (sym (list-due .refuses) ∙ h));
+    gives = λ s h. absurd (false≢true (sym (read-due AnswerRun .refuses) ∙ h));
+    resets = λ h. absurd (false≢true h);
+  })
 
 -- ---- packet and list keep their lengths
 

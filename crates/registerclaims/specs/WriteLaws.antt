@@ -10,7 +10,7 @@ use lib.ListN.{length, getD, take, drop, set, drop-of-length-le}
 use lib.Seq.{take-all, take-suc, drop-cons, paste-suc}
 use lib.Dec.{eqb}
 use borrow.Author.Tests.{lt-ltb, ne-eqb}
-use Rattle.ground.specs.Tests.{either, when, unless, and-off, and-both}
+use Rattle.ground.specs.Tests.{either, when, unless, and-both}
 use Rattle.drive.specs.declared.state.Drive.{Drive}
 use Rattle.taskfile.specs.declared.TaskFile.{TaskFile}
 use Rattle.taskfile.specs.declared.Turn.{Turn}
@@ -20,7 +20,8 @@ use Rattle.taskfile.specs.declared.Access.{Access}
 use Rattle.taskfile.specs.declared.Access.the-variants.{Data}
 use Rattle.taskfile.specs.declared.Due.the-variants.{PerformsListed}
 use Rattle.taskfile.specs.TaskFile.{takesPacketReason, packetBytes, listBytes, placed, bearing}
-use Rattle.taskfile.specs.Run.{isPacketRun, isListRun, isAnswerRun, phaseOf, leftBy, leftOf}
+use Rattle.taskfile.specs.Run.{isPacketRun, isAnswerRun, phaseOf, leftBy, leftOf}
+use Rattle.taskfile.specs.RunLaws.{isListRun-other, isPacketRun-phase}
 use Rattle.taskfile.specs.Host.{held, limited, gone, packetEnd, packetByte, listByte, dataTurn, turnOf}
 use Rattle.registers.specs.Registers.{stepBy, memoryBy, stepOf, memoryOf}
 use Rattle.registerclaims.specs.Along.{along, Listing, gone-along, along-list}
@@ -77,8 +78,9 @@ abbrev pub within : TaskFile → ℕ → TaskFile
 within g j = placed g takesPacketReason packetBytes packetBytes j
 
 within-phase : (g : TaskFile) (j : ℕ) → j < packetBytes → phaseOf (within g j) ≡ PacketRun
-unfolding phaseOf isPacketRun
-within-phase g j h = when _ _ _ (and-both _ _ refl (and-both _ _ refl (and-both _ _ refl (lt-ltb j packetBytes h))))
+unfolding isPacketRun
+within-phase g j h =
+    isPacketRun-phase (within g j) (and-both _ _ refl (and-both _ _ refl (and-both _ _ refl (lt-ltb j packetBytes h))))
 
 within-left : (g : TaskFile) (j : ℕ) → j < packetBytes → leftOf (within g j) ≡ packetBytes - j
 unfolding leftOf
@@ -146,10 +148,9 @@ module _ (f : TaskFile) (a : Listing f) (l : List ℕ) (x : length l ≡ listByt
 
 -- a record with another reason takes no list
 pub untaking : (f : TaskFile) → eqb (f .reason) 0x00 ≡ false → isTaking (phaseOf f) ≡ false
-unfolding phaseOf isListRun
+unfolding phaseOf
 untaking f h =
-    either P (isPacketRun f) (λ e. refl)
-    (λ e. rw (unless _ _ _ (sym (and-off (eqb (f .reason) 0x00) _ h))) (either P (isAnswerRun f) (λ e. refl) (λ e. refl)))
+    either P (isPacketRun f) (λ e. refl) (λ e. rw (unless _ _ _ (isListRun-other f h)) (either P (isAnswerRun f) (λ e. refl) (λ e. refl)))
   where
     P : Phase → Type 0
     P s = isTaking s ≡ false

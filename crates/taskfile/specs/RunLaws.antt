@@ -50,30 +50,30 @@ isAnswer s = eqb (code s) 3
 
 module _ (f : TaskFile) where
   -- a run's test says its reason
-  packet-reason : isPacketRun f ≡ true → f .reason ≡ takesPacketReason
+  isPacketRun-reason : isPacketRun f ≡ true → f .reason ≡ takesPacketReason
   unfolding isPacketRun
-  packet-reason h = eqb-true _ _ (and-head _ _ h)
+  isPacketRun-reason h = eqb-true _ _ (and-head _ _ h)
 
-  list-reason : isListRun f ≡ true → f .reason ≡ takesListReason
+  isListRun-reason : isListRun f ≡ true → f .reason ≡ takesListReason
   unfolding isListRun
-  list-reason h = eqb-true _ _ (and-head _ _ h)
+  isListRun-reason h = eqb-true _ _ (and-head _ _ h)
 
-  answer-reason : isAnswerRun f ≡ true → f .reason ≡ givesAnswerReason
+  isAnswerRun-reason : isAnswerRun f ≡ true → f .reason ≡ givesAnswerReason
   unfolding isAnswerRun
-  answer-reason h = eqb-true _ _ (and-head _ _ h)
+  isAnswerRun-reason h = eqb-true _ _ (and-head _ _ h)
 
   -- and with another reason it fails
-  not-packet : eqb (f .reason) takesPacketReason ≡ false → isPacketRun f ≡ false
+  isPacketRun-other : eqb (f .reason) takesPacketReason ≡ false → isPacketRun f ≡ false
   unfolding isPacketRun
-  not-packet h = sym (and-off _ _ h)
+  isPacketRun-other h = sym (and-off _ _ h)
 
-  pub not-list : eqb (f .reason) takesListReason ≡ false → isListRun f ≡ false
+  pub isListRun-other : eqb (f .reason) takesListReason ≡ false → isListRun f ≡ false
   unfolding isListRun
-  not-list h = sym (and-off _ _ h)
+  isListRun-other h = sym (and-off _ _ h)
 
-  not-answer : eqb (f .reason) givesAnswerReason ≡ false → isAnswerRun f ≡ false
+  isAnswerRun-other : eqb (f .reason) givesAnswerReason ≡ false → isAnswerRun f ≡ false
   unfolding isAnswerRun
-  not-answer h = sym (and-off _ _ h)
+  isAnswerRun-other h = sym (and-off _ _ h)
 
   -- the tests, by the phase
   pub record Tested (s : Phase) : Type 0 where
@@ -88,9 +88,9 @@ module _ (f : TaskFile) where
       go : (p l a : Bool) → isPacketRun f ≡ p → isListRun f ≡ l → isAnswerRun f ≡ a
           → Tested (if p then PacketRun else (if l then ListRun else (if a then AnswerRun else Idle)))
       go true l a h i j =
-          let e = packet-reason h in
-          record { packet = h; list = not-list (ap (λ (r : ℕ). eqb r 0) e); answer = not-answer (ap (λ (r : ℕ). eqb r 2) e) }
-      go false true a h i j = record { packet = h; list = i; answer = not-answer (ap (λ (r : ℕ). eqb r 2) (list-reason i)) }
+          let e = isPacketRun-reason h in
+          record { packet = h; list = isListRun-other (ap (λ (r : ℕ). eqb r 0) e); answer = isAnswerRun-other (ap (λ (r : ℕ). eqb r 2) e) }
+      go false true a h i j = record { packet = h; list = i; answer = isAnswerRun-other (ap (λ (r : ℕ). eqb r 2) (isListRun-reason i)) }
       go false false true h i j = record { packet = h; list = i; answer = j }
       go false false false h i j = record { packet = h; list = i; answer = j }
 
@@ -101,13 +101,13 @@ module _ (f : TaskFile) where
 
   pub isListRun-phase : isListRun f ≡ true → phaseOf f ≡ ListRun
   unfolding phaseOf
-  isListRun-phase h = unless _ _ _ (not-packet (ap (λ (r : ℕ). eqb r 1) (list-reason h))) ∙ when _ _ _ h
+  isListRun-phase h = unless _ _ _ (isPacketRun-other (ap (λ (r : ℕ). eqb r 1) (isListRun-reason h))) ∙ when _ _ _ h
 
   pub isAnswerRun-phase : isAnswerRun f ≡ true → phaseOf f ≡ AnswerRun
   unfolding phaseOf
   isAnswerRun-phase h =
-      let e = answer-reason h in
-      unless _ _ _ (not-packet (ap (λ (r : ℕ). eqb r 1) e)) ∙ unless _ _ _ (not-list (ap (λ (r : ℕ). eqb r 0) e)) ∙ when _ _ _ h
+      let e = isAnswerRun-reason h in
+      unless _ _ _ (isPacketRun-other (ap (λ (r : ℕ). eqb r 1) e)) ∙ unless _ _ _ (isListRun-other (ap (λ (r : ℕ). eqb r 0) e)) ∙ when _ _ _ h
 
   -- "status ends it (CoD 1, IO 1)": in no run
   pub phaseOf-idle : f .reason ≡ showsStatusReason → phaseOf f ≡ Idle
