@@ -16,7 +16,7 @@ pub mod RegisterMarked
 pub mod RegisterCall
 pub mod RegisterTurn
 pub mod RegisterRecord
-pub mod Bench
+pub mod Transfer
 pub mod Cut
 -- their proofs
 pub mod RegisterTurnLaws

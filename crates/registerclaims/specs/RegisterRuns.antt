@@ -22,7 +22,7 @@ use Rattle.registerclaims.specs.RegisterLimit.{Limit}
 use Rattle.registerclaims.specs.Cut.{cut, joined, roundedUp, cut-none, cut-joined, cut-number, cut-size}
 use Rattle.registerclaims.specs.Loop.{Loops, loops-got, loops-going, loops-done}
 use Rattle.registerclaims.specs.Along.{along, Answering, begun-along, along-answer, answer-left, Shows, along-shows}
-use Rattle.registerclaims.specs.Bench.{Bench, bench, afterReads, drain, drained}
+use Rattle.registerclaims.specs.Transfer.{Transfer as Bench, transferOf as bench, afterReads, drain, drained}
 use Rattle.registerclaims.specs.ReadLaws.{given, ended-drain, Upon, reached-along, reads-after, bytes-length, bytes-end, read-loops}
 
 -- the record f with the byte count of g

@@ -28,7 +28,7 @@ use Rattle.registers.specs.Registers.{asks, performed, stepBy, memoryBy, stepOf
 use Rattle.claims.specs.WholeLaws.{reply-held}
 use Rattle.claims.specs.RefusalLaws.{refusal-ordered}
 use Rattle.registerclaims.specs.RegisterLimit.{Limit, limit-limit}
-use Rattle.registerclaims.specs.Bench.{bench, left, next}
+use Rattle.registerclaims.specs.Transfer.{transferOf as bench, left, next}
 use Rattle.registerclaims.specs.RegisterRuns.{Leaves, Joined, leaves-whole, showing, ended-leaves, answer-runs, answer-none}
 use Rattle.registerclaims.specs.RegisterTurnLaws.{performs-limit, listed-limit}
 
