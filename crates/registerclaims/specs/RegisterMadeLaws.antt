@@ -1,12 +1,12 @@
 -- The records that calls make: each run begins, and goes on, along its transfer, with its size in the byte count.
-use Prim.Native.Nat.{ℕ, _+_, _≤_, _<_}
+use Prim.Native.Nat.{ℕ, zero, suc, _+_, _≤_, _<_}
 use mathlib.Core.Path.{_≡_, refl, sym, ap, _∙_}
 use mathlib.Core.Bool.{true, false}
 use mathlib.Core.List.{List, []}
 use native.Mathlib.Omega.{arith}
 use native.Mathlib.Decide.{ℕ-discrete}
 use borrow.Author.Tests.{eqb-true, eqb-false, ltb-true, lt-ltb}
-use lib.ListN.{length, getD, set, length-set}
+use lib.ListN.{length, getD, length-set}
 use lib.Dec.{eqb, ltb}
 use Rattle.ground.specs.Tests.{_and_, either, and-head, and-tail, and-both}
 use Rattle.drive.specs.declared.state.Drive as drive
@@ -21,16 +21,17 @@ use Rattle.taskfile.specs.declared.Access.the-variants.{Data, Features, CountLo
 use Rattle.taskfile.specs.declared.Due.{Due}
 use Rattle.taskfile.specs.declared.Due.the-variants.{Refused, Held, Performs, PerformsListed, Gives, Resets}
 use Rattle.taskfile.specs.declared.Turn.{Turn}
-use Rattle.taskfile.specs.TaskFile.{packetBytes, listBytes, countOf, placed, bearing, holding, asked, ended, reset}
+use Rattle.taskfile.specs.TaskFile.{countOf, placed, asked, ended, reset}
 use Rattle.taskfile.specs.Run.{takesList, isPacketRun, phaseOf}
 use Rattle.taskfile.specs.RunLaws.{Run, isPacket, phaseOf-tested, isPacketRun-phase, phaseOf-list-run, phaseOf-answer-run, phaseOf-idle}
-use Rattle.taskfile.specs.Host.{held, limited, passed, begun, gone, answered, packetEnd, packetByte, listByte, answerByte, written, turnOf}
-use Rattle.taskfile.specs.HostLaws.{turnOf-ways}
+use Rattle.taskfile.specs.Host.{limited, passed, begun, gone, answered, written, turnOf}
+use Rattle.taskfile.specs.HostLaws.{packed, listed, turnOf-ways}
 use Rattle.registers.specs.declared.Stepped.{Stepped}
 use Rattle.registers.specs.Registers.{plain, stands, asks, gives, stepBy, stepOf}
 use Rattle.registerclaims.specs.RegisterLimit.{Limit, limit-limit}
 use Rattle.registerclaims.specs.RegisterRecord.{reasonOf, Made}
 use Rattle.registerclaims.specs.Along.{along, Answering, Listing, begun-along, run-gone, along-answer, along-list, answer-answering, list-listing}
+use Rattle.registerclaims.specs.RegisterRuns.{showing, answer-none, answering, answer-some}
 
 -- ---- made records
 
@@ -74,23 +75,12 @@ begun-list g r t =
     rw (begun-along g 0 16)
     (list-along-made (placed g 0 (g .limit) 16 0) 0 (r .packet) (r .list) (record { reason = refl; takes = t; whole = refl; limited = r .limit }) (omega arith))
 
-begun-answer : (g : TaskFile) (n : ℕ) → Ready g → 0 < n → n ≤ 6538 → Made (begun g 2 n)
-begun-answer g n r k h =
-    rw (begun-along g 2 n)
-    (answer-along-made (placed g 2 (g .limit) n 0) 0 (r .packet) (r .list) (record { reason = refl; fits = h; limited = r .limit }) k)
-
 -- the target's answer makes a made record
 pub answered-made : (g : TaskFile) (s n : ℕ) → Ready g → n ≤ 6538 → Made (answered g s n)
-unfolding answered
-answered-made g s n r h =
-    let k : TaskFile = holding g (g .features) (g .low) (g .high) (g .drive) s in
-    let q : Ready k = record { packet = r .packet; list = r .list; low = r .low; high = r .high; limit = r .limit } in
-    either Made (eqb n 0) {x = ended k} {y = begun k 2 n}
-    (λ z. idle-made (ended k) (r .packet) (r .list) (r .low) (r .high) refl)
-    (λ z. begun-answer k n q (let w = eqb-false n 0 z in pos n w) h)
-  where
-    pos : (n : ℕ) → (n ≡ 0 → ⊥) → 0 < n
-    pos n w = elim (ℕ-discrete n 0) [ yes e ↦ absurd (w e) | no e ↦ omega arith ]
+answered-made g s zero r h = rw (answer-none g s) (idle-made (ended (showing g s)) (r .packet) (r .list) (r .low) (r .high) refl)
+answered-made g s (suc n) r h =
+    rw (answer-some g s (suc n) (omega arith))
+    (answer-along-made (answering g s (suc n)) 0 (r .packet) (r .list) (record { reason = refl; fits = h; limited = r .limit }) (omega arith))
 
 -- there is a next byte
 next-inside : (i n : ℕ) → i < n → eqb (i + 1) n ≡ false → i + 1 < n
@@ -106,12 +96,9 @@ pub reset-made : (f : TaskFile) → length (f .packet) ≡ 12 → length (f .lis
 reset-made f p l = idle-made (reset f) p l (omega arith) (omega arith) refl
 
 module _ (f : TaskFile) (v : ℕ) (M : Made f) where
-  abbrev packed : TaskFile
-  packed = bearing f (set (f .packet) (f .at) v) (f .list)
-
   -- in a packet run
   module _ (s : phaseOf f ≡ PacketRun) where
-    packet-ready : Ready (limited packed)
+    packet-ready : Ready (limited (packed f v))
     packet-ready = record {
       packet = length-set (f .packet) (f .at) v ∙ M .packet;
       list = M .list;
@@ -120,7 +107,7 @@ module _ (f : TaskFile) (v : ℕ) (M : Made f) where
       limit = limit-limit (countOf f) (let a = M .low in let b = M .high in omega arith);
     }
 
-    packet-passed : eqb (f .at + 1) 12 ≡ false → Made (passed packed)
+    packet-passed : eqb (f .at + 1) 12 ≡ false → Made (passed (packed f v))
     unfolding isPacketRun
     packet-passed z =
         let h = phaseOf-tested f .packet ∙ ap isPacket s in
@@ -128,37 +115,25 @@ module _ (f : TaskFile) (v : ℕ) (M : Made f) where
         let a = and-tail _ _ h in
         let b = and-tail _ _ a in
         let i = next-inside (f .at) 12 (ltb-true (f .at) 12 (and-tail _ _ b)) z in
-        let e : isPacketRun (passed packed) ≡ true =
+        let e : isPacketRun (passed (packed f v)) ≡ true =
         and-both _ _ r (and-both _ _ (and-head _ _ a) (and-both _ _ (and-head _ _ b) (lt-ltb (f .at + 1) 12 i))) in
         record {
           packet = length-set (f .packet) (f .at) v ∙ M .packet;
           list = M .list;
           low = M .low;
           high = M .high;
-          reason = eqb-true (f .reason) 1 r ∙ ap reasonOf (sym (isPacketRun-phase (passed packed) e));
+          reason = eqb-true (f .reason) 1 r ∙ ap reasonOf (sym (isPacketRun-phase (passed (packed f v)) e));
         }
-
-    packet-made : MadeTurn (packetByte f v)
-    unfolding packetByte packetEnd
-    packet-made =
-        either MadeTurn (eqb (f .at + 1) packetBytes)
-        {x = packetEnd (limited packed)} {y = held (passed packed)}
-        (λ z. either MadeTurn (takesList (packed .packet))
-        {x = held (begun (limited packed) 0 16)} {y = record { due = Performs; file = limited packed }}
-        (λ t. begun-list (limited packed) packet-ready t) (λ t. packet-ready)) packet-passed
 
   -- in a list run
   module _ (s : phaseOf f ≡ ListRun) where
-    abbrev listed : TaskFile
-    listed = bearing f (f .packet) (set (f .list) (f .at) v)
-
-    list-listed : Listing listed
+    list-listed : Listing (listed f v)
     list-listed = let a = list-listing f s in record { reason = a .reason; takes = a .takes; whole = a .whole; limited = a .limited }
 
-    list-run : Run listed
+    list-run : Run (listed f v)
     list-run = let r = phaseOf-list-run f s in record { limit = r .limit; next = r .next; count = r .count }
 
-    list-ready : Ready listed
+    list-ready : Ready (listed f v)
     list-ready = record {
       packet = M .packet;
       list = length-set (f .list) (f .at) v ∙ M .list;
@@ -167,16 +142,10 @@ module _ (f : TaskFile) (v : ℕ) (M : Made f) where
       limit = list-listed .limited;
     }
 
-    list-gone : eqb (f .at + 1) 16 ≡ false → Made (gone listed)
+    list-gone : eqb (f .at + 1) 16 ≡ false → Made (gone (listed f v))
     list-gone z =
         let i = next-inside (f .at) 16 (rw (list-listed .whole) at (list-run .next)) z in
-        rw (run-gone listed list-run (M .low) (M .high)) (list-along-made listed (f .at + 1) (M .packet) (list-ready .list) list-listed i)
-
-    list-made : MadeTurn (listByte f v)
-    unfolding listByte
-    list-made =
-        either MadeTurn (eqb (f .at + 1) listBytes) {x = record { due = PerformsListed; file = listed }} {y = held (gone listed)}
-        (λ z. list-ready) list-gone
+        rw (run-gone (listed f v) list-run (M .low) (M .high)) (list-along-made (listed f v) (f .at + 1) (M .packet) (list-ready .list) list-listed i)
 
   -- in an answer run
   module _ (s : phaseOf f ≡ AnswerRun) where
@@ -185,12 +154,6 @@ module _ (f : TaskFile) (v : ℕ) (M : Made f) where
         let r = phaseOf-answer-run f s in
         let i = next-inside (f .at) (f .len) (r .next) z in
         rw (run-gone f r (M .low) (M .high)) (answer-along-made f (f .at + 1) (M .packet) (M .list) (answer-answering f s) i)
-
-    answer-made : MadeTurn (answerByte f)
-    unfolding answerByte
-    answer-made =
-        either Made (eqb (f .at + 1) (f .len)) {x = ended f} {y = gone f}
-        (λ z. idle-made (ended f) (M .packet) (M .list) (M .low) (M .high) refl) answer-gone
 
   -- while idle
   module _ (small : v < 256) (h : f .reason ≡ 3) where
@@ -219,10 +182,14 @@ module _ (f : TaskFile) (v : ℕ) (M : Made f) where
     refuses = M;
     holds = λ a s. written-made small (M .reason ∙ ap reasonOf s) a;
     asks = λ s. asked-made;
-    takesPacket = packet-made;
-    takesItsList = list-made;
-    gives = answer-made;
-    resets = reset-made f (M .packet) (M .list);
+    takes = packet-passed;
+    asksList = λ s t. begun-list (limited (packed f v)) (packet-ready s) t;
+    performs = packet-ready;
+    enters = list-gone;
+    performsListed = list-ready;
+    givesLast = λ s. idle-made (ended f) (M .packet) (M .list) (M .low) (M .high) refl;
+    givesMore = answer-gone;
+    powersOn = reset-made f (M .packet) (M .list);
   })
 
 -- ---- a step

@@ -1,5 +1,5 @@
 -- Which number an access gives, and what a refused one leaves: by what is due at it.
-use Prim.Native.Nat.{ℕ, _+_}
+use Prim.Native.Nat.{ℕ}
 use mathlib.Core.Path.{_≡_, refl, sym, ap, _∙_}
 use mathlib.Core.Bool.{Bool, true, false, not, false≢true}
 use mathlib.Core.List.{List, []}
@@ -29,11 +29,11 @@ use Rattle.taskfile.specs.declared.Access.the-variants.{Read}
 use Rattle.taskfile.specs.declared.Due.{Due}
 use Rattle.taskfile.specs.declared.Due.the-variants.{Refused, Held, Performs, PerformsListed, Gives, Resets}
 use Rattle.taskfile.specs.declared.Turn.{Turn}
-use Rattle.taskfile.specs.TaskFile.{packetBytes, listBytes, holding, ended}
-use Rattle.taskfile.specs.Run.{takesList, isAnswerRun, phaseOf}
+use Rattle.taskfile.specs.TaskFile.{holding, ended}
+use Rattle.taskfile.specs.Run.{isAnswerRun, phaseOf}
 use Rattle.taskfile.specs.RunLaws.{isPacket, isList, isAnswer, phaseOf-tested, isAnswerRun-phase}
-use Rattle.taskfile.specs.Host.{packetEnd, packetByte, listByte, answerByte, readTurn, answered, turnOf}
-use Rattle.taskfile.specs.HostLaws.{turnOf-ways, isRefused, isPerforming, isGiving}
+use Rattle.taskfile.specs.Host.{answerByte, readTurn, answered, turnOf}
+use Rattle.taskfile.specs.HostLaws.{turnOf-ways, isRefused, isPerformed, isGiven}
 use Rattle.registers.specs.declared.Stepped.{Stepped}
 use Rattle.registers.specs.Registers.{plain, stands, asks, performed, gives, stepBy, memoryBy, stepOf, memoryOf}
 use Rattle.registerclaims.specs.RegisterTurn.{isOutOfTurn, isCompleting, packetAt, listAt, replyAt}
@@ -119,7 +119,7 @@ module _ (f g : TaskFile) (d : Drive) (t m : List ℕ) (twelve : length (g .pack
       go false h i j k l = record { two = i; three = j; four = k; any = rw h }
 
   pub step-handed : (e : Due)
-      → Handed (isKnownState d) (ltb (length m) bound) (isLoaded (d .deck) and not (isFit t)) (isGiving e) (isPerforming e)
+      → Handed (isKnownState d) (ltb (length m) bound) (isLoaded (d .deck) and not (isFit t)) (isGiven e) (isPerformed e)
       (stepBy e f g d t m .answer .number)
   unfolding _and_ _or_
   step-handed Refused = record { two = refl; three = refl; four = refl; any = refl }
@@ -149,55 +149,30 @@ module _ (f : TaskFile) (v : ℕ) where
     pub high : T .file .high ≡ f .high
     pub drive : T .file .drive ≡ f .drive
 
-  abbrev Performed : Turn → Type 0
-  Performed T = isPerforming (T .due) ≡ true → Performing T
-
-  packet-performed : phaseOf f ≡ PacketRun → Performed (packetByte f v)
-  unfolding packetByte packetEnd
-  packet-performed s =
-      let T = phaseOf-tested f in
-      let p : packetAt f v ≡ set (f .packet) (f .at) v = when _ _ _ (T .packet ∙ ap isPacket s) in
-      let l : listAt f v ≡ [] = unless _ _ _ (T .list ∙ ap isList s) in
-      either Performed (eqb (f .at + 1) packetBytes)
-      (λ x. either Performed (takesList (set (f .packet) (f .at) v)) (λ y h. absurd (false≢true h))
-      (λ y h. record {
-        step = λ d t m. rw (p, l);
-        memory = λ d t m. rw (p, l);
-        features = refl;
-        low = refl;
-        high = refl;
-        drive = refl;
-      }))
-      (λ x h. absurd (false≢true h))
-
-  list-performed : phaseOf f ≡ ListRun → Performed (listByte f v)
-  unfolding listByte
-  list-performed s =
-      let T = phaseOf-tested f in
-      let p : packetAt f v ≡ f .packet = unless _ _ _ (T .packet ∙ ap isPacket s) in
-      let l : listAt f v ≡ set (f .list) (f .at) v = when _ _ _ (T .list ∙ ap isList s) in
-      either Performed (eqb (f .at + 1) listBytes)
-      (λ x h. record {
-        step = λ d t m. rw (p, l);
-        memory = λ d t m. rw (p, l);
-        features = refl;
-        low = refl;
-        high = refl;
-        drive = refl;
-      })
-      (λ x h. absurd (false≢true h))
+  abbrev Completes : Turn → Type 0
+  Completes T = isPerformed (T .due) ≡ true → Performing T
 
   pub turn-performed : (a : Access) → isCompleting f v a ≡ true → Performing (turnOf f a v)
-  unfolding answerByte
   turn-performed a h =
-      turnOf-ways f v {P = Performed} (record {
-        refuses = λ h. absurd (false≢true h);
-        holds = λ a s h. absurd (false≢true h);
-        asks = λ s h. absurd (false≢true h);
-        takesPacket = packet-performed;
-        takesItsList = list-performed;
-        gives = λ s h. absurd (false≢true h);
-        resets = λ h. absurd (false≢true h);
+      let T = phaseOf-tested f in
+      turnOf-ways f v {P = Completes} (record {
+        refuses = λ e. absurd (false≢true e);
+        holds = λ a s e. absurd (false≢true e);
+        asks = λ s e. absurd (false≢true e);
+        takes = λ s x e. absurd (false≢true e);
+        asksList = λ s x e. absurd (false≢true e);
+        performs = λ s e.
+            let p : packetAt f v ≡ set (f .packet) (f .at) v = when _ _ _ (T .packet ∙ ap isPacket s) in
+            let l : listAt f v ≡ [] = unless _ _ _ (T .list ∙ ap isList s) in
+            record { step = λ d t m. rw (p, l); memory = λ d t m. rw (p, l); features = refl; low = refl; high = refl; drive = refl };
+        enters = λ s x e. absurd (false≢true e);
+        performsListed = λ s e.
+            let p : packetAt f v ≡ f .packet = unless _ _ _ (T .packet ∙ ap isPacket s) in
+            let l : listAt f v ≡ set (f .list) (f .at) v = when _ _ _ (T .list ∙ ap isList s) in
+            record { step = λ d t m. rw (p, l); memory = λ d t m. rw (p, l); features = refl; low = refl; high = refl; drive = refl };
+        givesLast = λ s e. absurd (false≢true e);
+        givesMore = λ s x e. absurd (false≢true e);
+        powersOn = λ e. absurd (false≢true e);
       }) a (turn-due f v a .performing ∙ h)
 
   -- ---- a data read

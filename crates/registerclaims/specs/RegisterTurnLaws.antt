@@ -1,6 +1,6 @@
 -- What an access comes to, of every record: read off the ways out of `turnOf`.
 use Prim.Native.Nat.{ℕ, _+_, _%_}
-use mathlib.Core.Path.{_≡_, refl, sym, _∙_}
+use mathlib.Core.Path.{_≡_, refl, _∙_}
 use mathlib.Core.Bool.{Bool, true, false, not, false≢true}
 use native.Mathlib.Omega.{arith}
 use lib.ListN.{length, set, length-set}
@@ -15,11 +15,11 @@ use Rattle.taskfile.specs.declared.Access.the-variants.{Data, Features, CountLo
 use Rattle.taskfile.specs.declared.Due.{Due}
 use Rattle.taskfile.specs.declared.Due.the-variants.{Performs, PerformsListed}
 use Rattle.taskfile.specs.declared.Turn.{Turn}
-use Rattle.taskfile.specs.TaskFile.{packetBytes, listBytes, countOf, bearing}
+use Rattle.taskfile.specs.TaskFile.{packetBytes, listBytes, countOf}
 use Rattle.taskfile.specs.Run.{limitOf, takesList, isAnswerRun, phaseOf}
 use Rattle.taskfile.specs.RunLaws.{isPacket, isList, isAnswer, phaseOf-tested}
 use Rattle.taskfile.specs.Host.{refusedTurn, held, gone, packetEnd, packetByte, listByte, answerByte, written, commandTurn, dataTurn, readTurn, writeTurn, turnBy, turnOf}
-use Rattle.taskfile.specs.HostLaws.{turnOf-ways, isRefused, isPerforming, isGiving}
+use Rattle.taskfile.specs.HostLaws.{packed, listed, turnOf-ways, isRefused, isPerformed, isGiven}
 use Rattle.registerclaims.specs.RegisterLimit.{Limit}
 use Rattle.registerclaims.specs.RegisterTurn.{readsData, writesData, writesCommand, writesOther, isOutOfTurn, endsPacket, endsList, isCompleting}
 use Rattle.registerclaims.specs.Along.{list-listing}
@@ -29,8 +29,8 @@ use Rattle.registerclaims.specs.Along.{list-listing}
 -- a refusal, a byte to give, a packet to perform
 pub record IsDue (refused gives performs : Bool) (e : Due) : Type 0 where
   pub refuses : isRefused e ≡ refused
-  pub giving : isGiving e ≡ gives
-  pub performing : isPerforming e ≡ performs
+  pub giving : isGiven e ≡ gives
+  pub performing : isPerformed e ≡ performs
 
 module _ (f : TaskFile) (v : ℕ) where
   packet-due : IsDue false false (endsPacket f v) (packetByte f v .due)
@@ -118,10 +118,14 @@ module _ (f : TaskFile) (v : ℕ) where
     refuses = λ h. refl;
     holds = λ a s h. absurd (false≢true h);
     asks = λ s h. absurd (false≢true h);
-    takesPacket = λ s h. absurd (false≢true (sym (packet-due .refuses) ∙ h));
-    takesItsList = λ s h. absurd (false≢true (sym (list-due .refuses) ∙ h));
-    gives = λ s h. absurd (false≢true (sym (read-due AnswerRun .refuses) ∙ h));
-    resets = λ h. absurd (false≢true h);
+    takes = λ s x h. absurd (false≢true h);
+    asksList = λ s x h. absurd (false≢true h);
+    performs = λ s h. absurd (false≢true h);
+    enters = λ s x h. absurd (false≢true h);
+    performsListed = λ s h. absurd (false≢true h);
+    givesLast = λ s h. absurd (false≢true h);
+    givesMore = λ s x h. absurd (false≢true h);
+    powersOn = λ h. absurd (false≢true h);
   })
 
 -- ---- packet and list keep their lengths
@@ -137,23 +141,11 @@ module _ (f : TaskFile) (v : ℕ) where
   abbrev Lasts : Turn → Type 0
   Lasts t = SameLengths f (t .file)
 
-  packet-lengths : Lasts (packetByte f v)
-  unfolding packetByte packetEnd
-  packet-lengths =
-      let s : length (set (f .packet) (f .at) v) ≡ length (f .packet) = length-set (f .packet) (f .at) v in
-      either Lasts (eqb (f .at + 1) packetBytes)
-      (λ h. either Lasts (takesList (set (f .packet) (f .at) v)) (λ k. (s, refl)) (λ k. (s, refl))) (λ h. (s, refl))
+  packet-lengths : SameLengths f (packed f v)
+  packet-lengths = (length-set (f .packet) (f .at) v, refl)
 
-  list-lengths : Lasts (listByte f v)
-  unfolding listByte
-  list-lengths =
-      let s : length (set (f .list) (f .at) v) ≡ length (f .list) = length-set (f .list) (f .at) v in
-      let g = gone-lengths (bearing f (f .packet) (set (f .list) (f .at) v)) in
-      either Lasts (eqb (f .at + 1) listBytes) (λ h. (refl, s)) (λ h. (g .0, g .1 ∙ s))
-
-  answer-lengths : Lasts (answerByte f)
-  unfolding answerByte
-  answer-lengths = either (SameLengths f) (eqb (f .at + 1) (f .len)) (λ h. (refl, refl)) (λ h. gone-lengths f)
+  list-lengths : SameLengths f (listed f v)
+  list-lengths = (refl, length-set (f .list) (f .at) v)
 
   written-lengths : (a : Access) → SameLengths f (written f a v)
   written-lengths Data = (refl, refl)
@@ -166,15 +158,19 @@ module _ (f : TaskFile) (v : ℕ) where
   written-lengths Read = (refl, refl)
   written-lengths Reset = (refl, refl)
 
-  pub turn-lengths : (a : Access) → SameLengths f (turnOf f a v .file)
+  pub turn-lengths : (a : Access) → Lasts (turnOf f a v)
   turn-lengths = turnOf-ways f v {P = Lasts} (record {
     refuses = (refl, refl);
-    holds = λ a h. written-lengths a;
-    asks = λ h. (refl, refl);
-    takesPacket = λ h. packet-lengths;
-    takesItsList = λ h. list-lengths;
-    gives = λ h. answer-lengths;
-    resets = (refl, refl);
+    holds = λ a s. written-lengths a;
+    asks = λ s. (refl, refl);
+    takes = λ s x. packet-lengths;
+    asksList = λ s x. packet-lengths;
+    performs = λ s. packet-lengths;
+    enters = λ s x. let g = gone-lengths (listed f v) in (g .0, g .1 ∙ list-lengths .1);
+    performsListed = λ s. list-lengths;
+    givesLast = λ s. (refl, refl);
+    givesMore = λ s x. gone-lengths f;
+    powersOn = (refl, refl);
   })
 
 -- ---- the limit of an answer
@@ -189,17 +185,18 @@ module _ (f : TaskFile) (v : ℕ) where
   Limited t = t .due ≡ Performs → t .file .limit ≡ limitOf (countOf f)
 
   pub performs-limit : (a : Access) → Limited (turnOf f a v)
-  unfolding packetByte packetEnd listByte answerByte
   performs-limit = turnOf-ways f v {P = Limited} (record {
     refuses = λ e. absurd (never cc);
-    holds = λ a h e. absurd (never cc);
-    asks = λ h e. absurd (never cc);
-    takesPacket = λ h.
-        either Limited (eqb (f .at + 1) packetBytes)
-        (λ x. either Limited (takesList (set (f .packet) (f .at) v)) (λ y e. absurd (never cc)) (λ y e. refl)) (λ x e. absurd (never cc));
-    takesItsList = λ h. either Limited (eqb (f .at + 1) listBytes) (λ x e. absurd (never cc)) (λ x e. absurd (never cc));
-    gives = λ h e. absurd (never cc);
-    resets = λ e. absurd (never cc);
+    holds = λ a s e. absurd (never cc);
+    asks = λ s e. absurd (never cc);
+    takes = λ s x e. absurd (never cc);
+    asksList = λ s x e. absurd (never cc);
+    performs = λ s e. refl;
+    enters = λ s x e. absurd (never cc);
+    performsListed = λ s e. absurd (never cc);
+    givesLast = λ s e. absurd (never cc);
+    givesMore = λ s x e. absurd (never cc);
+    powersOn = λ e. absurd (never cc);
   })
 
   -- it is the limit of the answer behind a list too
@@ -207,16 +204,16 @@ module _ (f : TaskFile) (v : ℕ) where
   Kept t = t .due ≡ PerformsListed → (t .file .limit ≡ f .limit) × Limit (f .limit)
 
   pub listed-limit : (a : Access) → Kept (turnOf f a v)
-  unfolding packetByte packetEnd listByte answerByte
   listed-limit = turnOf-ways f v {P = Kept} (record {
     refuses = λ e. absurd (never cc);
-    holds = λ a h e. absurd (never cc);
-    asks = λ h e. absurd (never cc);
-    takesPacket = λ h.
-        either Kept (eqb (f .at + 1) packetBytes)
-        (λ x. either Kept (takesList (set (f .packet) (f .at) v)) (λ y e. absurd (never cc)) (λ y e. absurd (never cc)))
-        (λ x e. absurd (never cc));
-    takesItsList = λ h. either Kept (eqb (f .at + 1) listBytes) (λ x e. (refl, list-listing f h .limited)) (λ x e. absurd (never cc));
-    gives = λ h e. absurd (never cc);
-    resets = λ e. absurd (never cc);
+    holds = λ a s e. absurd (never cc);
+    asks = λ s e. absurd (never cc);
+    takes = λ s x e. absurd (never cc);
+    asksList = λ s x e. absurd (never cc);
+    performs = λ s e. absurd (never cc);
+    enters = λ s x e. absurd (never cc);
+    performsListed = λ s e. (refl, list-listing f s .limited);
+    givesLast = λ s e. absurd (never cc);
+    givesMore = λ s x e. absurd (never cc);
+    powersOn = λ e. absurd (never cc);
   })
