@@ -32,6 +32,9 @@ pub record IsDue (refused gives performs : Bool) (e : Due) : Type 0 where
   pub giving : isGiven e ≡ gives
   pub performing : isPerformed e ≡ performs
 
+due-itself : (e : Due) → IsDue (isRefused e) (isGiven e) (isPerformed e) e
+due-itself e = record { refuses = refl; giving = refl; performing = refl }
+
 module _ (f : TaskFile) (v : ℕ) where
   packet-due : IsDue false false (endsPacket f v) (packetByte f v .due)
   unfolding packetByte packetEnd if_then_else_ _and_
@@ -39,24 +42,24 @@ module _ (f : TaskFile) (v : ℕ) where
     where
       go : (ends list : Bool) (g h k : TaskFile)
           → IsDue false false (ends and not list) ((if ends then (if list then held g else record { due = Performs; file = h }) else held k) .due)
-      go true true g h k = record { refuses = refl; giving = refl; performing = refl }
-      go true false g h k = record { refuses = refl; giving = refl; performing = refl }
-      go false list g h k = record { refuses = refl; giving = refl; performing = refl }
+      go true true g h k = due-itself _
+      go true false g h k = due-itself _
+      go false list g h k = due-itself _
 
   list-due : IsDue false false (endsList f v) (listByte f v .due)
   unfolding listByte if_then_else_
   list-due = go (eqb (f .at + 1) listBytes) _ _
     where
       go : (ends : Bool) (g h : TaskFile) → IsDue false false ends ((if ends then record { due = PerformsListed; file = g } else held h) .due)
-      go true g h = record { refuses = refl; giving = refl; performing = refl }
-      go false g h = record { refuses = refl; giving = refl; performing = refl }
+      go true g h = due-itself _
+      go false g h = due-itself _
 
   write-due : (s : Phase) (g : TaskFile) → IsDue (isPacket s or isList s or isAnswer s) false false (writeTurn s f (held g) .due)
   unfolding _or_
-  write-due Idle g = record { refuses = refl; giving = refl; performing = refl }
-  write-due PacketRun g = record { refuses = refl; giving = refl; performing = refl }
-  write-due ListRun g = record { refuses = refl; giving = refl; performing = refl }
-  write-due AnswerRun g = record { refuses = refl; giving = refl; performing = refl }
+  write-due Idle g = due-itself _
+  write-due PacketRun g = due-itself _
+  write-due ListRun g = due-itself _
+  write-due AnswerRun g = due-itself _
 
   command-due : (s : Phase)
       → IsDue (not (eqb v 0xA0) or isPacket s or isList s or isAnswer s) false false (writeTurn s f (commandTurn f v) .due)
@@ -66,25 +69,25 @@ module _ (f : TaskFile) (v : ℕ) where
       go : (s : Phase) (b : Bool) (g : TaskFile)
           → IsDue (not b or isPacket s or isList s or isAnswer s) false false (writeTurn s f (if b then held g else refusedTurn f) .due)
       go s true g = write-due s g
-      go Idle false g = record { refuses = refl; giving = refl; performing = refl }
-      go PacketRun false g = record { refuses = refl; giving = refl; performing = refl }
-      go ListRun false g = record { refuses = refl; giving = refl; performing = refl }
-      go AnswerRun false g = record { refuses = refl; giving = refl; performing = refl }
+      go Idle false g = due-itself _
+      go PacketRun false g = due-itself _
+      go ListRun false g = due-itself _
+      go AnswerRun false g = due-itself _
 
   data-due : (s : Phase)
       → IsDue (not (isPacket s or isList s)) false (isPacket s and endsPacket f v or isList s and endsList f v) (dataTurn s f v .due)
   unfolding _or_ _and_
-  data-due Idle = record { refuses = refl; giving = refl; performing = refl }
+  data-due Idle = due-itself _
   data-due PacketRun = rw (or-none (endsPacket f v)) packet-due
   data-due ListRun = list-due
-  data-due AnswerRun = record { refuses = refl; giving = refl; performing = refl }
+  data-due AnswerRun = due-itself _
 
   read-due : (s : Phase) → IsDue (not (isAnswer s)) (isAnswer s) false (readTurn s f .due)
   unfolding answerByte
-  read-due Idle = record { refuses = refl; giving = refl; performing = refl }
-  read-due PacketRun = record { refuses = refl; giving = refl; performing = refl }
-  read-due ListRun = record { refuses = refl; giving = refl; performing = refl }
-  read-due AnswerRun = record { refuses = refl; giving = refl; performing = refl }
+  read-due Idle = due-itself _
+  read-due PacketRun = due-itself _
+  read-due ListRun = due-itself _
+  read-due AnswerRun = due-itself _
 
   pub turn-due : (a : Access) → IsDue (isOutOfTurn f v a) (readsData a and isAnswerRun f) (isCompleting f v a) (turnOf f a v .due)
   unfolding turnOf _or_ _and_
@@ -107,7 +110,7 @@ module _ (f : TaskFile) (v : ℕ) where
       go Nowhere s = write-due s _
       go Command s = command-due s
       go Read s = rw (or-none (not (isAnswer s))) (read-due s)
-      go Reset s = record { refuses = refl; giving = refl; performing = refl }
+      go Reset s = due-itself _
 
   -- a refused access leaves the record
   abbrev Stays : Turn → Type 0
