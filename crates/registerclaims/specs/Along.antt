@@ -1,6 +1,6 @@
 -- K14: the record along a transfer in runs. `gone-along`, the one law of `gone`, holds since a byte more either starts a run or stays in it.
 use Prim.Native.Nat.{ℕ, suc, _+_, _-_, _/_, _%_, _≤_, _<_, min}
-use mathlib.Core.Path.{_≡_, refl, sym, ap, _∙_}
+use mathlib.Core.Path.{_≡_, sym, ap, _∙_}
 use mathlib.Core.Bool.{true}
 use mathlib.Core.List.{List, []}
 use native.Mathlib.Omega.{arith}
@@ -9,16 +9,17 @@ use native.Mathlib.Numerals.{add-one}
 use native.Mathlib.Decide.{decLt}
 use lib.ListN.{length, getD, drop, length-drop}
 use lib.Dec.{eqb}
-use borrow.Author.Tests.{eqb-true, eqb-false, lt-ltb, le-leb, eq-eqb}
-use Rattle.ground.specs.Tests.{_and_, if_then_else_, either, when, unless, and-off, and-both}
-use Rattle.ground.specs.Number.{bytes16-exact}
+use borrow.Author.Tests.{eqb-true, eqb-false, le-leb, eq-eqb}
+use Rattle.ground.specs.Tests.{either, and-head, and-tail, and-both}
+use Rattle.ground.specs.Number.{word16, bytes16-exact}
 use Rattle.taskfile.specs.declared.TaskFile.{TaskFile}
 use Rattle.taskfile.specs.declared.Phase.{Phase}
-use Rattle.taskfile.specs.declared.Phase.the-variants.{Idle, ListRun, AnswerRun}
-use Rattle.taskfile.specs.TaskFile.{takesListReason, givesAnswerReason, listBytes, countOf, counting, placed, ended}
-use Rattle.taskfile.specs.Run.{mostBytes, sizeOf, isRun, takesList, isPacketRun, isListRun, isAnswerRun, phaseOf, leftBy, leftOf}
+use Rattle.taskfile.specs.declared.Phase.the-variants.{ListRun, AnswerRun}
+use Rattle.taskfile.specs.TaskFile.{takesListReason, givesAnswerReason, listBytes, countOf, counting, placed, holding}
+use Rattle.taskfile.specs.Run.{mostBytes, sizeOf, isRun, takesList, isListRun, isAnswerRun, phaseOf, leftBy, leftOf}
+use Rattle.taskfile.specs.RunLaws.{Run, run-isRun, isList, isAnswer, phaseOf-tested, isListRun-phase, isAnswerRun-phase, phaseOf-list-run, phaseOf-answer-run, phaseOf-list, phaseOf-answer}
 use Rattle.taskfile.specs.Host.{begun, gone}
-use Rattle.registerclaims.specs.RegisterLimit.{Limit, limit-isLimit}
+use Rattle.registerclaims.specs.RegisterLimit.{Limit, limit-isLimit, isLimit-limit}
 use Rattle.registerclaims.specs.Cut.{cut, cut-at}
 
 -- the record f with j bytes of its transfer gone
@@ -66,8 +67,23 @@ pub along-count : (f : TaskFile) (j : ℕ) → Limit (f .limit) → countOf (alo
 along-count f j l = bytes16-exact (sizeOf (movedTo f j)) (omega arith)
 
 along-isRun : (f : TaskFile) (j : ℕ) → Limit (f .limit) → j < f .len → isRun (along f j) ≡ true
-unfolding isRun
-along-isRun f j l h = and-both _ _ (limit-isLimit (f .limit) l) (and-both _ _ (lt-ltb j (f .len) h) (eq-eqb _ _ (along-count f j l)))
+along-isRun f j l h = run-isRun (along f j) (record { limit = limit-isLimit (f .limit) l; next = h; count = along-count f j l })
+
+-- a record in a run is along its transfer, where the byte count is of two bytes
+run-along : (f : TaskFile) → Run f → f .low < 256 → f .high < 256 → f ≡ along f (f .at)
+run-along f r a b =
+    let c = bytes (f .low) (f .high) (sizeOf f) a b (r .count) in
+    ap (λ (x : ℕ). holding f (f .features) x (f .high) (f .drive) (f .status)) (c .0)
+    ∙ ap (λ (x : ℕ). holding f (f .features) (sizeOf f % 256) x (f .drive) (f .status)) (c .1)
+  where
+    bytes : (l h n : ℕ) → l < 256 → h < 256 → word16 h l ≡ n → (l ≡ n % 256) × (h ≡ n / 256 % 256)
+    bytes l h n a b e = (omega arith, omega arith)
+
+-- so the next byte takes it along
+pub run-gone : (f : TaskFile) → Run f → f .low < 256 → f .high < 256 → gone f ≡ along f (f .at + 1)
+run-gone f r a b =
+    let l = isLimit-limit (f .limit) (r .limit) .least in
+    ap gone (run-along f r a b) ∙ gone-along f (f .at) (omega arith)
 
 -- what a run of the answer stands in
 pub record Answering (f : TaskFile) : Type 0 where
@@ -76,12 +92,21 @@ pub record Answering (f : TaskFile) : Type 0 where
   pub limited : Limit (f .limit)
 
 pub along-answer : (f : TaskFile) (j : ℕ) → Answering f → j < f .len → phaseOf (along f j) ≡ AnswerRun
-unfolding phaseOf isPacketRun isListRun isAnswerRun
+unfolding isAnswerRun
 along-answer f j a h =
-    unless _ _ _ (sym (and-off _ _ (ap (λ (r : ℕ). eqb r 0x01) (a .reason))))
-    ∙ unless _ _ _ (sym (and-off _ _ (ap (λ (r : ℕ). eqb r 0x00) (a .reason))))
-    ∙ when _ _ _ (and-both _ _ (ap (λ (r : ℕ). eqb r 0x02) (a .reason))
-    (and-both _ _ (le-leb (f .len) mostBytes (a .fits)) (along-isRun f j (a .limited) h)))
+    isAnswerRun-phase (along f j)
+    (and-both _ _ (eq-eqb _ _ (a .reason)) (and-both _ _ (le-leb (f .len) mostBytes (a .fits)) (along-isRun f j (a .limited) h)))
+
+-- each record in one does
+pub answer-answering : (f : TaskFile) → phaseOf f ≡ AnswerRun → Answering f
+unfolding isAnswerRun
+answer-answering f h =
+    let a = phaseOf-tested f .answer ∙ ap isAnswer h in
+    record {
+      reason = eqb-true _ _ (and-head _ _ a);
+      fits = phaseOf-answer f h .1;
+      limited = isLimit-limit (f .limit) (phaseOf-answer-run f h .limit);
+    }
 
 -- and a run of the list
 pub record Listing (f : TaskFile) : Type 0 where
@@ -91,11 +116,22 @@ pub record Listing (f : TaskFile) : Type 0 where
   pub limited : Limit (f .limit)
 
 pub along-list : (f : TaskFile) (j : ℕ) → Listing f → j < listBytes → phaseOf (along f j) ≡ ListRun
-unfolding phaseOf isPacketRun isListRun
+unfolding isListRun
 along-list f j a h =
-    unless _ _ _ (sym (and-off _ _ (ap (λ (r : ℕ). eqb r 0x01) (a .reason))))
-    ∙ when _ _ _ (and-both _ _ (ap (λ (r : ℕ). eqb r 0x00) (a .reason))
+    isListRun-phase (along f j)
+    (and-both _ _ (eq-eqb _ _ (a .reason))
     (and-both _ _ (a .takes) (and-both _ _ (eq-eqb _ _ (a .whole)) (along-isRun f j (a .limited) (let k = a .whole in omega arith)))))
+
+pub list-listing : (f : TaskFile) → phaseOf f ≡ ListRun → Listing f
+unfolding isListRun
+list-listing f h =
+    let a = phaseOf-tested f .list ∙ ap isList h in
+    record {
+      reason = eqb-true _ _ (and-head _ _ a);
+      takes = and-head _ _ (and-tail _ _ a);
+      whole = phaseOf-list f h .1;
+      limited = isLimit-limit (f .limit) (phaseOf-list-run f h .limit);
+    }
 
 -- "the bytes left of the run"
 abbrev pub left : TaskFile → ℕ → ℕ
@@ -126,8 +162,3 @@ along-shows s f j b l n h p r =
       count = along-count f j l ∙ e;
       rest = r ∙ ap (λ (z : ℕ). z - j % f .limit) e ∙ sym (length-drop (j % f .limit) q);
     }
-
--- behind the last byte there is no run
-pub ended-idle : (f : TaskFile) → phaseOf (ended f) ≡ Idle
-unfolding phaseOf isPacketRun isListRun isAnswerRun _and_ if_then_else_
-ended-idle f = refl

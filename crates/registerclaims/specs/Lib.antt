@@ -16,7 +16,7 @@ pub mod RegisterMarked
 pub mod RegisterCall
 pub mod RegisterTurn
 pub mod RegisterRecord
-pub mod Bench
+pub mod Transfer
 pub mod Cut
 -- their proofs
 pub mod RegisterTurnLaws
@@ -26,7 +26,6 @@ pub mod Along
 pub mod ReadLaws
 pub mod WriteLaws
 pub mod ListLaws
-pub mod TurnLaws
 -- over any device, and over any loop
 pub mod Agreeing
 pub mod Loop

@@ -21,9 +21,9 @@ use Rattle.taskfile.specs.Run.{phaseOf}
 use Rattle.taskfile.specs.Host.{answered}
 use Rattle.registerclaims.specs.Loop.{sizeAt, Loops}
 use Rattle.registerclaims.specs.Along.{Listing, along-count}
-use Rattle.registerclaims.specs.Bench.{Bench, bench, next, afterWrites, isTaking, feed, fed}
+use Rattle.registerclaims.specs.Transfer.{Transfer, transferOf, next, afterWrites, isTaking, feed, fed}
 use Rattle.registerclaims.specs.TargetRuns.{due-next}
-use Rattle.registerclaims.specs.WriteLaws.{entered, held-next, writes-after, over, listing, listing-phase, list-turn, list-last, untaking}
+use Rattle.registerclaims.specs.WriteLaws.{entered, held-next, writes-after, over, entering, entering-phase, list-turn, list-last, untaking}
 
 answered-untaking : (g : TaskFile) (s n : ℕ) → isTaking (phaseOf (answered g s n)) ≡ false
 unfolding answered
@@ -31,11 +31,11 @@ answered-untaking g s n = untaking (answered g s n) (either (λ (h : TaskFile). 
 
 module _ (f : TaskFile) (a : Listing f) (l : List ℕ) (x : length l ≡ listBytes) (y : length (f .list) ≡ listBytes) (d : Drive) (t m : List ℕ) where
   -- behind j bytes, before the last one
-  abbrev pub before : ℕ → Bench
-  before j = bench (listing f a l x y j) d m
+  abbrev pub before : ℕ → Transfer
+  before j = transferOf (entering f a l x y j) d m
 
   -- and behind the last
-  abbrev pub at : ℕ → Bench
+  abbrev pub at : ℕ → Transfer
   at j = if eqb j listBytes then next Data (getD l 15 0) t (before 15) else before j
 
   pub at-before : (j : ℕ) → j < listBytes → at j ≡ before j
@@ -44,7 +44,7 @@ module _ (f : TaskFile) (a : Listing f) (l : List ℕ) (x : length l ≡ listByt
   at-next : (j : ℕ) → j < listBytes → next Data (getD l j 0) t (at j) ≡ at (j + 1)
   at-next j h = elim (decLt j 15) [
     | yes i ↦ ap (next Data (getD l j 0) t) (at-before j h)
-        ∙ held-next (listing f a l x y j) (listing f a l x y (j + 1)) Data (getD l j 0) d t m (list-turn f a l x y j i)
+        ∙ held-next (entering f a l x y j) (entering f a l x y (j + 1)) Data (getD l j 0) d t m (list-turn f a l x y j i)
         ∙ sym (at-before (j + 1) (omega arith))
     | no i ↦ (let e : j ≡ 15 = omega (arith, lt-of-not-le i) in
         ap (next Data (getD l j 0) t) (at-before j h)
@@ -61,8 +61,8 @@ module _ (f : TaskFile) (a : Listing f) (l : List ℕ) (x : length l ≡ listByt
   unfolding if_then_else_
   done-untaking =
       let w = list-last f a l x y in
-      let g : TaskFile = listing f a l x y 15 in
-      ap (λ (r : Bench). isTaking (phaseOf (r .file))) (due-next g Data (getD l 15 0) d t m PerformsListed (ap (λ (q : Turn). q .due) w))
+      let g : TaskFile = entering f a l x y 15 in
+      ap (λ (r : Transfer). isTaking (phaseOf (r .file))) (due-next g Data (getD l 15 0) d t m PerformsListed (ap (λ (q : Turn). q .due) w))
       ∙ answered-untaking _ _ _
 
   before-size : (j : ℕ) → countOf (before j .file) ≡ min (f .limit) (length l - (j - j % f .limit))
@@ -74,10 +74,10 @@ module _ (f : TaskFile) (a : Listing f) (l : List ℕ) (x : length l ≡ listByt
   start-count : (j : ℕ) → j < listBytes → j % f .limit ≡ 0 → countOf (at j .file) ≡ sizeAt (f .limit) l j
   start-count j h z =
       let e : min (f .limit) (length l - (j - j % f .limit)) ≡ sizeAt (f .limit) l j = omega arith in
-      ap (λ (r : Bench). countOf (r .file)) (at-before j h) ∙ before-size j ∙ e
+      ap (λ (r : Transfer). countOf (r .file)) (at-before j h) ∙ before-size j ∙ e
 
   start-takes : (j : ℕ) → j < listBytes → isTaking (phaseOf (at j .file)) ≡ true
-  start-takes j h = ap (λ (r : Bench). isTaking (phaseOf (r .file))) (at-before j h) ∙ ap isTaking (listing-phase f a l x y j h)
+  start-takes j h = ap (λ (r : Transfer). isTaking (phaseOf (r .file))) (at-before j h) ∙ ap isTaking (entering-phase f a l x y j h)
 
   -- the host's loop goes through the bytes
   pub write-loops : Loops (f .limit) l (λ p. p) at (λ k j. feed k (drop j l) t (at j)) (λ k j. fed k (drop j l) t (at j))
@@ -92,7 +92,7 @@ module _ (f : TaskFile) (a : Listing f) (l : List ℕ) (x : length l ≡ listByt
         let q = drop-drop c j l in (
           when _ _ _ g
               ∙ ap (λ (n : ℕ). take n (drop j l) ∷ feed k (drop n (drop j l)) t (afterWrites (take n (drop j l)) t (at j))) e
-              ∙ ap (λ (r : Bench). take c (drop j l) ∷ feed k (drop c (drop j l)) t r) w
+              ∙ ap (λ (r : Transfer). take c (drop j l) ∷ feed k (drop c (drop j l)) t r) w
               ∙ ap (λ (r : List ℕ). take c (drop j l) ∷ feed k r t (at (j + c))) q,
           when _ _ _ g
               ∙ ap (λ (n : ℕ). fed k (drop n (drop j l)) t (afterWrites (take n (drop j l)) t (at j))) e

@@ -24,11 +24,11 @@ use Rattle.registerclaims.specs.RegisterLimit.{Limit}
 use Rattle.registerclaims.specs.Cut.{cut, roundedUp}
 use Rattle.registerclaims.specs.Loop.{loops-got, loops-going, loops-done}
 use Rattle.registerclaims.specs.Along.{along, Listing, begun-along, list-left, Shows, along-shows}
-use Rattle.registerclaims.specs.Bench.{Bench, bench, next, afterWrites, feed, fed}
+use Rattle.registerclaims.specs.Transfer.{Transfer as Bench, transferOf as bench, next, afterWrites, feed, fed}
 use Rattle.registerclaims.specs.RegisterRuns.{Leaves}
-use Rattle.registerclaims.specs.TurnLaws.{listed-limit}
+use Rattle.registerclaims.specs.RegisterTurnLaws.{listed-limit}
 use Rattle.registerclaims.specs.TargetRuns.{listed-runs}
-use Rattle.registerclaims.specs.WriteLaws.{writes-last, entered, over, over-listing, listing-phase, list-turn, list-last}
+use Rattle.registerclaims.specs.WriteLaws.{writes-last, entered, over, over-listing, entering-phase, list-turn, list-last}
 use Rattle.registerclaims.specs.ListLaws.{before, at, at-before, writes-on, write-loops}
 
 -- "The target performs a packet at the call that completes it and its list": with the list l, and the packet and the limit as x has them
@@ -94,7 +94,7 @@ module _ (f : TaskFile) (a : Listing f) (l : List ℕ) (x : length l ≡ listByt
           → phaseOf (fed k l t start .file) ≡ ListRun
       going k e q =
           ap (λ (r : Bench). phaseOf (r .file)) (ap (fed k l t) start-at ∙ e ∙ at-before f a l x y d t m (k * f .limit) q)
-          ∙ listing-phase f a l x y (k * f .limit) q
+          ∙ entering-phase f a l x y (k * f .limit) q
 
       all : afterWrites l t start ≡ at f a l x y d t m (length l)
       all =
@@ -108,7 +108,7 @@ module _ (f : TaskFile) (a : Listing f) (l : List ℕ) (x : length l ≡ listByt
           let g : TaskFile = over f a l x y (entered l (f .list) j) in
           let q : Listing g = over-listing f a l x y (entered l (f .list) j) in
           let n : length l ≡ f .len = x ∙ sym (a .whole) in
-          let p = listing-phase f a l x y j i in
+          let p = entering-phase f a l x y j i in
           rw (behind j i) (along-shows ListRun g j l (a .limited) n (let k = a .whole in omega arith) p (list-left g j q i))
 
 -- "Only 55h asking for 16 bytes takes a list", "K4's list enters .. in runs": from the packet's end, for any 16 bytes
@@ -128,7 +128,7 @@ list-answers {k} {l} {t} {x} w n =
     let v = getD l 15 0 in
     let q = w .quiet 15 (omega arith) in
     let c = w .last in
-    let e : y .file .limit ≡ x .file .limit = sym (listed-limit (y .file) Data v (c .due) .0) ∙ c .limit in
+    let e : y .file .limit ≡ x .file .limit = sym (listed-limit (y .file) v Data (c .due) .0) ∙ c .limit in
     let g = turnOf (y .file) Data v .file in
     let b : bytesOf (asks g (g .list) (y .state) t (y .memory)) ≡ bytesOf (answer (x .state) (x .file .packet) t l (length (x .memory))) =
     rw (c .packet, c .list, q .state, q .memory) refl in

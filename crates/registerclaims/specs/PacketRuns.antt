@@ -20,7 +20,7 @@ use Rattle.taskfile.specs.TaskFile.{takesListReason, packetBytes, listBytes, co
 use Rattle.taskfile.specs.Run.{limitOf, takesList, phaseOf, leftOf}
 use Rattle.taskfile.specs.Host.{limited, begun, packetEnd, turnOf}
 use Rattle.registerclaims.specs.RegisterLimit.{limit-limit}
-use Rattle.registerclaims.specs.Bench.{Bench, bench, next, afterWrites}
+use Rattle.registerclaims.specs.Transfer.{Transfer as Bench, transferOf as bench, next, afterWrites}
 use Rattle.registerclaims.specs.RegisterRuns.{Leaves}
 use Rattle.registerclaims.specs.TargetRuns.{packet-runs}
 use Rattle.registerclaims.specs.WriteLaws.{held-next, writes-after, writes-last, within, asking, asking-phase, asking-left, packet-turn, packet-last}

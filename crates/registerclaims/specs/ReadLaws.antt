@@ -20,13 +20,14 @@ use Rattle.taskfile.specs.declared.Access.the-variants.{Read}
 use Rattle.taskfile.specs.declared.Due.the-variants.{Gives}
 use Rattle.taskfile.specs.TaskFile.{countOf, ended}
 use Rattle.taskfile.specs.Run.{sizeOf, phaseOf}
+use Rattle.taskfile.specs.RunLaws.{ended-idle}
 use Rattle.taskfile.specs.Host.{answerByte, readTurn, turnOf}
 use Rattle.registers.specs.declared.Answer.{Answer}
 use Rattle.registers.specs.declared.Stepped.{Stepped}
 use Rattle.registers.specs.Registers.{plain, stands, gives, stepBy, memoryBy, stepOf, memoryOf}
 use Rattle.registerclaims.specs.Loop.{sizeAt, Loops}
-use Rattle.registerclaims.specs.Along.{along, movedTo, Answering, gone-along, along-count, along-answer, ended-idle}
-use Rattle.registerclaims.specs.Bench.{Bench, bench, handed, left, next, readsOf, afterReads, isGiving, drain, drained}
+use Rattle.registerclaims.specs.Along.{along, movedTo, Answering, gone-along, along-count, along-answer}
+use Rattle.registerclaims.specs.Transfer.{Transfer, transferOf, handed, left, next, readsOf, afterReads, isGiving, drain, drained}
 
 -- the record behind j bytes of the answer: "status ends it"
 abbrev pub reached : TaskFile → ℕ → TaskFile
@@ -38,7 +39,7 @@ given d v = plain 0 v d
 
 -- behind the end nothing is read
 pub ended-drain : (g : TaskFile) (d : Drive) (t m : List ℕ) (k : ℕ)
-    → (drain k t (bench (ended g) d m) ≡ []) × (drained k t (bench (ended g) d m) ≡ bench (ended g) d m)
+    → (drain k t (transferOf (ended g) d m) ≡ []) × (drained k t (transferOf (ended g) d m) ≡ transferOf (ended g) d m)
 unfolding drain drained
 ended-drain g d t m zero = (refl, refl)
 ended-drain g d t m (suc k) = let e = ap isGiving (ended-idle g) in (unless _ _ _ e, unless _ _ _ e)
@@ -69,18 +70,18 @@ module _ (f : TaskFile) (a : Answering f) where
       )
 
   module _ (d : Drive) (t m : List ℕ) (b : bound ≤ length m) where
-    abbrev pub Upon : ℕ → Bench
-    Upon j = bench (reached f j) d m
+    abbrev pub Upon : ℕ → Transfer
+    Upon j = transferOf (reached f j) d m
 
-    pub reached-along : (j : ℕ) → j < f .len → Upon j ≡ bench (along f j) d m
-    reached-along j h = ap (λ (g : TaskFile). bench g d m) (unless _ _ _ (ne-eqb j (f .len) (λ e. omega arith)))
+    pub reached-along : (j : ℕ) → j < f .len → Upon j ≡ transferOf (along f j) d m
+    reached-along j h = ap (λ (g : TaskFile). transferOf g d m) (unless _ _ _ (ne-eqb j (f .len) (λ e. omega arith)))
 
     pub read-next : (j : ℕ) → j < f .len → next Read 0 t (Upon j) ≡ Upon (j + 1)
     read-next j h =
         let s = read-step j d t m h b in
         ap (next Read 0 t) (reached-along j h)
         ∙ ap (λ (r : Stepped). left r (memoryOf (along f j) Read 0 d t m)) (s .0)
-        ∙ ap (bench (reached f (j + 1)) d) (s .1)
+        ∙ ap (transferOf (reached f (j + 1)) d) (s .1)
 
     read-handed : (j : ℕ) → j < f .len → handed Read 0 t (Upon j) ≡ given d (getD m j 0)
     read-handed j h = ap (handed Read 0 t) (reached-along j h) ∙ ap (λ (r : Stepped). r .answer) (read-step j d t m h b .0)
@@ -101,8 +102,8 @@ module _ (f : TaskFile) (a : Answering f) where
     pub bytes-length : length Bytes ≡ f .len
     bytes-length = let k = a .fits in length-take-le (f .len) m (omega arith)
 
-    pub bytes-end : Upon (length Bytes) ≡ bench (ended (along f (f .len - 1))) d m
-    bytes-end = ap (λ (g : TaskFile). bench g d m) (when _ _ _ (eq-eqb (length Bytes) (f .len) bytes-length))
+    pub bytes-end : Upon (length Bytes) ≡ transferOf (ended (along f (f .len - 1))) d m
+    bytes-end = ap (λ (g : TaskFile). transferOf g d m) (when _ _ _ (eq-eqb (length Bytes) (f .len) bytes-length))
 
     reads-bytes : (n j : ℕ) → j + n ≤ f .len → readsOf n t (Upon j) ≡ map (given d) (take n (drop j Bytes))
     unfolding readsOf
@@ -111,7 +112,7 @@ module _ (f : TaskFile) (a : Answering f) where
         let k : j < f .len = omega arith in
         let e : getD Bytes j 0 ≡ getD m j 0 = getD-take (f .len) m j 0 k in
         let l = bytes-length in
-        ap (λ (x : Bench). handed Read 0 t (Upon j) ∷ readsOf n t x) (read-next j k)
+        ap (λ (x : Transfer). handed Read 0 t (Upon j) ∷ readsOf n t x) (read-next j k)
         ∙ ap (λ (r : Answer). r ∷ readsOf n t (Upon (j + 1))) (read-handed j k ∙ ap (given d) (sym e))
         ∙ ap (λ (r : List Answer). given d (getD Bytes j 0) ∷ r)
         (reads-bytes n (j + 1) (omega arith) ∙ ap (λ (i : ℕ). map (given d) (take n (drop i Bytes))) (add-one j))
@@ -124,10 +125,10 @@ module _ (f : TaskFile) (a : Answering f) where
     start-count j h z =
         let l = bytes-length in
         let e : sizeOf (movedTo f j) ≡ sizeAt (f .limit) Bytes j = omega arith in
-        ap (λ (x : Bench). countOf (x .file)) (reached-along j h) ∙ along-count f j (a .limited) ∙ e
+        ap (λ (x : Transfer). countOf (x .file)) (reached-along j h) ∙ along-count f j (a .limited) ∙ e
 
     start-gives : (j : ℕ) → j < f .len → isGiving (phaseOf (Upon j .file)) ≡ true
-    start-gives j h = ap (λ (x : Bench). isGiving (phaseOf (x .file))) (reached-along j h) ∙ ap isGiving (along-answer f j a h)
+    start-gives j h = ap (λ (x : Transfer). isGiving (phaseOf (x .file))) (reached-along j h) ∙ ap isGiving (along-answer f j a h)
 
     -- the host's loop goes through the bytes
     pub read-loops : Loops (f .limit) Bytes (map (given d)) Upon (λ k j. drain k t (Upon j)) (λ k j. drained k t (Upon j))
@@ -143,7 +144,7 @@ module _ (f : TaskFile) (a : Answering f) where
                 ∙ ap (λ (n : ℕ). readsOf n t (Upon j) ∷ drain k t (afterReads n t (Upon j))) e
                 ∙ ap (λ (r : List Answer). r ∷ drain k t (afterReads (sizeAt (f .limit) Bytes j) t (Upon j)))
                 (reads-bytes (sizeAt (f .limit) Bytes j) j (omega arith))
-                ∙ ap (λ (x : Bench). map (given d) (take (sizeAt (f .limit) Bytes j) (drop j Bytes)) ∷ drain k t x) w,
+                ∙ ap (λ (x : Transfer). map (given d) (take (sizeAt (f .limit) Bytes j) (drop j Bytes)) ∷ drain k t x) w,
             when _ _ _ g ∙ ap (λ (n : ℕ). drained k t (afterReads n t (Upon j))) e ∙ ap (drained k t) w,
           );
       over = λ k.

@@ -1,5 +1,5 @@
 -- Which number an access gives, and what a refused one leaves: by what is due at it.
-use Prim.Native.Nat.{ℕ, _+_}
+use Prim.Native.Nat.{ℕ}
 use mathlib.Core.Path.{_≡_, refl, sym, ap, _∙_}
 use mathlib.Core.Bool.{Bool, true, false, not, false≢true}
 use mathlib.Core.List.{List, []}
@@ -25,133 +25,19 @@ use Rattle.taskfile.specs.declared.TaskFile.{TaskFile}
 use Rattle.taskfile.specs.declared.Phase.{Phase}
 use Rattle.taskfile.specs.declared.Phase.the-variants.{Idle, PacketRun, ListRun, AnswerRun}
 use Rattle.taskfile.specs.declared.Access.{Access}
-use Rattle.taskfile.specs.declared.Access.the-variants.{Data, Features, CountLow, CountHigh, Drive as ToDrive, Command, Nowhere, Read, Reset}
+use Rattle.taskfile.specs.declared.Access.the-variants.{Read}
 use Rattle.taskfile.specs.declared.Due.{Due}
 use Rattle.taskfile.specs.declared.Due.the-variants.{Refused, Held, Performs, PerformsListed, Gives, Resets}
 use Rattle.taskfile.specs.declared.Turn.{Turn}
-use Rattle.taskfile.specs.TaskFile.{packetBytes, listBytes, holding, ended}
-use Rattle.taskfile.specs.Run.{takesList, isAnswerRun, phaseOf}
-use Rattle.taskfile.specs.Host.{refusedTurn, held, packetEnd, packetByte, listByte, answerByte, commandTurn, dataTurn, readTurn, writeTurn, answered, turnBy, turnOf}
+use Rattle.taskfile.specs.TaskFile.{holding, ended}
+use Rattle.taskfile.specs.Run.{isAnswerRun, phaseOf}
+use Rattle.taskfile.specs.RunLaws.{isPacket, isList, isAnswer, phaseOf-tested, isAnswerRun-phase}
+use Rattle.taskfile.specs.Host.{answerByte, readTurn, answered, turnOf}
+use Rattle.taskfile.specs.HostLaws.{turnOf-ways, isRefused, isPerformed, isGiven}
 use Rattle.registers.specs.declared.Stepped.{Stepped}
 use Rattle.registers.specs.Registers.{plain, stands, asks, performed, gives, stepBy, memoryBy, stepOf, memoryOf}
-use Rattle.registerclaims.specs.RegisterTurn.{readsData, writesData, writesCommand, writesOther, isOutOfTurn, endsPacket, endsList, isCompleting, packetAt, listAt, replyAt}
-use Rattle.registerclaims.specs.RegisterTurnLaws.{isPacket, isList, isAnswer, phase-tested, phase-answer, turn-ways}
-
--- ---- what is due
-
-abbrev pub isRefused : Due → Bool
-isRefused Refused = true
-isRefused Held = false
-isRefused Performs = false
-isRefused PerformsListed = false
-isRefused Gives = false
-isRefused Resets = false
-
-abbrev pub isPerforming : Due → Bool
-isPerforming Refused = false
-isPerforming Held = false
-isPerforming Performs = true
-isPerforming PerformsListed = true
-isPerforming Gives = false
-isPerforming Resets = false
-
-abbrev pub isGiving : Due → Bool
-isGiving Refused = false
-isGiving Held = false
-isGiving Performs = false
-isGiving PerformsListed = false
-isGiving Gives = true
-isGiving Resets = false
-
--- ---- when it is due
-
--- which of these is due
-pub record IsDue (refused gives performs : Bool) (e : Due) : Type 0 where
-  pub refuses : isRefused e ≡ refused
-  pub giving : isGiving e ≡ gives
-  pub performing : isPerforming e ≡ performs
-
-or-none : (a : Bool) → a or false ≡ a
-unfolding _or_
-or-none true = refl
-or-none false = refl
-
-module _ (f : TaskFile) (v : ℕ) where
-  packet-due : IsDue false false (endsPacket f v) (packetByte f v .due)
-  unfolding packetByte packetEnd if_then_else_ _and_
-  packet-due = go (eqb (f .at + 1) packetBytes) (takesList (set (f .packet) (f .at) v)) _ _ _
-    where
-      go : (ends list : Bool) (g h k : TaskFile)
-          → IsDue false false (ends and not list) ((if ends then (if list then held g else record { due = Performs; file = h }) else held k) .due)
-      go true true g h k = record { refuses = refl; giving = refl; performing = refl }
-      go true false g h k = record { refuses = refl; giving = refl; performing = refl }
-      go false list g h k = record { refuses = refl; giving = refl; performing = refl }
-
-  list-due : IsDue false false (endsList f v) (listByte f v .due)
-  unfolding listByte if_then_else_
-  list-due = go (eqb (f .at + 1) listBytes) _ _
-    where
-      go : (ends : Bool) (g h : TaskFile) → IsDue false false ends ((if ends then record { due = PerformsListed; file = g } else held h) .due)
-      go true g h = record { refuses = refl; giving = refl; performing = refl }
-      go false g h = record { refuses = refl; giving = refl; performing = refl }
-
-  write-due : (s : Phase) (g : TaskFile) → IsDue (isPacket s or isList s or isAnswer s) false false (writeTurn s f (held g) .due)
-  unfolding _or_
-  write-due Idle g = record { refuses = refl; giving = refl; performing = refl }
-  write-due PacketRun g = record { refuses = refl; giving = refl; performing = refl }
-  write-due ListRun g = record { refuses = refl; giving = refl; performing = refl }
-  write-due AnswerRun g = record { refuses = refl; giving = refl; performing = refl }
-
-  command-due : (s : Phase)
-      → IsDue (not (eqb v 0xA0) or isPacket s or isList s or isAnswer s) false false (writeTurn s f (commandTurn f v) .due)
-  unfolding _or_ if_then_else_
-  command-due s = go s (eqb v 0xA0) _
-    where
-      go : (s : Phase) (b : Bool) (g : TaskFile)
-          → IsDue (not b or isPacket s or isList s or isAnswer s) false false (writeTurn s f (if b then held g else refusedTurn f) .due)
-      go s true g = write-due s g
-      go Idle false g = record { refuses = refl; giving = refl; performing = refl }
-      go PacketRun false g = record { refuses = refl; giving = refl; performing = refl }
-      go ListRun false g = record { refuses = refl; giving = refl; performing = refl }
-      go AnswerRun false g = record { refuses = refl; giving = refl; performing = refl }
-
-  data-due : (s : Phase)
-      → IsDue (not (isPacket s or isList s)) false (isPacket s and endsPacket f v or isList s and endsList f v) (dataTurn s f v .due)
-  unfolding _or_ _and_
-  data-due Idle = record { refuses = refl; giving = refl; performing = refl }
-  data-due PacketRun = rw (or-none (endsPacket f v)) packet-due
-  data-due ListRun = list-due
-  data-due AnswerRun = record { refuses = refl; giving = refl; performing = refl }
-
-  read-due : (s : Phase) → IsDue (not (isAnswer s)) (isAnswer s) false (readTurn s f .due)
-  unfolding answerByte
-  read-due Idle = record { refuses = refl; giving = refl; performing = refl }
-  read-due PacketRun = record { refuses = refl; giving = refl; performing = refl }
-  read-due ListRun = record { refuses = refl; giving = refl; performing = refl }
-  read-due AnswerRun = record { refuses = refl; giving = refl; performing = refl }
-
-  pub turn-due : (a : Access) → IsDue (isOutOfTurn f v a) (readsData a and isAnswerRun f) (isCompleting f v a) (turnOf f a v .due)
-  unfolding turnOf _or_ _and_
-  turn-due a = let T = phase-tested f in rw (T .packet, T .list, T .answer) (go a (phaseOf f))
-    where
-      go : (a : Access) (s : Phase)
-          → IsDue
-          (readsData a and not (isAnswer s)
-          or writesData a and not (isPacket s or isList s)
-          or writesCommand a and not (eqb v 0xA0)
-          or writesOther a and (isPacket s or isList s or isAnswer s))
-          (readsData a and isAnswer s)
-          (writesData a and (isPacket s and endsPacket f v or isList s and endsList f v))
-          (turnBy a s f v .due)
-      go Data s = rw (or-none (not (isPacket s or isList s))) (data-due s)
-      go Features s = write-due s _
-      go CountLow s = write-due s _
-      go CountHigh s = write-due s _
-      go ToDrive s = write-due s _
-      go Nowhere s = write-due s _
-      go Command s = command-due s
-      go Read s = rw (or-none (not (isAnswer s))) (read-due s)
-      go Reset s = record { refuses = refl; giving = refl; performing = refl }
+use Rattle.registerclaims.specs.RegisterTurn.{isOutOfTurn, isCompleting, packetAt, listAt, replyAt}
+use Rattle.registerclaims.specs.RegisterTurnLaws.{turn-due, turn-stays}
 
 -- ---- the number, by what is due
 
@@ -233,7 +119,7 @@ module _ (f g : TaskFile) (d : Drive) (t m : List ℕ) (twelve : length (g .pack
       go false h i j k l = record { two = i; three = j; four = k; any = rw h }
 
   pub step-handed : (e : Due)
-      → Handed (isKnownState d) (ltb (length m) bound) (isLoaded (d .deck) and not (isFit t)) (isGiving e) (isPerforming e)
+      → Handed (isKnownState d) (ltb (length m) bound) (isLoaded (d .deck) and not (isFit t)) (isGiven e) (isPerformed e)
       (stepBy e f g d t m .answer .number)
   unfolding _and_ _or_
   step-handed Refused = record { two = refl; three = refl; four = refl; any = refl }
@@ -246,26 +132,11 @@ module _ (f g : TaskFile) (d : Drive) (t m : List ℕ) (twelve : length (g .pack
 -- ---- a refused access
 
 module _ (f : TaskFile) (v : ℕ) where
-  abbrev Stays : Turn → Type 0
-  Stays t = isRefused (t .due) ≡ true → t ≡ refusedTurn f
-
-  -- it leaves the record
-  pub turn-stays : (a : Access) → Stays (turnOf f a v)
-  turn-stays = turn-ways f v {P = Stays} (record {
-    refuses = λ h. refl;
-    holds = λ a s h. absurd (false≢true h);
-    asks = λ s h. absurd (false≢true h);
-    takesPacket = λ s h. absurd (false≢true (sym (packet-due f v .refuses) ∙ h));
-    takesItsList = λ s h. absurd (false≢true (sym (list-due f v .refuses) ∙ h));
-    gives = λ s h. absurd (false≢true (sym (read-due f v AnswerRun .refuses) ∙ h));
-    resets = λ h. absurd (false≢true h);
-  })
-
-  -- and so do state and memory
+  -- it leaves record, state and memory
   pub refused-step : (a : Access) (d : Drive) (t m : List ℕ) → isOutOfTurn f v a ≡ true
       → (stepOf f a v d t m ≡ stands f (plain 15 0 d)) × (memoryOf f a v d t m ≡ m)
   unfolding stepOf memoryOf
-  refused-step a d t m h = let e = turn-stays a (turn-due f v a .refuses ∙ h) in rw e (refl, refl)
+  refused-step a d t m h = let e = turn-stays f v a (turn-due f v a .refuses ∙ h) in rw e (refl, refl)
 
   -- ---- an access that completes a packet
 
@@ -278,54 +149,30 @@ module _ (f : TaskFile) (v : ℕ) where
     pub high : T .file .high ≡ f .high
     pub drive : T .file .drive ≡ f .drive
 
-  abbrev Performed : Turn → Type 0
-  Performed T = isPerforming (T .due) ≡ true → Performing T
-
-  packet-performed : phaseOf f ≡ PacketRun → Performed (packetByte f v)
-  unfolding packetByte packetEnd
-  packet-performed s =
-      let T = phase-tested f in
-      let p : packetAt f v ≡ set (f .packet) (f .at) v = when _ _ _ (T .packet ∙ ap isPacket s) in
-      let l : listAt f v ≡ [] = unless _ _ _ (T .list ∙ ap isList s) in
-      either Performed (eqb (f .at + 1) packetBytes)
-      (λ x. either Performed (takesList (set (f .packet) (f .at) v)) (λ y h. absurd (false≢true h))
-      (λ y h. record {
-        step = λ d t m. rw (p, l);
-        memory = λ d t m. rw (p, l);
-        features = refl;
-        low = refl;
-        high = refl;
-        drive = refl;
-      }))
-      (λ x h. absurd (false≢true h))
-
-  list-performed : phaseOf f ≡ ListRun → Performed (listByte f v)
-  unfolding listByte
-  list-performed s =
-      let T = phase-tested f in
-      let p : packetAt f v ≡ f .packet = unless _ _ _ (T .packet ∙ ap isPacket s) in
-      let l : listAt f v ≡ set (f .list) (f .at) v = when _ _ _ (T .list ∙ ap isList s) in
-      either Performed (eqb (f .at + 1) listBytes)
-      (λ x h. record {
-        step = λ d t m. rw (p, l);
-        memory = λ d t m. rw (p, l);
-        features = refl;
-        low = refl;
-        high = refl;
-        drive = refl;
-      })
-      (λ x h. absurd (false≢true h))
+  abbrev Completes : Turn → Type 0
+  Completes T = isPerformed (T .due) ≡ true → Performing T
 
   pub turn-performed : (a : Access) → isCompleting f v a ≡ true → Performing (turnOf f a v)
   turn-performed a h =
-      turn-ways f v {P = Performed} (record {
-        refuses = λ h. absurd (false≢true h);
-        holds = λ a s h. absurd (false≢true h);
-        asks = λ s h. absurd (false≢true h);
-        takesPacket = packet-performed;
-        takesItsList = list-performed;
-        gives = λ s h. absurd (false≢true (sym (read-due f v AnswerRun .performing) ∙ h));
-        resets = λ h. absurd (false≢true h);
+      let T = phaseOf-tested f in
+      turnOf-ways f v {P = Completes} (record {
+        refuses = λ e. absurd (false≢true e);
+        holds = λ a s e. absurd (false≢true e);
+        asks = λ s e. absurd (false≢true e);
+        takes = λ s x e. absurd (false≢true e);
+        asksList = λ s x e. absurd (false≢true e);
+        performs = λ s e.
+            let p : packetAt f v ≡ set (f .packet) (f .at) v = when _ _ _ (T .packet ∙ ap isPacket s) in
+            let l : listAt f v ≡ [] = unless _ _ _ (T .list ∙ ap isList s) in
+            record { step = λ d t m. rw (p, l); memory = λ d t m. rw (p, l); features = refl; low = refl; high = refl; drive = refl };
+        enters = λ s x e. absurd (false≢true e);
+        performsListed = λ s e.
+            let p : packetAt f v ≡ f .packet = unless _ _ _ (T .packet ∙ ap isPacket s) in
+            let l : listAt f v ≡ set (f .list) (f .at) v = when _ _ _ (T .list ∙ ap isList s) in
+            record { step = λ d t m. rw (p, l); memory = λ d t m. rw (p, l); features = refl; low = refl; high = refl; drive = refl };
+        givesLast = λ s e. absurd (false≢true e);
+        givesMore = λ s x e. absurd (false≢true e);
+        powersOn = λ e. absurd (false≢true e);
       }) a (turn-due f v a .performing ∙ h)
 
   -- ---- a data read
@@ -338,7 +185,7 @@ module _ (f : TaskFile) (v : ℕ) where
 
     pub read-3 : eqb (stepOf f Read v d t m .answer .number) 3 ≡ isAnswerRun f and ltb (length m) bound
     unfolding _and_ answerByte if_then_else_
-    read-3 = rw (phase-tested f .answer) (go (phaseOf f) refl)
+    read-3 = rw (phaseOf-tested f .answer) (go (phaseOf f) refl)
       where
         picks : (b : Bool) → (if b then true else false) ≡ b
         picks true = refl
@@ -354,7 +201,7 @@ module _ (f : TaskFile) (v : ℕ) where
         → (stepOf f Read v d t m ≡ stands f (plain 3 0 d)) × (memoryOf f Read v d t m ≡ m)
     unfolding answerByte gives memoryOf turnOf
     read-short h =
-        let s = phase-answer f (and-head _ _ h) in
+        let s = isAnswerRun-phase f (and-head _ _ h) in
         (read-step AnswerRun s ∙ when _ _ _ (and-tail _ _ h), rw s)
 
 -- ---- a refusal by the target

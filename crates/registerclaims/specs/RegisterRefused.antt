@@ -19,12 +19,13 @@ use Rattle.taskfile.specs.declared.Access.{Access}
 use Rattle.taskfile.specs.declared.Access.the-variants.{Data, Features, CountLow, CountHigh, Drive as ToDrive, Command, Nowhere, Read, Reset}
 use Rattle.taskfile.specs.TaskFile.{holding}
 use Rattle.taskfile.specs.Run.{isPacketRun, isListRun, isAnswerRun, phaseOf, leftOf}
+use Rattle.taskfile.specs.RunLaws.{ended-idle}
 use Rattle.taskfile.specs.Host.{accessOf, turnOf}
 use Rattle.registers.specs.declared.Stepped.{Stepped}
 use Rattle.registers.specs.Registers.{stepOf, memoryOf}
 use Rattle.registerclaims.specs.RegisterTurn.{numberOf, readsData, isOutOfTurn, isCompleting, packetAt, listAt, replyAt}
-use Rattle.registerclaims.specs.RegisterTurnLaws.{turn-lengths, ended-idle}
-use Rattle.registerclaims.specs.RegisterRefusalLaws.{turn-due, Handed, step-15, step-beside, step-handed, refused-step, read-3, read-short, turn-performed, reply-ends}
+use Rattle.registerclaims.specs.RegisterTurnLaws.{turn-due, turn-lengths}
+use Rattle.registerclaims.specs.RegisterRefusalLaws.{Handed, step-15, step-beside, step-handed, refused-step, read-3, read-short, turn-performed, reply-ends}
 
 -- ---- the accesses
 

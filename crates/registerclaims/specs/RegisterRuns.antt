@@ -15,13 +15,14 @@ use Rattle.taskfile.specs.declared.TaskFile.{TaskFile}
 use Rattle.taskfile.specs.declared.Phase.the-variants.{Idle, AnswerRun}
 use Rattle.taskfile.specs.TaskFile.{givesAnswerReason, placed, holding, ended}
 use Rattle.taskfile.specs.Run.{mostBytes, phaseOf}
+use Rattle.taskfile.specs.RunLaws.{ended-idle}
 use Rattle.taskfile.specs.Host.{answered}
 use Rattle.registers.specs.declared.Answer.{Answer}
 use Rattle.registerclaims.specs.RegisterLimit.{Limit}
 use Rattle.registerclaims.specs.Cut.{cut, joined, roundedUp, cut-none, cut-joined, cut-number, cut-size}
 use Rattle.registerclaims.specs.Loop.{Loops, loops-got, loops-going, loops-done}
-use Rattle.registerclaims.specs.Along.{along, Answering, begun-along, along-answer, answer-left, Shows, along-shows, ended-idle}
-use Rattle.registerclaims.specs.Bench.{Bench, bench, afterReads, drain, drained}
+use Rattle.registerclaims.specs.Along.{along, Answering, begun-along, along-answer, answer-left, Shows, along-shows}
+use Rattle.registerclaims.specs.Transfer.{Transfer as Bench, transferOf as bench, afterReads, drain, drained}
 use Rattle.registerclaims.specs.ReadLaws.{given, ended-drain, Upon, reached-along, reads-after, bytes-length, bytes-end, read-loops}
 
 -- the record f with the byte count of g

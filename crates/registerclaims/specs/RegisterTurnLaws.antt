@@ -1,154 +1,135 @@
--- What an access comes to, by the run that the record is in: each way out once.
+-- What an access comes to, of every record: read off the ways out of `turnOf`.
 use Prim.Native.Nat.{ℕ, _+_, _%_}
-use mathlib.Core.Path.{_≡_, refl, sym, _∙_}
-use mathlib.Core.Bool.{Bool, true, false, false≢true}
-use borrow.Author.Tests.{eqb-true}
+use mathlib.Core.Path.{_≡_, refl, _∙_}
+use mathlib.Core.Bool.{Bool, true, false, not, false≢true}
+use native.Mathlib.Omega.{arith}
 use lib.ListN.{length, set, length-set}
 use lib.Dec.{eqb}
-use Rattle.ground.specs.Tests.{_and_, if_then_else_, either, and-head}
+use Rattle.ground.specs.Tests.{_and_, _or_, if_then_else_, either}
+use Rattle.claims.specs.UnitLaws.{or-none}
 use Rattle.taskfile.specs.declared.TaskFile.{TaskFile}
 use Rattle.taskfile.specs.declared.Phase.{Phase}
 use Rattle.taskfile.specs.declared.Phase.the-variants.{Idle, PacketRun, ListRun, AnswerRun}
 use Rattle.taskfile.specs.declared.Access.{Access}
 use Rattle.taskfile.specs.declared.Access.the-variants.{Data, Features, CountLow, CountHigh, Drive, Command, Nowhere, Read, Reset}
-use Rattle.taskfile.specs.declared.Due.the-variants.{Resets}
+use Rattle.taskfile.specs.declared.Due.{Due}
+use Rattle.taskfile.specs.declared.Due.the-variants.{Performs, PerformsListed}
 use Rattle.taskfile.specs.declared.Turn.{Turn}
-use Rattle.taskfile.specs.TaskFile.{packetBytes, listBytes, bearing, asked, ended, reset}
-use Rattle.taskfile.specs.Run.{takesList, isPacketRun, isListRun, isAnswerRun, phaseOf}
-use Rattle.taskfile.specs.Host.{refusedTurn, held, gone, packetEnd, packetByte, listByte, answerByte, written, dataTurn, readTurn, writeTurn, turnOf}
+use Rattle.taskfile.specs.TaskFile.{packetBytes, listBytes, countOf}
+use Rattle.taskfile.specs.Run.{limitOf, takesList, isAnswerRun, phaseOf}
+use Rattle.taskfile.specs.RunLaws.{isPacket, isList, isAnswer, phaseOf-tested}
+use Rattle.taskfile.specs.Host.{refusedTurn, held, gone, packetEnd, packetByte, listByte, answerByte, written, commandTurn, dataTurn, readTurn, writeTurn, turnBy, turnOf}
+use Rattle.taskfile.specs.HostLaws.{packed, listed, turnOf-ways, isRefused, isPerformed, isGiven}
+use Rattle.registerclaims.specs.RegisterLimit.{Limit}
+use Rattle.registerclaims.specs.RegisterTurn.{readsData, writesData, writesCommand, writesOther, isOutOfTurn, endsPacket, endsList, isCompleting}
+use Rattle.registerclaims.specs.Along.{list-listing}
 
--- ---- the runs
+-- ---- what is due
 
-abbrev pub isPacket : Phase → Bool
-isPacket Idle = false
-isPacket PacketRun = true
-isPacket ListRun = false
-isPacket AnswerRun = false
+-- a refusal, a byte to give, a packet to perform
+pub record IsDue (refused gives performs : Bool) (e : Due) : Type 0 where
+  pub refuses : isRefused e ≡ refused
+  pub giving : isGiven e ≡ gives
+  pub performing : isPerformed e ≡ performs
 
-abbrev pub isList : Phase → Bool
-isList Idle = false
-isList PacketRun = false
-isList ListRun = true
-isList AnswerRun = false
+due-itself : (e : Due) → IsDue (isRefused e) (isGiven e) (isPerformed e) e
+due-itself e = record { refuses = refl; giving = refl; performing = refl }
 
-abbrev pub isAnswer : Phase → Bool
-isAnswer Idle = false
-isAnswer PacketRun = false
-isAnswer ListRun = false
-isAnswer AnswerRun = true
-
--- a record is in one run at most: their reasons differ
-module _ (f : TaskFile) where
-  packet-no-list : isPacketRun f ≡ true → isListRun f ≡ false
-  unfolding isPacketRun isListRun _and_
-  packet-no-list h = let e = eqb-true (f .reason) 1 (and-head _ _ h) in rw e
-
-  packet-no-answer : isPacketRun f ≡ true → isAnswerRun f ≡ false
-  unfolding isPacketRun isAnswerRun _and_
-  packet-no-answer h = let e = eqb-true (f .reason) 1 (and-head _ _ h) in rw e
-
-  list-no-answer : isListRun f ≡ true → isAnswerRun f ≡ false
-  unfolding isListRun isAnswerRun _and_
-  list-no-answer h = let e = eqb-true (f .reason) 0 (and-head _ _ h) in rw e
-
-  -- the run by its test
-  pub record Tested (s : Phase) : Type 0 where
-    pub packet : isPacketRun f ≡ isPacket s
-    pub list : isListRun f ≡ isList s
-    pub answer : isAnswerRun f ≡ isAnswer s
-
-  pub phase-tested : Tested (phaseOf f)
-  unfolding phaseOf if_then_else_
-  phase-tested = go (isPacketRun f) (isListRun f) (isAnswerRun f) refl refl refl
-    where
-      go : (p l a : Bool) → isPacketRun f ≡ p → isListRun f ≡ l → isAnswerRun f ≡ a
-          → Tested (if p then PacketRun else (if l then ListRun else (if a then AnswerRun else Idle)))
-      go true l a h i j = record { packet = h; list = packet-no-list h; answer = packet-no-answer h }
-      go false true a h i j = record { packet = h; list = i; answer = list-no-answer i }
-      go false false true h i j = record { packet = h; list = i; answer = j }
-      go false false false h i j = record { packet = h; list = i; answer = j }
-
-  -- and back
-  pub phase-packet : isPacketRun f ≡ true → phaseOf f ≡ PacketRun
-  phase-packet h = go (phaseOf f) (sym (phase-tested .packet) ∙ h)
-    where
-      go : (s : Phase) → isPacket s ≡ true → s ≡ PacketRun
-      go Idle e = absurd (false≢true e)
-      go PacketRun e = refl
-      go ListRun e = absurd (false≢true e)
-      go AnswerRun e = absurd (false≢true e)
-
-  pub phase-list : isListRun f ≡ true → phaseOf f ≡ ListRun
-  phase-list h = go (phaseOf f) (sym (phase-tested .list) ∙ h)
-    where
-      go : (s : Phase) → isList s ≡ true → s ≡ ListRun
-      go Idle e = absurd (false≢true e)
-      go PacketRun e = absurd (false≢true e)
-      go ListRun e = refl
-      go AnswerRun e = absurd (false≢true e)
-
-  pub phase-answer : isAnswerRun f ≡ true → phaseOf f ≡ AnswerRun
-  phase-answer h = go (phaseOf f) (sym (phase-tested .answer) ∙ h)
-    where
-      go : (s : Phase) → isAnswer s ≡ true → s ≡ AnswerRun
-      go Idle e = absurd (false≢true e)
-      go PacketRun e = absurd (false≢true e)
-      go ListRun e = absurd (false≢true e)
-      go AnswerRun e = refl
-
-  -- with the reason CoD 1, IO 1 it is in none
-  pub phase-idle : f .reason ≡ 3 → phaseOf f ≡ Idle
-  unfolding phaseOf isPacketRun isListRun isAnswerRun if_then_else_ _and_
-  phase-idle h = rw h
-
--- what status has ended is in no run
-pub ended-idle : (g : TaskFile) → phaseOf (ended g) ≡ Idle
-ended-idle g = phase-idle (ended g) refl
-
--- ---- the ways out
-
--- what holds of each way out, by the run that it has
 module _ (f : TaskFile) (v : ℕ) where
-  pub record Ways (P : Turn → Type 0) : Type 0 where
-    pub refuses : P (refusedTurn f)
-    pub holds : (a : Access) → phaseOf f ≡ Idle → P (held (written f a v))
-    pub asks : phaseOf f ≡ Idle → P (held (asked f))
-    pub takesPacket : phaseOf f ≡ PacketRun → P (packetByte f v)
-    pub takesItsList : phaseOf f ≡ ListRun → P (listByte f v)
-    pub gives : phaseOf f ≡ AnswerRun → P (answerByte f)
-    pub resets : P (record { due = Resets; file = reset f })
+  packet-due : IsDue false false (endsPacket f v) (packetByte f v .due)
+  unfolding packetByte packetEnd if_then_else_ _and_
+  packet-due = go (eqb (f .at + 1) packetBytes) (takesList (set (f .packet) (f .at) v)) _ _ _
+    where
+      go : (ends list : Bool) (g h k : TaskFile)
+          → IsDue false false (ends and not list) ((if ends then (if list then held g else record { due = Performs; file = h }) else held k) .due)
+      go true true g h k = due-itself _
+      go true false g h k = due-itself _
+      go false list g h k = due-itself _
 
-  -- holds of what any access comes to
-  module _ {P : Turn → Type 0} (w : Ways P) where
-    write-ways : (s : Phase) (t : Turn) → (s ≡ Idle → P t) → P (writeTurn s f t)
-    write-ways Idle t h = h refl
-    write-ways PacketRun t h = w .refuses
-    write-ways ListRun t h = w .refuses
-    write-ways AnswerRun t h = w .refuses
+  list-due : IsDue false false (endsList f v) (listByte f v .due)
+  unfolding listByte if_then_else_
+  list-due = go (eqb (f .at + 1) listBytes) _ _
+    where
+      go : (ends : Bool) (g h : TaskFile) → IsDue false false ends ((if ends then record { due = PerformsListed; file = g } else held h) .due)
+      go true g h = due-itself _
+      go false g h = due-itself _
 
-    data-ways : (s : Phase) → phaseOf f ≡ s → P (dataTurn s f v)
-    data-ways Idle h = w .refuses
-    data-ways PacketRun h = w .takesPacket h
-    data-ways ListRun h = w .takesItsList h
-    data-ways AnswerRun h = w .refuses
+  write-due : (s : Phase) (g : TaskFile) → IsDue (isPacket s or isList s or isAnswer s) false false (writeTurn s f (held g) .due)
+  unfolding _or_
+  write-due Idle g = due-itself _
+  write-due PacketRun g = due-itself _
+  write-due ListRun g = due-itself _
+  write-due AnswerRun g = due-itself _
 
-    read-ways : (s : Phase) → phaseOf f ≡ s → P (readTurn s f)
-    read-ways Idle h = w .refuses
-    read-ways PacketRun h = w .refuses
-    read-ways ListRun h = w .refuses
-    read-ways AnswerRun h = w .gives h
+  command-due : (s : Phase)
+      → IsDue (not (eqb v 0xA0) or isPacket s or isList s or isAnswer s) false false (writeTurn s f (commandTurn f v) .due)
+  unfolding _or_ if_then_else_
+  command-due s = go s (eqb v 0xA0) _
+    where
+      go : (s : Phase) (b : Bool) (g : TaskFile)
+          → IsDue (not b or isPacket s or isList s or isAnswer s) false false (writeTurn s f (if b then held g else refusedTurn f) .due)
+      go s true g = write-due s g
+      go Idle false g = due-itself _
+      go PacketRun false g = due-itself _
+      go ListRun false g = due-itself _
+      go AnswerRun false g = due-itself _
 
-    pub turn-ways : (a : Access) → P (turnOf f a v)
-    unfolding turnOf
-    turn-ways Data = data-ways (phaseOf f) refl
-    turn-ways Features = write-ways (phaseOf f) _ (w .holds Features)
-    turn-ways CountLow = write-ways (phaseOf f) _ (w .holds CountLow)
-    turn-ways CountHigh = write-ways (phaseOf f) _ (w .holds CountHigh)
-    turn-ways Drive = write-ways (phaseOf f) _ (w .holds Drive)
-    turn-ways Nowhere = write-ways (phaseOf f) _ (w .holds Nowhere)
-    turn-ways Command = write-ways (phaseOf f) _ (λ h. either P (eqb v 0xA0) (λ e. w .asks h) (λ e. w .refuses))
-    turn-ways Read = read-ways (phaseOf f) refl
-    turn-ways Reset = w .resets
+  data-due : (s : Phase)
+      → IsDue (not (isPacket s or isList s)) false (isPacket s and endsPacket f v or isList s and endsList f v) (dataTurn s f v .due)
+  unfolding _or_ _and_
+  data-due Idle = due-itself _
+  data-due PacketRun = rw (or-none (endsPacket f v)) packet-due
+  data-due ListRun = list-due
+  data-due AnswerRun = due-itself _
+
+  read-due : (s : Phase) → IsDue (not (isAnswer s)) (isAnswer s) false (readTurn s f .due)
+  unfolding answerByte
+  read-due Idle = due-itself _
+  read-due PacketRun = due-itself _
+  read-due ListRun = due-itself _
+  read-due AnswerRun = due-itself _
+
+  pub turn-due : (a : Access) → IsDue (isOutOfTurn f v a) (readsData a and isAnswerRun f) (isCompleting f v a) (turnOf f a v .due)
+  unfolding turnOf _or_ _and_
+  turn-due a = let T = phaseOf-tested f in rw (T .packet, T .list, T .answer) (go a (phaseOf f))
+    where
+      go : (a : Access) (s : Phase)
+          → IsDue
+          (readsData a and not (isAnswer s)
+          or writesData a and not (isPacket s or isList s)
+          or writesCommand a and not (eqb v 0xA0)
+          or writesOther a and (isPacket s or isList s or isAnswer s))
+          (readsData a and isAnswer s)
+          (writesData a and (isPacket s and endsPacket f v or isList s and endsList f v))
+          (turnBy a s f v .due)
+      go Data s = rw (or-none (not (isPacket s or isList s))) (data-due s)
+      go Features s = write-due s _
+      go CountLow s = write-due s _
+      go CountHigh s = write-due s _
+      go Drive s = write-due s _
+      go Nowhere s = write-due s _
+      go Command s = command-due s
+      go Read s = rw (or-none (not (isAnswer s))) (read-due s)
+      go Reset s = due-itself _
+
+  -- a refused access leaves the record
+  abbrev Stays : Turn → Type 0
+  Stays t = isRefused (t .due) ≡ true → t ≡ refusedTurn f
+
+  pub turn-stays : (a : Access) → Stays (turnOf f a v)
+  turn-stays = turnOf-ways f v {P = Stays} (record {
+    refuses = λ h. refl;
+    holds = λ a s h. absurd (false≢true h);
+    asks = λ s h. absurd (false≢true h);
+    takes = λ s x h. absurd (false≢true h);
+    asksList = λ s x h. absurd (false≢true h);
+    performs = λ s h. absurd (false≢true h);
+    enters = λ s x h. absurd (false≢true h);
+    performsListed = λ s h. absurd (false≢true h);
+    givesLast = λ s h. absurd (false≢true h);
+    givesMore = λ s x h. absurd (false≢true h);
+    powersOn = λ h. absurd (false≢true h);
+  })
 
 -- ---- packet and list keep their lengths
 
@@ -163,23 +144,11 @@ module _ (f : TaskFile) (v : ℕ) where
   abbrev Lasts : Turn → Type 0
   Lasts t = SameLengths f (t .file)
 
-  packet-lengths : Lasts (packetByte f v)
-  unfolding packetByte packetEnd
-  packet-lengths =
-      let s : length (set (f .packet) (f .at) v) ≡ length (f .packet) = length-set (f .packet) (f .at) v in
-      either Lasts (eqb (f .at + 1) packetBytes)
-      (λ h. either Lasts (takesList (set (f .packet) (f .at) v)) (λ k. (s, refl)) (λ k. (s, refl))) (λ h. (s, refl))
+  packet-lengths : SameLengths f (packed f v)
+  packet-lengths = (length-set (f .packet) (f .at) v, refl)
 
-  list-lengths : Lasts (listByte f v)
-  unfolding listByte
-  list-lengths =
-      let s : length (set (f .list) (f .at) v) ≡ length (f .list) = length-set (f .list) (f .at) v in
-      let g = gone-lengths (bearing f (f .packet) (set (f .list) (f .at) v)) in
-      either Lasts (eqb (f .at + 1) listBytes) (λ h. (refl, s)) (λ h. (g .0, g .1 ∙ s))
-
-  answer-lengths : Lasts (answerByte f)
-  unfolding answerByte
-  answer-lengths = either (SameLengths f) (eqb (f .at + 1) (f .len)) (λ h. (refl, refl)) (λ h. gone-lengths f)
+  list-lengths : SameLengths f (listed f v)
+  list-lengths = (refl, length-set (f .list) (f .at) v)
 
   written-lengths : (a : Access) → SameLengths f (written f a v)
   written-lengths Data = (refl, refl)
@@ -192,13 +161,62 @@ module _ (f : TaskFile) (v : ℕ) where
   written-lengths Read = (refl, refl)
   written-lengths Reset = (refl, refl)
 
-  pub turn-lengths : (a : Access) → SameLengths f (turnOf f a v .file)
-  turn-lengths = turn-ways f v {P = Lasts} (record {
+  pub turn-lengths : (a : Access) → Lasts (turnOf f a v)
+  turn-lengths = turnOf-ways f v {P = Lasts} (record {
     refuses = (refl, refl);
-    holds = λ a h. written-lengths a;
-    asks = λ h. (refl, refl);
-    takesPacket = λ h. packet-lengths;
-    takesItsList = λ h. list-lengths;
-    gives = λ h. answer-lengths;
-    resets = (refl, refl);
+    holds = λ a s. written-lengths a;
+    asks = λ s. (refl, refl);
+    takes = λ s x. packet-lengths;
+    asksList = λ s x. packet-lengths;
+    performs = λ s. packet-lengths;
+    enters = λ s x. let g = gone-lengths (listed f v) in (g .0, g .1 ∙ list-lengths .1);
+    performsListed = λ s. list-lengths;
+    givesLast = λ s. (refl, refl);
+    givesMore = λ s x. gone-lengths f;
+    powersOn = (refl, refl);
+  })
+
+-- ---- the limit of an answer
+
+-- what is due is one thing alone
+never : _≡_ {A = ℕ} 0 1 → ⊥
+never h = omega arith
+
+module _ (f : TaskFile) (v : ℕ) where
+  -- "the host's byte count limit as held at the packet's end"
+  abbrev Limited : Turn → Type 0
+  Limited t = t .due ≡ Performs → t .file .limit ≡ limitOf (countOf f)
+
+  pub performs-limit : (a : Access) → Limited (turnOf f a v)
+  performs-limit = turnOf-ways f v {P = Limited} (record {
+    refuses = λ e. absurd (never cc);
+    holds = λ a s e. absurd (never cc);
+    asks = λ s e. absurd (never cc);
+    takes = λ s x e. absurd (never cc);
+    asksList = λ s x e. absurd (never cc);
+    performs = λ s e. refl;
+    enters = λ s x e. absurd (never cc);
+    performsListed = λ s e. absurd (never cc);
+    givesLast = λ s e. absurd (never cc);
+    givesMore = λ s x e. absurd (never cc);
+    powersOn = λ e. absurd (never cc);
+  })
+
+  -- it is the limit of the answer behind a list too
+  abbrev Kept : Turn → Type 0
+  Kept t = t .due ≡ PerformsListed → (t .file .limit ≡ f .limit) × Limit (f .limit)
+
+  pub listed-limit : (a : Access) → Kept (turnOf f a v)
+  listed-limit = turnOf-ways f v {P = Kept} (record {
+    refuses = λ e. absurd (never cc);
+    holds = λ a s e. absurd (never cc);
+    asks = λ s e. absurd (never cc);
+    takes = λ s x e. absurd (never cc);
+    asksList = λ s x e. absurd (never cc);
+    performs = λ s e. absurd (never cc);
+    enters = λ s x e. absurd (never cc);
+    performsListed = λ s e. (refl, list-listing f s .limited);
+    givesLast = λ s e. absurd (never cc);
+    givesMore = λ s x e. absurd (never cc);
+    powersOn = λ e. absurd (never cc);
   })

@@ -20,7 +20,7 @@ use Rattle.registers.specs.declared.Stepped.{Stepped}
 use Rattle.registers.specs.Registers.{stands, stepOf}
 use Rattle.registerclaims.specs.RegisterLimit.{Limit}
 use Rattle.registerclaims.specs.Along.{Answering}
-use Rattle.registerclaims.specs.Bench.{Bench, bench, afterReads}
+use Rattle.registerclaims.specs.Transfer.{Transfer as Bench, transferOf as bench, afterReads}
 use Rattle.registerclaims.specs.ReadLaws.{reads-after, reached, given, read-step}
 use Rattle.registerclaims.specs.RegisterRuns.{answering, answer-some}
 

@@ -28,9 +28,9 @@ use Rattle.registers.specs.Registers.{asks, performed, stepBy, memoryBy, stepOf
 use Rattle.claims.specs.WholeLaws.{reply-held}
 use Rattle.claims.specs.RefusalLaws.{refusal-ordered}
 use Rattle.registerclaims.specs.RegisterLimit.{Limit, limit-limit}
-use Rattle.registerclaims.specs.Bench.{bench, left, next}
+use Rattle.registerclaims.specs.Transfer.{transferOf as bench, left, next}
 use Rattle.registerclaims.specs.RegisterRuns.{Leaves, Joined, leaves-whole, showing, ended-leaves, answer-runs, answer-none}
-use Rattle.registerclaims.specs.TurnLaws.{performs-limit, listed-limit}
+use Rattle.registerclaims.specs.RegisterTurnLaws.{performs-limit, listed-limit}
 
 -- an answer that has bytes was lent a memory that refusal 3 lets pass
 reply-passed : (d : Drive) (p t l : List ℕ) (n : ℕ) → 0 < length (bytesOf (answer d p t l n)) → bound ≤ n
@@ -83,14 +83,14 @@ module _ (f : TaskFile) (x : Access) (v : ℕ) (d : Drive) (t m : List ℕ) wher
   pub packet-runs : countOf f < 65536 → turnOf f x v .due ≡ Performs
       → Leaves (limitOf (countOf f)) (bytesOf (asks whole [] d t m)) t (next x v t (bench f d m))
   packet-runs h e =
-      let i = performs-limit f x v e in
+      let i = performs-limit f v x e in
       rw (due-next Performs e) (rw i at (performed-leaves whole [] d t m (rw i (limit-limit (countOf f) h))))
 
   -- and from the one that completes the list, with the same limit
   pub listed-runs : turnOf f x v .due ≡ PerformsListed
       → Leaves (f .limit) (bytesOf (asks whole (whole .list) d t m)) t (next x v t (bench f d m))
   listed-runs e =
-      let i = listed-limit f x v e in
+      let i = listed-limit f v x e in
       rw (due-next PerformsListed e) (rw (i .0) at (performed-leaves whole (whole .list) d t m (rw (i .0) (i .1))))
 
   -- "The runs joined are the answer's bytes, and the last leaves after exactly the quotient of length by run size, rounded up."

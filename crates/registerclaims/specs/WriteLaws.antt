@@ -10,7 +10,7 @@ use lib.ListN.{length, getD, take, drop, set, drop-of-length-le}
 use lib.Seq.{take-all, take-suc, drop-cons, paste-suc}
 use lib.Dec.{eqb}
 use borrow.Author.Tests.{lt-ltb, ne-eqb}
-use Rattle.ground.specs.Tests.{either, when, unless, and-off, and-both}
+use Rattle.ground.specs.Tests.{either, when, unless, and-both}
 use Rattle.drive.specs.declared.state.Drive.{Drive}
 use Rattle.taskfile.specs.declared.TaskFile.{TaskFile}
 use Rattle.taskfile.specs.declared.Turn.{Turn}
@@ -20,11 +20,12 @@ use Rattle.taskfile.specs.declared.Access.{Access}
 use Rattle.taskfile.specs.declared.Access.the-variants.{Data}
 use Rattle.taskfile.specs.declared.Due.the-variants.{PerformsListed}
 use Rattle.taskfile.specs.TaskFile.{takesPacketReason, packetBytes, listBytes, placed, bearing}
-use Rattle.taskfile.specs.Run.{isPacketRun, isListRun, isAnswerRun, phaseOf, leftBy, leftOf}
+use Rattle.taskfile.specs.Run.{isPacketRun, isAnswerRun, phaseOf, leftBy, leftOf}
+use Rattle.taskfile.specs.RunLaws.{isListRun-other, isPacketRun-phase}
 use Rattle.taskfile.specs.Host.{held, limited, gone, packetEnd, packetByte, listByte, dataTurn, turnOf}
 use Rattle.registers.specs.Registers.{stepBy, memoryBy, stepOf, memoryOf}
 use Rattle.registerclaims.specs.Along.{along, Listing, gone-along, along-list}
-use Rattle.registerclaims.specs.Bench.{Bench, bench, left, next, afterWrites, isTaking}
+use Rattle.registerclaims.specs.Transfer.{Transfer, transferOf, left, next, afterWrites, isTaking}
 
 -- ---- bytes laid one behind the other
 
@@ -41,12 +42,12 @@ entered-all l o n h k = rw (take-all n l (omega arith), drop-of-length-le o {i =
 -- ---- writes
 
 -- an access at which nothing is due changes the record alone
-pub held-next : (f g : TaskFile) (x : Access) (v : ℕ) (d : Drive) (t m : List ℕ) → turnOf f x v ≡ held g → next x v t (bench f d m) ≡ bench g d m
+pub held-next : (f g : TaskFile) (x : Access) (v : ℕ) (d : Drive) (t m : List ℕ) → turnOf f x v ≡ held g → next x v t (transferOf f d m) ≡ transferOf g d m
 unfolding stepOf memoryOf
 held-next f g x v d t m e = ap (λ (w : Turn). left (stepBy (w .due) f (w .file) d t m) (memoryBy (w .due) (w .file) d t m)) e
 
 -- writes that each lead one place on lead on as many places as they are
-pub writes-after : (at : ℕ → Bench) (l t : List ℕ) (n : ℕ) → n ≤ length l → ((j : ℕ) → j < n → next Data (getD l j 0) t (at j) ≡ at (j + 1))
+pub writes-after : (at : ℕ → Transfer) (l t : List ℕ) (n : ℕ) → n ≤ length l → ((j : ℕ) → j < n → next Data (getD l j 0) t (at j) ≡ at (j + 1))
     → (i j : ℕ) → j + i ≤ n → afterWrites (take i (drop j l)) t (at j) ≡ at (j + i)
 unfolding afterWrites
 writes-after at l t n k w zero j h = ap at (sym (add-zero j))
@@ -59,14 +60,14 @@ writes-after at l t n k w (suc i) j h =
     ∙ ap at e
 
 -- the last one comes behind all others
-pub writes-last : (l t : List ℕ) (n : ℕ) (x : Bench) → length l ≡ n + 1 → afterWrites l t x ≡ next Data (getD l n 0) t (afterWrites (take n l) t x)
+pub writes-last : (l t : List ℕ) (n : ℕ) (x : Transfer) → length l ≡ n + 1 → afterWrites l t x ≡ next Data (getD l n 0) t (afterWrites (take n l) t x)
 unfolding afterWrites
 writes-last l t n x h =
     let e : l ≡ take n l ++ (getD l n 0 ∷ []) =
     sym (take-all (suc n) l (omega arith)) ∙ take-suc l n 0 (omega arith) in
     ap (λ (p : List ℕ). afterWrites p t x) e ∙ behind (take n l) x
   where
-    behind : (p : List ℕ) (x : Bench) → afterWrites (p ++ (getD l n 0 ∷ [])) t x ≡ next Data (getD l n 0) t (afterWrites p t x)
+    behind : (p : List ℕ) (x : Transfer) → afterWrites (p ++ (getD l n 0 ∷ [])) t x ≡ next Data (getD l n 0) t (afterWrites p t x)
     behind [] x = refl
     behind (v ∷ p) x = behind p (next Data v t x)
 
@@ -77,8 +78,9 @@ abbrev pub within : TaskFile → ℕ → TaskFile
 within g j = placed g takesPacketReason packetBytes packetBytes j
 
 within-phase : (g : TaskFile) (j : ℕ) → j < packetBytes → phaseOf (within g j) ≡ PacketRun
-unfolding phaseOf isPacketRun
-within-phase g j h = when _ _ _ (and-both _ _ refl (and-both _ _ refl (and-both _ _ refl (lt-ltb j packetBytes h))))
+unfolding isPacketRun
+within-phase g j h =
+    isPacketRun-phase (within g j) (and-both _ _ refl (and-both _ _ refl (and-both _ _ refl (lt-ltb j packetBytes h))))
 
 within-left : (g : TaskFile) (j : ℕ) → j < packetBytes → leftOf (within g j) ≡ packetBytes - j
 unfolding leftOf
@@ -121,35 +123,34 @@ module _ (f : TaskFile) (a : Listing f) (l : List ℕ) (x : length l ≡ listByt
   over-listing q = record { reason = a .reason; takes = a .takes; whole = a .whole; limited = a .limited }
 
   -- with j bytes of the list entered
-  abbrev pub listing : ℕ → TaskFile
-  listing j = along (over (entered l (f .list) j)) j
+  abbrev pub entering : ℕ → TaskFile
+  entering j = along (over (entered l (f .list) j)) j
 
-  pub listing-phase : (j : ℕ) → j < listBytes → phaseOf (listing j) ≡ ListRun
-  listing-phase j h = along-list (over (entered l (f .list) j)) j (over-listing _) h
+  pub entering-phase : (j : ℕ) → j < listBytes → phaseOf (entering j) ≡ ListRun
+  entering-phase j h = along-list (over (entered l (f .list) j)) j (over-listing _) h
 
-  pub list-turn : (j : ℕ) → j < 15 → turnOf (listing j) Data (getD l j 0) ≡ held (listing (j + 1))
+  pub list-turn : (j : ℕ) → j < 15 → turnOf (entering j) Data (getD l j 0) ≡ held (entering (j + 1))
   unfolding turnOf listByte
   list-turn j h =
       let w = a .limited .least in
-      ap (λ (s : Phase). dataTurn s (listing j) (getD l j 0)) (listing-phase j (omega arith))
+      ap (λ (s : Phase). dataTurn s (entering j) (getD l j 0)) (entering-phase j (omega arith))
       ∙ unless _ _ _ (ne-eqb (j + 1) listBytes (λ e. omega arith))
       ∙ ap (λ (q : List ℕ). held (gone (along (over q) j))) (entered-next l (f .list) j (omega arith) (omega arith))
       ∙ ap held (gone-along (over (entered l (f .list) (j + 1))) j (omega arith))
 
-  pub list-last : turnOf (listing 15) Data (getD l 15 0) ≡ record { due = PerformsListed; file = along (over l) 15 }
+  pub list-last : turnOf (entering 15) Data (getD l 15 0) ≡ record { due = PerformsListed; file = along (over l) 15 }
   unfolding turnOf listByte
   list-last =
-      ap (λ (s : Phase). dataTurn s (listing 15) (getD l 15 0)) (listing-phase 15 (omega arith))
+      ap (λ (s : Phase). dataTurn s (entering 15) (getD l 15 0)) (entering-phase 15 (omega arith))
       ∙ when _ _ _ refl
       ∙ ap (λ (q : List ℕ). record { due = PerformsListed; file = along (over q) 15 })
       (entered-next l (f .list) 15 (omega arith) (omega arith) ∙ entered-all l (f .list) 16 x y)
 
 -- a record with another reason takes no list
 pub untaking : (f : TaskFile) → eqb (f .reason) 0x00 ≡ false → isTaking (phaseOf f) ≡ false
-unfolding phaseOf isListRun
+unfolding phaseOf
 untaking f h =
-    either P (isPacketRun f) (λ e. refl)
-    (λ e. rw (unless _ _ _ (sym (and-off (eqb (f .reason) 0x00) _ h))) (either P (isAnswerRun f) (λ e. refl) (λ e. refl)))
+    either P (isPacketRun f) (λ e. refl) (λ e. rw (unless _ _ _ (isListRun-other f h)) (either P (isAnswerRun f) (λ e. refl) (λ e. refl)))
   where
     P : Phase → Type 0
     P s = isTaking s ≡ false

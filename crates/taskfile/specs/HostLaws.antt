@@ -1,9 +1,11 @@
--- Laws of the turns: what is refused in every phase, and when a byte of the answer is due.
+-- What an access comes to, by the run that the record is in: each way out once, so that a law of all accesses is one of them.
 use Prim.Native.Nat.{ℕ, _+_, _<_}
 use mathlib.Core.Path.{_≡_, refl, ap}
+use mathlib.Core.Bool.{Bool, true, false, false≢true}
 use native.Mathlib.Omega.{arith}
+use lib.ListN.{set}
 use lib.Dec.{eqb}
-use Rattle.ground.specs.Tests.{if_then_else_, either}
+use Rattle.ground.specs.Tests.{either}
 use Rattle.taskfile.specs.declared.TaskFile.{TaskFile}
 use Rattle.taskfile.specs.declared.Phase.{Phase}
 use Rattle.taskfile.specs.declared.Phase.the-variants.{Idle, PacketRun, ListRun, AnswerRun}
@@ -12,10 +14,10 @@ use Rattle.taskfile.specs.declared.Access.the-variants.{Data, Features, 
 use Rattle.taskfile.specs.declared.Due.{Due}
 use Rattle.taskfile.specs.declared.Due.the-variants.{Refused, Held, Performs, PerformsListed, Gives, Resets}
 use Rattle.taskfile.specs.declared.Turn.{Turn}
-use Rattle.taskfile.specs.TaskFile.{packetBytes, listBytes, asked}
+use Rattle.taskfile.specs.TaskFile.{takesListReason, packetBytes, listBytes, bearing, asked, ended, reset}
 use Rattle.taskfile.specs.Run.{mostBytes, takesList, phaseOf}
 use Rattle.taskfile.specs.RunLaws.{phaseOf-answer}
-use Rattle.taskfile.specs.Host.{refusedTurn, held, writeTurn, commandTurn, packetEnd, packetByte, listByte, turnBy, turnOf}
+use Rattle.taskfile.specs.Host.{refusedTurn, held, limited, begun, passed, gone, packetEnd, packetByte, listByte, answerByte, dataTurn, readTurn, writeTurn, written, turnOf}
 
 -- ---- writeTurn
 
@@ -27,66 +29,114 @@ writeTurn-refused AnswerRun f = refl
 
 -- ---- turnOf
 
--- one number where a byte of the answer is due, and another where it is not
-abbrev giving : Due → ℕ
-giving Refused = 0
-giving Held = 0
-giving Performs = 0
-giving PerformsListed = 0
-giving Gives = 1
-giving Resets = 0
+module _ (f : TaskFile) (v : ℕ) where
+  -- the record with the byte v in its packet, and in its list
+  abbrev pub packed : TaskFile
+  packed = bearing f (set (f .packet) (f .at) v) (f .list)
 
--- no byte of the answer is due
-abbrev Silent : Turn → Type 0
-Silent t = giving (t .due) ≡ 0
+  abbrev pub listed : TaskFile
+  listed = bearing f (f .packet) (set (f .list) (f .at) v)
 
-packetEnd-silent : (f : TaskFile) → Silent (packetEnd f)
-unfolding packetEnd
-packetEnd-silent f = either Silent (takesList (f .packet)) (λ h. refl) (λ h. refl)
+  -- what holds of each way out of an access, by the run that it has
+  pub record Ways (P : Turn → Type 0) : Type 0 where
+    pub refuses : P (refusedTurn f)
+    pub holds : (a : Access) → phaseOf f ≡ Idle → P (held (written f a v))
+    pub asks : phaseOf f ≡ Idle → P (held (asked f))
+    pub takes : phaseOf f ≡ PacketRun → eqb (f .at + 1) packetBytes ≡ false → P (held (passed packed))
+    pub asksList : phaseOf f ≡ PacketRun → takesList (packed .packet) ≡ true → P (held (begun (limited packed) takesListReason listBytes))
+    pub performs : phaseOf f ≡ PacketRun → P (record { due = Performs; file = limited packed })
+    pub enters : phaseOf f ≡ ListRun → eqb (f .at + 1) listBytes ≡ false → P (held (gone listed))
+    pub performsListed : phaseOf f ≡ ListRun → P (record { due = PerformsListed; file = listed })
+    pub givesLast : phaseOf f ≡ AnswerRun → P (record { due = Gives; file = ended f })
+    pub givesMore : phaseOf f ≡ AnswerRun → eqb (f .at + 1) (f .len) ≡ false → P (record { due = Gives; file = gone f })
+    pub powersOn : P (record { due = Resets; file = reset f })
 
-packetByte-silent : (f : TaskFile) (v : ℕ) → Silent (packetByte f v)
-unfolding packetByte
-packetByte-silent f v = either Silent (eqb (f .at + 1) packetBytes) (λ h. packetEnd-silent _) (λ h. refl)
+  -- holds of what any access comes to
+  module _ {P : Turn → Type 0} (w : Ways P) where
+    packet-ways : phaseOf f ≡ PacketRun → P (packetByte f v)
+    unfolding packetByte packetEnd
+    packet-ways h =
+        either P (eqb (f .at + 1) packetBytes) (λ x. either P (takesList (packed .packet)) (w .asksList h) (λ y. w .performs h)) (w .takes h)
 
-listByte-silent : (f : TaskFile) (v : ℕ) → Silent (listByte f v)
-unfolding listByte
-listByte-silent f v = either Silent (eqb (f .at + 1) listBytes) (λ h. refl) (λ h. refl)
+    list-ways : phaseOf f ≡ ListRun → P (listByte f v)
+    unfolding listByte
+    list-ways h = either P (eqb (f .at + 1) listBytes) (λ x. w .performsListed h) (w .enters h)
 
-commandTurn-silent : (f : TaskFile) (v : ℕ) → Silent (commandTurn f v)
-commandTurn-silent f v = either Silent (eqb v 0xA0) (λ h. refl) (λ h. refl)
+    answer-ways : phaseOf f ≡ AnswerRun → P (answerByte f)
+    unfolding answerByte
+    answer-ways h =
+        either (λ (g : TaskFile). P (record { due = Gives; file = g })) (eqb (f .at + 1) (f .len)) (λ x. w .givesLast h) (w .givesMore h)
 
-writeTurn-silent : (s : Phase) (f : TaskFile) (t : Turn) → Silent t → Silent (writeTurn s f t)
-writeTurn-silent Idle f t h = h
-writeTurn-silent PacketRun f t h = refl
-writeTurn-silent ListRun f t h = refl
-writeTurn-silent AnswerRun f t h = refl
+    write-ways : (s : Phase) (t : Turn) → (s ≡ Idle → P t) → P (writeTurn s f t)
+    write-ways Idle t h = h refl
+    write-ways PacketRun t h = w .refuses
+    write-ways ListRun t h = w .refuses
+    write-ways AnswerRun t h = w .refuses
 
--- it is due at a data read in a run of the answer alone
-turnBy-gives : (a : Access) (s : Phase) (f : TaskFile) (v : ℕ) → giving (turnBy a s f v .due) ≡ 1 → s ≡ AnswerRun
-turnBy-gives Data Idle f v h = absurd (omega arith)
-turnBy-gives Data PacketRun f v h = let z = packetByte-silent f v in absurd (omega arith)
-turnBy-gives Data ListRun f v h = let z = listByte-silent f v in absurd (omega arith)
-turnBy-gives Data AnswerRun f v h = refl
-turnBy-gives Read Idle f v h = absurd (omega arith)
-turnBy-gives Read PacketRun f v h = absurd (omega arith)
-turnBy-gives Read ListRun f v h = absurd (omega arith)
-turnBy-gives Read AnswerRun f v h = refl
-turnBy-gives Reset Idle f v h = absurd (omega arith)
-turnBy-gives Reset PacketRun f v h = absurd (omega arith)
-turnBy-gives Reset ListRun f v h = absurd (omega arith)
-turnBy-gives Reset AnswerRun f v h = refl
-turnBy-gives Command s f v h = let z = writeTurn-silent s f (commandTurn f v) (commandTurn-silent f v) in absurd (omega arith)
-turnBy-gives Features s f v h = let z = writeTurn-silent s f (turnBy Features Idle f v) refl in absurd (omega arith)
-turnBy-gives CountLow s f v h = let z = writeTurn-silent s f (turnBy CountLow Idle f v) refl in absurd (omega arith)
-turnBy-gives CountHigh s f v h = let z = writeTurn-silent s f (turnBy CountHigh Idle f v) refl in absurd (omega arith)
-turnBy-gives Drive s f v h = let z = writeTurn-silent s f (turnBy Drive Idle f v) refl in absurd (omega arith)
-turnBy-gives Nowhere s f v h = let z = writeTurn-silent s f (held f) refl in absurd (omega arith)
+    data-ways : (s : Phase) → phaseOf f ≡ s → P (dataTurn s f v)
+    data-ways Idle h = w .refuses
+    data-ways PacketRun h = packet-ways h
+    data-ways ListRun h = list-ways h
+    data-ways AnswerRun h = w .refuses
 
--- so the record has a next byte, one of a response memory
+    read-ways : (s : Phase) → phaseOf f ≡ s → P (readTurn s f)
+    read-ways Idle h = w .refuses
+    read-ways PacketRun h = w .refuses
+    read-ways ListRun h = w .refuses
+    read-ways AnswerRun h = answer-ways h
+
+    pub turnOf-ways : (a : Access) → P (turnOf f a v)
+    unfolding turnOf
+    turnOf-ways Data = data-ways (phaseOf f) refl
+    turnOf-ways Features = write-ways (phaseOf f) _ (w .holds Features)
+    turnOf-ways CountLow = write-ways (phaseOf f) _ (w .holds CountLow)
+    turnOf-ways CountHigh = write-ways (phaseOf f) _ (w .holds CountHigh)
+    turnOf-ways Drive = write-ways (phaseOf f) _ (w .holds Drive)
+    turnOf-ways Nowhere = write-ways (phaseOf f) _ (w .holds Nowhere)
+    turnOf-ways Command = write-ways (phaseOf f) _ (λ h. either P (eqb v 0xA0) (λ e. w .asks h) (λ e. w .refuses))
+    turnOf-ways Read = read-ways (phaseOf f) refl
+    turnOf-ways Reset = w .powersOn
+
+-- what is due, by a number: a refusal, a packet to perform, a byte to give, or none of these
+abbrev code : Due → ℕ
+code Refused = 0
+code Held = 3
+code Performs = 1
+code PerformsListed = 1
+code Gives = 2
+code Resets = 3
+
+abbrev pub isRefused : Due → Bool
+isRefused e = eqb (code e) 0
+
+abbrev pub isPerformed : Due → Bool
+isPerformed e = eqb (code e) 1
+
+abbrev pub isGiven : Due → Bool
+isGiven e = eqb (code e) 2
+
+-- a byte of the answer is due in a run of the answer alone, so the record has a next byte, one of a response memory
 pub turnOf-gives : (f : TaskFile) (a : Access) (v : ℕ) → turnOf f a v .due ≡ Gives → f .at < mostBytes
-unfolding turnOf
 turnOf-gives f a v h =
-    let n = phaseOf-answer f (turnBy-gives a (phaseOf f) f v (ap giving h)) in
+    let n = phaseOf-answer f (turnOf-ways f v {P = Answers} each a (ap isGiven h)) in
     let l = n .0 in
     let m = n .1 in
     omega arith
+  where
+    Answers : Turn → Type 0
+    Answers t = isGiven (t .due) ≡ true → phaseOf f ≡ AnswerRun
+
+    each : Ways f v Answers
+    each = record {
+      refuses = λ e. absurd (false≢true e);
+      holds = λ a s e. absurd (false≢true e);
+      asks = λ s e. absurd (false≢true e);
+      takes = λ s x e. absurd (false≢true e);
+      asksList = λ s x e. absurd (false≢true e);
+      performs = λ s e. absurd (false≢true e);
+      enters = λ s x e. absurd (false≢true e);
+      performsListed = λ s e. absurd (false≢true e);
+      givesLast = λ s e. s;
+      givesMore = λ s x e. s;
+      powersOn = λ e. absurd (false≢true e);
+    }
