@@ -24,7 +24,7 @@ use Rattle.registerclaims.specs.RegisterLimit.{Limit}
 use Rattle.registerclaims.specs.Cut.{cut, roundedUp}
 use Rattle.registerclaims.specs.Loop.{loops-got, loops-going, loops-done}
 use Rattle.registerclaims.specs.Along.{along, Listing, begun-along, list-left, Shows, along-shows}
-use Rattle.registerclaims.specs.Transfer.{Transfer as Bench, transferOf as bench, next, afterWrites, feed, fed}
+use Rattle.registerclaims.specs.Transfer.{Transfer, transferOf, next, afterWrites, feed, fed}
 use Rattle.registerclaims.specs.RegisterRuns.{Leaves}
 use Rattle.registerclaims.specs.RegisterTurnLaws.{listed-limit}
 use Rattle.registerclaims.specs.TargetRuns.{listed-runs}
@@ -39,12 +39,12 @@ pub record Completes (l : List ℕ) (x : TaskFile) (w : Turn) : Type 0 where
   pub limit : w .file .limit ≡ x .limit
 
 -- state and memory are as they were
-pub record Untouched (x y : Bench) : Type 0 where
+pub record Untouched (x y : Transfer) : Type 0 where
   pub state : y .state ≡ x .state
   pub memory : y .memory ≡ x .memory
 
 -- the bytes l enter x in runs of at most m
-pub record Enters (m : ℕ) (l t : List ℕ) (x : Bench) : Type 0 where
+pub record Enters (m : ℕ) (l t : List ℕ) (x : Transfer) : Type 0 where
   -- the first k runs of the host are the first k pieces
   pub runs : (k : ℕ) → feed k l t x ≡ take k (cut m l)
   -- behind fewer runs than the quotient of length by run size, rounded up, there is one more ..
@@ -61,8 +61,8 @@ pub record Enters (m : ℕ) (l t : List ℕ) (x : Bench) : Type 0 where
 
 -- the runs over a record along its transfer
 module _ (f : TaskFile) (a : Listing f) (l : List ℕ) (x : length l ≡ listBytes) (y : length (f .list) ≡ listBytes) (d : Drive) (t m : List ℕ) where
-  abbrev start : Bench
-  start = bench (along f 0) d m
+  abbrev start : Transfer
+  start = transferOf (along f 0) d m
 
   start-at : start ≡ at f a l x y d t m 0
   start-at = sym (at-before f a l x y d t m 0 (omega arith))
@@ -93,7 +93,7 @@ module _ (f : TaskFile) (a : Listing f) (l : List ℕ) (x : length l ≡ listByt
       going : (k : ℕ) → fed k l t (at f a l x y d t m 0) ≡ at f a l x y d t m (k * f .limit) → k * f .limit < listBytes
           → phaseOf (fed k l t start .file) ≡ ListRun
       going k e q =
-          ap (λ (r : Bench). phaseOf (r .file)) (ap (fed k l t) start-at ∙ e ∙ at-before f a l x y d t m (k * f .limit) q)
+          ap (λ (r : Transfer). phaseOf (r .file)) (ap (fed k l t) start-at ∙ e ∙ at-before f a l x y d t m (k * f .limit) q)
           ∙ entering-phase f a l x y (k * f .limit) q
 
       all : afterWrites l t start ≡ at f a l x y d t m (length l)
@@ -113,7 +113,7 @@ module _ (f : TaskFile) (a : Listing f) (l : List ℕ) (x : length l ≡ listByt
 
 -- "Only 55h asking for 16 bytes takes a list", "K4's list enters .. in runs": from the packet's end, for any 16 bytes
 pub list-runs : (g : TaskFile) (l : List ℕ) (d : Drive) (t m : List ℕ) → Limit (g .limit) → takesList (g .packet) ≡ true
-    → length l ≡ listBytes → length (g .list) ≡ listBytes → Enters (g .limit) l t (bench (packetEnd g .file) d m)
+    → length l ≡ listBytes → length (g .list) ≡ listBytes → Enters (g .limit) l t (transferOf (packetEnd g .file) d m)
 unfolding packetEnd
 list-runs g l d t m w h x y =
     let e : packetEnd g ≡ held (along (placed g takesListReason (g .limit) listBytes 0) 0) =
@@ -121,7 +121,7 @@ list-runs g l d t m w h x y =
     rw e (along-enters (placed g takesListReason (g .limit) listBytes 0) (record { reason = refl; takes = h; whole = refl; limited = w }) l x y d t m)
 
 -- "The target performs a packet at the call that completes it and its list": the answer to both leaves in runs of the same limit
-pub list-answers : {k : ℕ} {l t : List ℕ} {x : Bench} → Enters k l t x → length l ≡ listBytes
+pub list-answers : {k : ℕ} {l t : List ℕ} {x : Transfer} → Enters k l t x → length l ≡ listBytes
     → Leaves (x .file .limit) (bytesOf (answer (x .state) (x .file .packet) t l (length (x .memory)))) t (afterWrites l t x)
 list-answers {k} {l} {t} {x} w n =
     let y = afterWrites (take 15 l) t x in

@@ -22,7 +22,7 @@ use Rattle.registerclaims.specs.RegisterLimit.{Limit}
 use Rattle.registerclaims.specs.Cut.{cut, joined, roundedUp, cut-none, cut-joined, cut-number, cut-size}
 use Rattle.registerclaims.specs.Loop.{Loops, loops-got, loops-going, loops-done}
 use Rattle.registerclaims.specs.Along.{along, Answering, begun-along, along-answer, answer-left, Shows, along-shows}
-use Rattle.registerclaims.specs.Transfer.{Transfer as Bench, transferOf as bench, afterReads, drain, drained}
+use Rattle.registerclaims.specs.Transfer.{Transfer, transferOf, afterReads, drain, drained}
 use Rattle.registerclaims.specs.ReadLaws.{given, ended-drain, Upon, reached-along, reads-after, bytes-length, bytes-end, read-loops}
 
 -- the record f with the byte count of g
@@ -30,13 +30,13 @@ abbrev pub counted : TaskFile → TaskFile → TaskFile
 counted f g = holding f (f .features) (g .low) (g .high) (f .drive) (f .status)
 
 -- "status ends it (CoD 1, IO 1)": x came to its end as y, and all but the byte count is as it was
-pub record Over (x y : Bench) : Type 0 where
+pub record Over (x y : Transfer) : Type 0 where
   pub file : y .file ≡ ended (counted (x .file) (y .file))
   pub state : y .state ≡ x .state
   pub memory : y .memory ≡ x .memory
 
 -- the bytes b leave x in runs of at most m
-pub record Leaves (m : ℕ) (b t : List ℕ) (x : Bench) : Type 0 where
+pub record Leaves (m : ℕ) (b t : List ℕ) (x : Transfer) : Type 0 where
   pub some : 0 < m
   -- the first k runs of the host: each read is answered with number 0, the state as it was and the next byte of the cut
   pub runs : (k : ℕ) → drain k t x ≡ map (map (given (x .state))) (take k (cut m b))
@@ -48,7 +48,7 @@ pub record Leaves (m : ℕ) (b t : List ℕ) (x : Bench) : Type 0 where
   pub shows : (j : ℕ) → j < length b → Shows AnswerRun m b j (afterReads j t x .file)
 
 -- no bytes leave an ended transfer
-pub ended-leaves : (m : ℕ) (g : TaskFile) (d : Drive) (t r : List ℕ) → 0 < m → Leaves m [] t (bench (ended g) d r)
+pub ended-leaves : (m : ℕ) (g : TaskFile) (d : Drive) (t r : List ℕ) → 0 < m → Leaves m [] t (transferOf (ended g) d r)
 ended-leaves m g d t r h =
     let n : roundedUp 0 m ≡ 0 = sym (cut-number m [] h) ∙ ap length (cut-none m) in
     record {
@@ -65,10 +65,10 @@ ended-leaves m g d t r h =
 
 -- the runs over a record along its transfer
 module _ (f : TaskFile) (a : Answering f) (d : Drive) (t r : List ℕ) (b : bound ≤ length r) (h : 0 < f .len) where
-  abbrev start : Bench
-  start = bench (along f 0) d r
+  abbrev start : Transfer
+  start = transferOf (along f 0) d r
 
-  abbrev at : ℕ → Bench
+  abbrev at : ℕ → Transfer
   at = Upon f a d t r b
 
   abbrev bytes : List ℕ
@@ -94,16 +94,16 @@ module _ (f : TaskFile) (a : Answering f) (d : Drive) (t r : List ℕ) (b : boun
 
       going : (k : ℕ) → drained k t (at 0) ≡ at (k * f .limit) → k * f .limit < f .len → phaseOf (drained k t start .file) ≡ AnswerRun
       going k e q =
-          ap (λ (x : Bench). phaseOf (x .file)) (ap (drained k t) start-at ∙ e ∙ reached-along f a d t r b (k * f .limit) q)
+          ap (λ (x : Transfer). phaseOf (x .file)) (ap (drained k t) start-at ∙ e ∙ reached-along f a d t r b (k * f .limit) q)
           ∙ along-answer f (k * f .limit) a q
 
-      done : (k : ℕ) → roundedUp (length bytes) (f .limit) ≤ k → drained k t start ≡ bench (ended (along f (f .len - 1))) d r
+      done : (k : ℕ) → roundedUp (length bytes) (f .limit) ≤ k → drained k t start ≡ transferOf (ended (along f (f .len - 1))) d r
       done k i = ap (drained k t) start-at ∙ loops-done loops positive k i ∙ bytes-end f a d t r b
 
       shows : (j : ℕ) → j < f .len → Shows AnswerRun (f .limit) bytes j (afterReads j t start .file)
       shows j i =
           let n = bytes-length f a d t r b in
-          let e : afterReads j t start ≡ bench (along f j) d r =
+          let e : afterReads j t start ≡ transferOf (along f j) d r =
           ap (afterReads j t) start-at ∙ reads-after f a d t r b j 0 (omega arith) ∙ ap at (zero-add j) ∙ reached-along f a d t r b j i in
           rw e (along-shows AnswerRun f j bytes (a .limited) n i (along-answer f j a i) (answer-left f j a i))
 
@@ -126,7 +126,7 @@ answer-some g s n h = unless (eqb n 0) _ _ (ne-eqb n 0 (λ e. omega arith)) ∙ 
 
 -- "answers leave in runs": the answer of status s and n bytes that stands in front of the memory r, over a record with a limit
 pub answer-runs : (g : TaskFile) (s n : ℕ) (d : Drive) (t r : List ℕ) → Limit (g .limit) → n ≤ mostBytes → bound ≤ length r
-    → Leaves (g .limit) (take n r) t (bench (answered g s n) d r)
+    → Leaves (g .limit) (take n r) t (transferOf (answered g s n) d r)
 answer-runs g s zero d t r l h b = rw (answer-none g s) (ended-leaves (g .limit) (showing g s) d t r (let m = l .least in omega arith))
 answer-runs g s (suc n) d t r l h b =
     rw (answer-some g s (suc n) (omega arith))
@@ -145,7 +145,7 @@ bytes-given : (d : Drive) (p : List (List ℕ)) → map (map byteOf) (map (map (
 bytes-given d [] = refl
 bytes-given d (l ∷ p) = rw (byteOf-given d l, bytes-given d p)
 
-module _ {m : ℕ} {b t : List ℕ} {x : Bench} (w : Leaves m b t x) (k : ℕ) (e : roundedUp (length b) m ≤ k) where
+module _ {m : ℕ} {b t : List ℕ} {x : Transfer} (w : Leaves m b t x) (k : ℕ) (e : roundedUp (length b) m ≤ k) where
   leaves-all : drain k t x ≡ map (map (given (x .state))) (cut m b)
   leaves-all =
       let n = cut-number m b (w .some) in
@@ -173,18 +173,18 @@ module _ {m : ℕ} {b t : List ℕ} {x : Bench} (w : Leaves m b t x) (k : ℕ) (
       ∙ cut-size m b i (w .some) (omega arith)
 
 -- all of it: the runs of the host, however many more it would make
-abbrev pub Joined : ℕ → List ℕ → List ℕ → Bench → Type 0
+abbrev pub Joined : ℕ → List ℕ → List ℕ → Transfer → Type 0
 Joined m b t x =
     (k : ℕ) → roundedUp (length b) m ≤ k → (joined (map (map byteOf) (drain k t x)) ≡ b) × (length (drain k t x) ≡ roundedUp (length b) m)
 
-pub leaves-whole : {m : ℕ} {b t : List ℕ} {x : Bench} → Leaves m b t x → Joined m b t x
+pub leaves-whole : {m : ℕ} {b t : List ℕ} {x : Transfer} → Leaves m b t x → Joined m b t x
 leaves-whole w k e = (leaves-joined w k e, leaves-number w k e)
 
 -- an ended transfer is in no run
-pub over-idle : {x y : Bench} → Over x y → phaseOf (y .file) ≡ Idle
+pub over-idle : {x y : Transfer} → Over x y → phaseOf (y .file) ≡ Idle
 over-idle {x} {y} w = rw (w .file) (ended-idle (counted (x .file) (y .file)))
 
 -- with no bytes "status ends it" at once: there is no run
-pub leaves-none : {m : ℕ} {t : List ℕ} {x : Bench} → Leaves m [] t x → x .file ≡ ended (x .file)
+pub leaves-none : {m : ℕ} {t : List ℕ} {x : Transfer} → Leaves m [] t x → x .file ≡ ended (x .file)
 unfolding drained
 leaves-none {m} w = let n : roundedUp 0 m ≡ 0 = sym (cut-number m [] (w .some)) ∙ ap length (cut-none m) in w .done 0 (omega arith) .file

@@ -20,7 +20,7 @@ use Rattle.registers.specs.declared.Stepped.{Stepped}
 use Rattle.registers.specs.Registers.{stands, stepOf}
 use Rattle.registerclaims.specs.RegisterLimit.{Limit}
 use Rattle.registerclaims.specs.Along.{Answering}
-use Rattle.registerclaims.specs.Transfer.{Transfer as Bench, transferOf as bench, afterReads}
+use Rattle.registerclaims.specs.Transfer.{Transfer, transferOf, afterReads}
 use Rattle.registerclaims.specs.ReadLaws.{reads-after, reached, given, read-step}
 use Rattle.registerclaims.specs.RegisterRuns.{answering, answer-some}
 
@@ -87,9 +87,9 @@ module _ (g : TaskFile) (s n : ℕ) (xs : List Lent) (m : List ℕ) (l : Limit (
   answer-between = ap (λ (r : TaskFile). readsUnder xs r m) start ∙ reads-between f a m b xs 0 (omega arith)
 
   -- .. and the record goes as it does without them
-  pub record-same : (d : Drive) (t : List ℕ) → recordUnder xs (answered g s n) m ≡ afterReads (length xs) t (bench (answered g s n) d m) .file
+  pub record-same : (d : Drive) (t : List ℕ) → recordUnder xs (answered g s n) m ≡ afterReads (length xs) t (transferOf (answered g s n) d m) .file
   record-same d t =
       ap (λ (r : TaskFile). recordUnder xs r m) start
       ∙ record-between f a m b xs 0 (omega arith)
-      ∙ sym (ap (λ (r : TaskFile). afterReads (length xs) t (bench r d m) .file) start
-      ∙ ap (λ (r : Bench). r .file) (reads-after f a d t m b (length xs) 0 (omega arith)))
+      ∙ sym (ap (λ (r : TaskFile). afterReads (length xs) t (transferOf r d m) .file) start
+      ∙ ap (λ (r : Transfer). r .file) (reads-after f a d t m b (length xs) 0 (omega arith)))

@@ -28,7 +28,7 @@ use Rattle.registers.specs.Registers.{asks, performed, stepBy, memoryBy, stepOf
 use Rattle.claims.specs.WholeLaws.{reply-held}
 use Rattle.claims.specs.RefusalLaws.{refusal-ordered}
 use Rattle.registerclaims.specs.RegisterLimit.{Limit, limit-limit}
-use Rattle.registerclaims.specs.Transfer.{transferOf as bench, left, next}
+use Rattle.registerclaims.specs.Transfer.{transferOf, left, next}
 use Rattle.registerclaims.specs.RegisterRuns.{Leaves, Joined, leaves-whole, showing, ended-leaves, answer-runs, answer-none}
 use Rattle.registerclaims.specs.RegisterTurnLaws.{performs-limit, listed-limit}
 
@@ -58,7 +58,7 @@ performed-leaves g l d t m w =
     ])
   where
     some : (a : Reply Deck) → a ≡ asks g l d t m → min (a .limit) (length (a .full)) ≡ length (bytesOf a) → 0 < length (bytesOf a)
-        → Leaves (g .limit) (bytesOf a) t (bench (answered g (a .status) (length (bytesOf a))) (stateOf a) (fill m (bytesOf a)))
+        → Leaves (g .limit) (bytesOf a) t (transferOf (answered g (a .status) (length (bytesOf a))) (stateOf a) (fill m (bytesOf a)))
     some a q e z =
         let b = bytesOf a in
         let p : bound ≤ length m = reply-passed d (g .packet) t l (length m) (rw q at z) in
@@ -74,21 +74,21 @@ module _ (f : TaskFile) (x : Access) (v : ℕ) (d : Drive) (t m : List ℕ) wher
   whole = turnOf f x v .file
 
   -- what an access leaves, by what is due at it
-  pub due-next : (q : Due) → turnOf f x v .due ≡ q → next x v t (bench f d m) ≡ left (stepBy q f whole d t m) (memoryBy q whole d t m)
+  pub due-next : (q : Due) → turnOf f x v .due ≡ q → next x v t (transferOf f d m) ≡ left (stepBy q f whole d t m) (memoryBy q whole d t m)
   unfolding stepOf memoryOf
   due-next q e = ap (λ (q : Due). left (stepBy q f whole d t m) (memoryBy q whole d t m)) e
 
   -- "A run is the smaller of what remains and the host's byte count limit as held at the packet's end": from the access that completes a packet
   -- without a list its answer's bytes leave in such runs
   pub packet-runs : countOf f < 65536 → turnOf f x v .due ≡ Performs
-      → Leaves (limitOf (countOf f)) (bytesOf (asks whole [] d t m)) t (next x v t (bench f d m))
+      → Leaves (limitOf (countOf f)) (bytesOf (asks whole [] d t m)) t (next x v t (transferOf f d m))
   packet-runs h e =
       let i = performs-limit f v x e in
       rw (due-next Performs e) (rw i at (performed-leaves whole [] d t m (rw i (limit-limit (countOf f) h))))
 
   -- and from the one that completes the list, with the same limit
   pub listed-runs : turnOf f x v .due ≡ PerformsListed
-      → Leaves (f .limit) (bytesOf (asks whole (whole .list) d t m)) t (next x v t (bench f d m))
+      → Leaves (f .limit) (bytesOf (asks whole (whole .list) d t m)) t (next x v t (transferOf f d m))
   listed-runs e =
       let i = listed-limit f v x e in
       rw (due-next PerformsListed e) (rw (i .0) at (performed-leaves whole (whole .list) d t m (rw (i .0) (i .1))))
@@ -96,10 +96,10 @@ module _ (f : TaskFile) (x : Access) (v : ℕ) (d : Drive) (t m : List ℕ) wher
   -- "The runs joined are the answer's bytes, and the last leaves after exactly the quotient of length by run size, rounded up."
   pub packet-runs-joined : countOf f < 65536 → turnOf f x v .due ≡ Performs →
       let b = bytesOf (asks whole [] d t m) in
-      Joined (limitOf (countOf f)) b t (next x v t (bench f d m))
+      Joined (limitOf (countOf f)) b t (next x v t (transferOf f d m))
   packet-runs-joined h e = leaves-whole (packet-runs h e)
 
   pub listed-runs-joined : turnOf f x v .due ≡ PerformsListed →
       let b = bytesOf (asks whole (whole .list) d t m) in
-      Joined (f .limit) b t (next x v t (bench f d m))
+      Joined (f .limit) b t (next x v t (transferOf f d m))
   listed-runs-joined e = leaves-whole (listed-runs e)
