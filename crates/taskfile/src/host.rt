@@ -43,14 +43,14 @@ pub fn access_of(n: u8) -> Access
     ensures { λ r. ⌜ r ≡ accessOf n ⌝ }
 {
     match n {
-        0 => Access::Data,
-        1 => Access::Features,
-        4 => Access::CountLow,
-        5 => Access::CountHigh,
-        6 => Access::Drive,
-        7 => Access::Command,
-        8 => Access::Read,
-        9 => Access::Reset,
+        DATA => Access::Data,
+        FEATURES => Access::Features,
+        COUNT_LOW => Access::CountLow,
+        COUNT_HIGH => Access::CountHigh,
+        DRIVE => Access::Drive,
+        COMMAND => Access::Command,
+        READ => Access::Read,
+        RESET => Access::Reset,
         _ => Access::Nowhere,
     }
 }
