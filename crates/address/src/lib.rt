@@ -1,4 +1,5 @@
 // Block address to M:S:F and back, exact both ways; refusal 8 outside the ranges of rule 6.
+#![tactic(auto)]
 ghost use Rattle.std.specs.Prelude.{◌≡◌};
 ghost use Rattle.address.specs.Address.{to_msf, to_block, is_msf, frames, address_of, shown_address, msf_meaning, block_meaning};
 
@@ -14,14 +15,14 @@ pub const LAST: usize = 449849;
 const LEAD: usize = 150;
 
 // A block's M:S:F, or refusal 8.
-#[derive(Drop)]
+#[derive(Clone, Copy)]
 pub enum Msf {
     At { minute: u8, second: u8, frame: u8 },
     Refused,
 }
 
 // An M:S:F's block, or refusal 8.
-#[derive(Drop)]
+#[derive(Clone, Copy)]
 pub enum Block {
     At(usize),
     Refused,

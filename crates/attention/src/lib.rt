@@ -1,4 +1,5 @@
 // The attention unit: which attentions are pending, and the held sense.
+#![tactic(auto)]
 pub mod sense;
 
 ghost use Rattle.std.specs.Prelude.{◌≡◌};
@@ -8,7 +9,7 @@ use crate::sense::{NO_SENSE, Sense, sense_at};
 
 // What is pending and what is held: this is the same for every device that stands behind the gate.
 #[repr(C)]
-#[derive(Drop)]
+#[derive(Clone, Copy)]
 pub struct Unit {
     pub power: bool,
     pub change: bool,

@@ -3,7 +3,7 @@ ghost use Rattle.std.specs.Prelude.{◌≡◌};
 ghost use Rattle.attention.specs.Sense.{sense_at, same_sense, is_known};
 
 #[repr(C)]
-#[derive(Drop)]
+#[derive(Clone, Copy)]
 pub struct Sense {
     pub key: u8,
     pub asc: u8,

@@ -10,7 +10,7 @@ use table::layout::is_track;
 use tracks::track::Track;
 
 // What the packet asks for.
-#[derive(Drop)]
+#[derive(Clone, Copy)]
 pub struct SubAsk {
     pub msf: bool,
     pub sub_q: bool,

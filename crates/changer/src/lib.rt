@@ -1,5 +1,6 @@
 // The changer: a drive and up to 31 slots, whose records stand beside one another in memory that the caller lends. Only this room holds a
 // reference to them: they are read into a row by value, and what a packet comes to is written in two places.
+#![tactic(auto)]
 mod load;
 mod meet;
 mod slots;
@@ -15,21 +16,21 @@ use drive::state::Drive;
 use ground::number::smaller;
 
 // A slot record: disc present, disc changed.
-#[derive(Drop)]
+#[derive(Clone, Copy)]
 pub struct Slot {
     pub present: bool,
     pub changed: bool,
 }
 
 // The drive's state, and the home slot of the disc in the drive.
-#[derive(Drop)]
+#[derive(Clone, Copy)]
 pub struct Changer {
     pub drive: Drive,
     pub home: u8,
 }
 
 // The outside call's answer: the refusal's number or 0, and the next state.
-#[derive(Drop)]
+#[derive(Clone, Copy)]
 pub struct MovedOn {
     pub number: u8,
     pub state: Changer,
@@ -37,7 +38,7 @@ pub struct MovedOn {
 
 // The refusal's number or 0, beside 4 the table's first broken rule, the status, how many bytes were written, the blocks that a READ
 // names, and the next state.
-#[derive(Drop)]
+#[derive(Clone, Copy)]
 pub struct Outcome {
     pub number: u8,
     pub rule: u8,
@@ -49,14 +50,14 @@ pub struct Outcome {
 }
 
 // The first slots by value, one more than a changer may have.
-#[derive(Drop)]
+#[derive(Clone, Copy)]
 pub struct Row {
     pub slots: [Slot; 32],
     pub len: usize,
 }
 
 // Two places among the slots and what goes there, or nothing.
-#[derive(Drop)]
+#[derive(Clone, Copy)]
 pub struct Moves {
     pub any: bool,
     pub a: usize,
@@ -66,14 +67,14 @@ pub struct Moves {
 }
 
 // What a packet comes to: what is handed back, and what becomes of the slots.
-#[derive(Drop)]
+#[derive(Clone, Copy)]
 pub struct Met {
     pub outcome: Outcome,
     pub moves: Moves,
 }
 
 // What a packet comes to, and an array of slots after it.
-#[derive(Drop)]
+#[derive(Clone, Copy)]
 pub struct Lent {
     pub slots: [Slot; 255],
     pub outcome: Outcome,

@@ -15,7 +15,7 @@ use gate::fault::Fault;
 use ground::number::wide;
 
 // What a packet of the changer's own comes to: what it does to the deck, the home afterwards, and what becomes of the slots.
-#[derive(Drop)]
+#[derive(Clone, Copy)]
 pub struct Act {
     pub done: Done,
     pub home: u8,

@@ -5,7 +5,7 @@ ghost use Rattle.command.specs.Command.{decode, kind_of, starting, needing};
 use crate::class::{class_at, command_of};
 use crate::field::{bit0, bit1};
 
-#[derive(Drop)]
+#[derive(Clone, Copy)]
 pub enum Command {
     TestUnitReady,
     RequestSense,
@@ -34,7 +34,7 @@ pub fn decode(code: u8) -> Command
 }
 
 // How a packet meets a pending attention.
-#[derive(Drop)]
+#[derive(Clone, Copy)]
 pub enum Kind {
     // REQUEST SENSE.
     Asks,

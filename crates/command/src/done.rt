@@ -6,7 +6,7 @@ use deck::Deck;
 use gate::fault::Fault;
 
 // It went well: the next deck, whether that was a loading, how many bytes it wrote, and the blocks that it names.
-#[derive(Drop)]
+#[derive(Clone, Copy)]
 pub struct Went {
     pub next: Deck,
     pub loading: bool,
@@ -15,7 +15,7 @@ pub struct Went {
     pub count: usize,
 }
 
-#[derive(Drop)]
+#[derive(Clone, Copy)]
 pub enum Done {
     Fails(Fault),
     Goes(Went),

@@ -9,7 +9,7 @@ pub const ENTRY: usize = 8;
 pub const START: u8 = 1;
 
 // A track, or under number AAh the lead-out: ADR and control as a table has them, and the address.
-#[derive(Drop)]
+#[derive(Clone, Copy)]
 pub struct Track {
     pub flags: u8,
     pub number: u8,
@@ -19,7 +19,7 @@ pub struct Track {
 }
 
 // An entry: its index, and what begins there.
-#[derive(Drop)]
+#[derive(Clone, Copy)]
 pub struct Entry {
     pub index: u8,
     pub track: Track,

@@ -1,4 +1,5 @@
 // A cue sheet of one session turned into a disc table.
+#![tactic(auto)]
 mod entry;
 mod made;
 mod sheet;

@@ -10,7 +10,7 @@ use ground::number::wide;
 pub const AA: u8 = 0xAA;
 
 // The tracks gone over so far: whether there is one, the first, the last, and whether each number is one more than the one before.
-#[derive(Drop)]
+#[derive(Clone, Copy)]
 pub struct Span {
     pub any: bool,
     pub first: Track,

@@ -23,7 +23,7 @@ pub const NO_TABLE: u8 = 13;
 pub const NO_ROOM: u8 = 14;
 
 // The refusal's number or 0, and how many bytes were written.
-#[derive(Drop)]
+#[derive(Clone, Copy)]
 pub struct Written {
     pub number: u8,
     pub len: usize,

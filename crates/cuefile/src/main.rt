@@ -1,4 +1,5 @@
 // Turns a file that holds a cue sheet into a disc table, on standard output.
+#![tactic(auto)]
 use cue::write::{NO_TABLE, NOT_WHOLE, write_table};
 use input::load;
 use libc::{STDERR_FILENO, STDOUT_FILENO};

@@ -1,4 +1,5 @@
 // The deck: tray, disc, lock, play record, mode page and media event, and what the tray's moving and power-on do to them.
+#![tactic(auto)]
 ghost use Rattle.std.specs.Prelude.{◌≡◌};
 ghost use Rattle.deck.specs.Deck.{is_event, event_moved, opening, closed_play, closing, restarted, with_disc, with_lock, with_play, with_page, with_event, isLoaded};
 
@@ -7,7 +8,7 @@ use play::{Play, no_play};
 
 // Tray open or closed; disc in or not; lock; the play record; the mode page; the media event.
 #[repr(C)]
-#[derive(Drop)]
+#[derive(Clone, Copy)]
 pub struct Deck {
     pub tray_open: bool,
     pub disc_in: bool,
@@ -18,7 +19,7 @@ pub struct Deck {
 }
 
 // The deck after the tray moved, and whether that was a loading.
-#[derive(Drop)]
+#[derive(Clone, Copy)]
 pub struct Shifted {
     pub deck: Deck,
     pub loading: bool,

@@ -15,7 +15,7 @@ use table::row::{frames_of, start_of};
 
 // The first and the last track, S, the last lead-out and its ADR/control, and the last session's first track: number, ADR/control
 // and start.
-#[derive(Drop)]
+#[derive(Clone, Copy)]
 pub struct Disc {
     pub first: u8,
     pub last: u8,
@@ -28,7 +28,7 @@ pub struct Disc {
 }
 
 // A lent table is read: a fit one's disc, or the first broken rule.
-#[derive(Drop)]
+#[derive(Clone, Copy)]
 pub enum Reading {
     Fit(Disc),
     Unfit(u8),

@@ -12,7 +12,7 @@ pub const UNFIT: u8 = 4;
 pub const NO_SESSION: u8 = 10;
 
 // A refusal's number or 0, and the first broken rule: beside 4 one of 1 to 7, else 0.
-#[derive(Drop)]
+#[derive(Clone, Copy)]
 pub struct Refusal {
     pub number: u8,
     pub rule: u8,

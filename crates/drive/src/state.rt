@@ -8,7 +8,7 @@ use deck::{Deck, PRESSED, Shifted, is_event};
 use page::is_setting;
 
 #[repr(C)]
-#[derive(Drop)]
+#[derive(Clone, Copy)]
 pub struct Drive {
     pub unit: Unit,
     pub deck: Deck,
@@ -16,7 +16,7 @@ pub struct Drive {
 
 // A call's answer: the refusal's number or 0, and the next state.
 #[repr(C)]
-#[derive(Drop)]
+#[derive(Clone, Copy)]
 pub struct Moved {
     pub number: u8,
     pub state: Drive,

@@ -7,7 +7,7 @@ use attention::sense::{
     OUT_OF_RANGE, REMOVAL_PREVENTED, Sense, UNKNOWN_CODE, sense_at,
 };
 
-#[derive(Drop)]
+#[derive(Clone, Copy)]
 pub enum Fault {
     NoMediumClosed,
     NoMediumOpen,

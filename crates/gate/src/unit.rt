@@ -7,7 +7,7 @@ use attention::Unit;
 use attention::sense::{CHANGED, NO_SENSE, POWERED, Sense, same, sense_at};
 
 // The attention that is told next: power first.
-#[derive(Drop)]
+#[derive(Clone, Copy)]
 pub enum Pending {
     Power,
     Change,
@@ -15,7 +15,7 @@ pub enum Pending {
 }
 
 // What REQUEST SENSE gives, and the unit then.
-#[derive(Drop)]
+#[derive(Clone, Copy)]
 pub struct Giving {
     pub sense: Sense,
     pub unit: Unit,

@@ -1,9 +1,10 @@
 // A file that an argument names, read into lent memory. What a file holds is the system's to say, so of the bytes nothing is promised,
 // and of the count that it is not past the end.
+#![tactic(auto)]
 ghost use Rattle.std.specs.Prelude.{◌≡◌, ◌≤◌, length};
 
 // How many bytes were read, and whether nothing failed.
-#[derive(Drop)]
+#[derive(Clone, Copy)]
 pub struct Loaded {
     pub count: usize,
     pub whole: bool,

@@ -1,4 +1,5 @@
 // The listing program: meets a file of packets with a file that holds a disc table, and prints a line for each packet.
+#![tactic(auto)]
 mod line;
 
 ghost use Rattle.std.specs.Prelude.{◌≡◌, true, [], ◌*◌, ◌≤◌, length};
@@ -65,7 +66,7 @@ fn met_by(d: Drive, p: &[u8], table: &[u8], mem: &mut [u8]) -> Outcome
 
 // How many packets were met, the state after the last of them, and whether that was the file's last: not so where a line could not be
 // written. It is there for the promise alone.
-#[derive(Drop)]
+#[derive(Clone, Copy)]
 struct Listed {
     met: usize,
     state: Drive,

@@ -7,7 +7,7 @@ use ground::number::wide;
 use page::{Page, defaults};
 
 // What the packet's byte 2 comes to: a fault, or the values that are shown.
-#[derive(Drop)]
+#[derive(Clone, Copy)]
 pub enum Shown {
     Fails(Fault),
     Values(Page),

@@ -1,4 +1,5 @@
 // What a packet hands back: a refusal, CHECK CONDITION or GOOD.
+#![tactic(auto)]
 ghost use Rattle.std.specs.Prelude.{◌≡◌};
 ghost use Rattle.gate.specs.Unit.{attentionSense, told};
 ghost use Rattle.outcome.specs.Outcome.{refused, checked, granted, finished};
@@ -13,7 +14,7 @@ use gate::unit::{Pending, hold, sense_of_pending, told};
 
 // The refusal's number or 0, beside 4 the table's first broken rule, the status, how many bytes were written, the blocks that a READ
 // names, and the next state.
-#[derive(Drop)]
+#[derive(Clone, Copy)]
 pub struct Outcome {
     pub number: u8,
     pub rule: u8,

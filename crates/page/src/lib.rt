@@ -1,9 +1,10 @@
 // Mode page 01h: its recovery byte and retry count.
+#![tactic(auto)]
 ghost use Rattle.std.specs.Prelude.{◌≡◌};
 ghost use Rattle.page.specs.Page.{defaults, among, is_setting};
 
 #[repr(C)]
-#[derive(Drop)]
+#[derive(Clone, Copy)]
 pub struct Page {
     pub recovery: u8,
     pub retry: u8,

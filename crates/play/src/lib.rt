@@ -1,11 +1,12 @@
 // The play record: its status, position and end.
+#![tactic(auto)]
 ghost use Rattle.std.specs.Prelude.{◌≡◌, ◌+◌, ltb};
 ghost use Rattle.play.specs.Play.{no_play, with_status, is_status, is_play, moved_on};
 
 use address::LAST;
 
 #[repr(C)]
-#[derive(Drop)]
+#[derive(Clone, Copy)]
 pub struct Play {
     pub status: u8,
     pub position: usize,

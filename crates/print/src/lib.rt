@@ -1,4 +1,5 @@
 // Text for the programs: hex, decimals and a check sum, laid into lent memory.
+#![tactic(auto)]
 pub mod decimal;
 pub mod front;
 pub mod hex;

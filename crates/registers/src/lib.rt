@@ -1,5 +1,6 @@
 // The registers around the target: each access of the host is met by the task file, and the packet that it completes by the drive. Only the
 // interrupt routine holds a reference to the record; all that it means is the by-value `step`.
+#![tactic(auto)]
 pub mod board;
 
 ghost use Rattle.std.specs.Prelude.{◌≡◌, ◌<◌};
@@ -16,7 +17,7 @@ use taskfile::{Due, TaskFile};
 // What is handed back: the refusal's number or 0, beside 4 the table's first broken rule, the byte read, the blocks that a READ names at
 // the call that completes it, and the next state.
 #[repr(C)]
-#[derive(Drop)]
+#[derive(Clone, Copy)]
 pub struct Answer {
     pub number: u8,
     pub rule: u8,
@@ -28,7 +29,7 @@ pub struct Answer {
 
 // The record after an access, and what is handed back.
 #[repr(C)]
-#[derive(Drop)]
+#[derive(Clone, Copy)]
 pub struct Stepped {
     pub file: TaskFile,
     pub answer: Answer,

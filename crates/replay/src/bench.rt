@@ -25,7 +25,7 @@ use taskfile::{TaskFile, started};
 
 // The drive, the register record before it, the home of the disc in it, how many bytes of the table, of the parameter list and of the response
 // memory are lent, and how many slots.
-#[derive(Drop)]
+#[derive(Clone, Copy)]
 pub struct Bench {
     pub drive: Drive,
     pub file: TaskFile,
@@ -37,7 +37,7 @@ pub struct Bench {
 }
 
 // What a record came to: whether it ends the run, how many bytes the line has, and what is kept.
-#[derive(Drop)]
+#[derive(Clone, Copy)]
 pub struct Turn {
     pub over: bool,
     pub len: usize,

@@ -9,7 +9,7 @@ use ground::number::wide;
 use table::layout::{A0, A1, A2, B0, C0, PMIN, POINT, ROW, byte_at};
 
 // What reading a session finds: its first and last track and how many bytes its descriptors take.
-#[derive(Drop)]
+#[derive(Clone, Copy)]
 pub enum Session {
     Is { first: u8, last: u8, bytes: usize },
     Not,

@@ -19,7 +19,7 @@ use table::row::{row_of, start_of};
 use tracks::track::is_data;
 
 // Tracks passed: the blocks of the runs of data tracks that have ended, and where one began that has not.
-#[derive(Drop)]
+#[derive(Clone, Copy)]
 pub struct Run {
     pub blocks: usize,
     pub running: bool,
@@ -27,7 +27,7 @@ pub struct Run {
 }
 
 // A fit table's blocks of data tracks, and of no track.
-#[derive(Drop)]
+#[derive(Clone, Copy)]
 pub struct Held {
     pub of_data: usize,
     pub of_none: usize,

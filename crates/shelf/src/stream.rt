@@ -10,14 +10,14 @@ use crate::totals::{Counted, Totals, add, count, nothing};
 use ground::number::{smaller, word16};
 
 // The totals with the whole tables counted, and how many bytes those took; or a total is past 64 bits.
-#[derive(Drop)]
+#[derive(Clone, Copy)]
 pub enum Passed {
     On { totals: Totals, used: usize },
     Over,
 }
 
 // The totals so far, and how many bytes of a table that is not whole yet are kept; or a total is past 64 bits.
-#[derive(Drop)]
+#[derive(Clone, Copy)]
 pub enum Taken {
     On { totals: Totals, left: usize },
     Over,

@@ -12,7 +12,7 @@ use disc::disc::{Disc, Reading, read};
 use ground::number::wide;
 
 // The totals, in the order of their lines.
-#[derive(Drop)]
+#[derive(Clone, Copy)]
 pub struct Totals {
     pub tables: u64,
     pub fit: u64,
@@ -30,7 +30,7 @@ pub struct Totals {
 }
 
 // Totals of 64 bits, or one of them is past that.
-#[derive(Drop)]
+#[derive(Clone, Copy)]
 pub enum Counted {
     Is(Totals),
     TooLarge,

@@ -1,4 +1,5 @@
 // Counts the tables that standard input holds, and prints what they come to.
+#![tactic(auto)]
 mod line;
 mod progress;
 
@@ -34,7 +35,7 @@ fn finish(progress: Progress, failed: bool, totals: Totals, left: &[u8]) {
 }
 
 // How many bytes a read gave, and whether it failed.
-#[derive(Drop)]
+#[derive(Clone, Copy)]
 struct Piece {
     count: usize,
     failed: bool,

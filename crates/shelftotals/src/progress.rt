@@ -13,7 +13,7 @@ const STEP: usize = 67108864;
 const HANDED: i32 = 4;
 
 // The terminal, or -1; the bytes read; and how many more until that is shown again.
-#[derive(Drop)]
+#[derive(Clone, Copy)]
 pub struct Progress {
     pub terminal: i32,
     pub read: usize,

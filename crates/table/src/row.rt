@@ -7,7 +7,7 @@ use address::{address_of, is_msf};
 use ground::number::wide;
 
 // A descriptor's eleven bytes by name: ADR and control are one of them.
-#[derive(Drop)]
+#[derive(Clone, Copy)]
 pub struct Row {
     pub session: u8,
     pub flags: u8,

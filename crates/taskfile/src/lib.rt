@@ -1,5 +1,6 @@
 // The task file: the registers of 004 around the target, and what a transfer needs, as one record. Here it is by value: which run it is in,
 // and what becomes of it at each access of the host. What the target has to do with it is the `registers` room's.
+#![tactic(auto)]
 pub mod host;
 pub mod run;
 
@@ -9,7 +10,7 @@ ghost use Rattle.taskfile.specs.TaskFile.{started};
 // The registers in the order of their addresses: features, interrupt reason, byte count low and high, drive, the target's status. Then the
 // packet and the list as far as they came in; the limit of the runs, the bytes of the transfer and how many of them went.
 #[repr(C)]
-#[derive(Drop)]
+#[derive(Clone, Copy)]
 pub struct TaskFile {
     pub features: u8,
     pub reason: u8,
@@ -25,7 +26,7 @@ pub struct TaskFile {
 }
 
 // What a record is in: no run, or one of the packet, of the list, of the answer.
-#[derive(Drop)]
+#[derive(Clone, Copy)]
 pub enum Phase {
     Idle,
     PacketRun,
@@ -34,7 +35,7 @@ pub enum Phase {
 }
 
 // What the host does: it writes a register (one that is not there is nowhere), reads data, or resets.
-#[derive(Drop)]
+#[derive(Clone, Copy)]
 pub enum Access {
     Data,
     Features,
@@ -48,7 +49,7 @@ pub enum Access {
 }
 
 // What is due at an access: a refusal, nothing more, the packet performed with no list or with the list, a byte of the answer, a power-on.
-#[derive(Drop)]
+#[derive(Clone, Copy)]
 pub enum Due {
     Refused,
     Held,
@@ -59,7 +60,7 @@ pub enum Due {
 }
 
 // What is due, and the record after it.
-#[derive(Drop)]
+#[derive(Clone, Copy)]
 pub struct Turn {
     pub due: Due,
     pub file: TaskFile,

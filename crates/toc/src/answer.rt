@@ -16,7 +16,7 @@ use table::layout::ROW;
 pub const AA: u8 = 0xAA;
 
 // What READ TOC's packet asks for.
-#[derive(Drop)]
+#[derive(Clone, Copy)]
 pub struct TocAsk {
     pub format: usize,
     pub msf: bool,

@@ -12,7 +12,7 @@ use ground::number::wide;
 use table::layout::{FLAGS, PFRAME, PMIN, POINT, PSEC, ROW, is_track};
 
 // What is shown of the table's descriptors: eight bytes for each track numbered `from` or more, or each descriptor whole.
-#[derive(Drop)]
+#[derive(Clone, Copy)]
 pub enum Show {
     Tracks { msf: bool, from: u8 },
     Whole,

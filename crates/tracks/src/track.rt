@@ -8,7 +8,7 @@ use ground::number::wide;
 use table::layout::{A2, FLAGS, HEADER, PFRAME, PMIN, POINT, PSEC, ROW, is_track};
 
 // A track: its number, ADR/control, start, and its session's lead-out. Number 0 is no track.
-#[derive(Drop)]
+#[derive(Clone, Copy)]
 pub struct Track {
     pub number: u8,
     pub flags: u8,
@@ -17,14 +17,14 @@ pub struct Track {
 }
 
 // The mode of a track.
-#[derive(Drop)]
+#[derive(Clone, Copy)]
 pub enum Mode {
     Data,
     Audio,
 }
 
 // What a track is asked for by.
-#[derive(Drop)]
+#[derive(Clone, Copy)]
 pub enum Ask {
     Block(usize),
     Number(u8),
