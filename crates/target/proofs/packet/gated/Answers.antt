@@ -1,0 +1,31 @@
+-- `target::packet::gated` meets its contract: a pending attention is told and nothing written; with none the command is settled.
+use mathlib.Core.Path.{_≡_, sym, ap, _∙_}
+use Prim.Native.Nat.{ℕ}
+use native.Mathlib.Omega.{arith}
+use Rattle·attention.specs.declared.Unit.{Unit}
+use Rattle·gate.specs.declared.unit.Pending.{Pending}
+use Rattle·gate.specs.declared.unit.Pending.the-variants.{Power, Change}
+use Rattle·gate.specs.Unit.{attentionSense, told}
+use Rattle·gate.specs.GateLaws.{gate-tells, gate-settles}
+use Rattle·outcome.specs.Outcome.{checked, finished}
+use Rattle·target·specs.PacketLaws.{answered-check, answered-settle}
+use borrow.Author.Needs.{needs}
+use Rattle.target.proofs.packet.gated.Goals as goal
+
+pub returns-in-Power : goal.returns-in-Power
+returns-in-Power c = let x = c .before .before .before .before .before .before .before .before .before .before .args in
+    let e = sym (c .before .before .before .first-pending .ensures) ∙ c .before .enum-told .given .1 in
+    let a = c .tell .ensures ∙ ap (λ (a : Pending). checked (attentionSense a) (told a (x .d .unit)) (x .d .deck)) (c .before .enum-told .given .1) in
+    rw (gate-tells _ _ _ _ e (λ h. let z : _≡_ {A = ℕ} 0 1 = cc in omega arith)) (answered-check _ (told Power (x .d .unit)) _ _ a)
+
+pub returns-in-Change : goal.returns-in-Change
+returns-in-Change c = let x = c .before .before .before .before .before .before .before .before .before .before .args in
+    let e = sym (c .before .before .before .first-pending .ensures) ∙ c .before .enum-told2 .given .1 in
+    let a = c .tell2 .ensures ∙ ap (λ (a : Pending). checked (attentionSense a) (told a (x .d .unit)) (x .d .deck)) (c .before .enum-told2 .given .1) in
+    rw (gate-tells _ _ _ _ e (λ h. let z : _≡_ {A = ℕ} 0 1 = cc in omega arith)) (answered-check _ (told Change (x .d .unit)) _ _ a)
+
+pub returns-in-Nothing : goal.returns-in-Nothing
+returns-in-Nothing c = let x = c .before .before .before .before .before .before .before .before .before .before .before .before .before .before .before .args in
+    let e = sym (c .before .before .before .before .before .before .before .before .first-pending .ensures) ∙ c .before .before .before .before .before .before .enum-told3 .given .1 in
+    let f = c .finish .ensures ∙ ap (λ (v : Unit). finished (x .d .unit) v (x .d .deck) (c .before .before .before .before .perform .result)) (c .before .clear .ensures) in
+    rw (gate-settles _ _ _ e) (answered-settle _ _ _ (c .before .before .before .before .perform .ensures) f)
