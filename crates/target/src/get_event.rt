@@ -13,14 +13,14 @@ ghost use mathlib.Core.Path.{_≡_};
 ghost use Prim.Native.Nat.{_≤_};
 ghost use lib.ListN.{length};
 ghost use Rattle·table.specs.Layout.{bound};
-ghost use Rattle·command.specs.Command.{byte, lengthIn};
-ghost use Rattle·event.specs.EventAnswer.{getEvent};
+ghost use Rattle·command.specs.Command.{byte, length_in};
+ghost use Rattle·event.specs.EventAnswer.{get_event};
 ghost use Rattle·target·specs.Perform.{Performed};
 
 // A packet that does not poll is a bad field; else the class picked is answered, cut to the allocation length.
 pub(crate) fn get_event(p: &[u8], m: Deck, mem: &mut [u8]) -> Done
     requires { ⌜ (length (now p) ≡ 12) × (bound ≤ length (now mem)) ⌝ }
-    ensures { λ r. ⌜ Performed (getEvent (byte (now (p .entry)) 1) (byte (now (p .entry)) 4) (lengthIn (now (p .entry))) m) (now (mem .entry)) r (now (mem .exit)) ⌝ }
+    ensures { λ r. ⌜ Performed (get_event (byte (now (p .entry)) 1) (byte (now (p .entry)) 4) (length_in (now (p .entry))) m) (now (mem .entry)) r (now (mem .exit)) ⌝ }
 {
     let bad = !bit0(p[1]);
     let limit = word16(p[7], p[8]);

@@ -27,9 +27,9 @@ ghost use mathlib.Core.Path.{_≡_};
 ghost use mathlib.Core.Bool.{true};
 ghost use Prim.Native.Nat.{_≤_};
 ghost use lib.ListN.{length};
-ghost use Rattle·drive.specs.State.{isKnownState};
+ghost use Rattle·drive.specs.State.{is_known_state};
 ghost use Rattle·table.specs.Layout.{bound};
-ghost use Rattle·gate.specs.Gate.{requestSense, pass, gate};
+ghost use Rattle·gate.specs.Gate.{request_sense, pass, gate};
 ghost use Rattle·target·specs.Perform.{perform};
 ghost use Rattle·outcome.specs.Outcome.{Answered};
 ghost use Rattle·target·specs.Packet.{answer};
@@ -44,7 +44,7 @@ pub const SHORT_MEMORY: u8 = 3;
 // REQUEST SENSE: the 18 bytes, cut to the length asked for.
 fn ask_sense(d: Drive, limit: usize, mem: &mut [u8]) -> Outcome
     requires { ⌜ bound ≤ length (now mem) ⌝ }
-    ensures { λ r. ⌜ Answered (requestSense limit (d .unit) (d .deck)) (now (mem .entry)) r (now (mem .exit)) ⌝ }
+    ensures { λ r. ⌜ Answered (request_sense limit (d .unit) (d .deck)) (now (mem .entry)) r (now (mem .exit)) ⌝ }
 {
     let deck = d.deck;
     let g = give(d.unit);
@@ -130,7 +130,7 @@ fn unread() -> Disc
 
 // Refusal 4, with the broken rule: a loaded drive's table is read first.
 fn meet(d: Drive, p: &[u8], t: &[u8], list: &[u8], mem: &mut [u8]) -> Outcome
-    requires { ⌜ (length (now p) ≡ 12) × (isKnownState d ≡ true) × (bound ≤ length (now mem)) ⌝ }
+    requires { ⌜ (length (now p) ≡ 12) × (is_known_state d ≡ true) × (bound ≤ length (now mem)) ⌝ }
     ensures { λ r. ⌜ Answered (answer d (now (p .entry)) (now (t .entry)) (now (list .entry)) (length (now (mem .entry)))) (now (mem .entry)) r (now (mem .exit)) ⌝ }
 {
     if d.deck.is_loaded() {

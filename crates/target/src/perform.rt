@@ -34,7 +34,7 @@ ghost use Prim.Native.Nat.{_+_, _≤_};
 ghost use lib.ListN.{length};
 ghost use Rattle·ground.specs.Tests.{_and_};
 ghost use Rattle·table.specs.Layout.{descriptors};
-ghost use Rattle·tracks.specs.Track.{allIn};
+ghost use Rattle·tracks.specs.Track.{all_in};
 ghost use Rattle·blocks.specs.Range.{inRange};
 ghost use Rattle·command.specs.Command.{wordAt};
 ghost use Rattle·command.specs.Done.{answering, doneOf};
@@ -71,7 +71,7 @@ fn word_at(p: &[u8], i: usize) -> usize
 // Every one of the n blocks from a on lies in a track of the mode; a run that is out of range is not looked at.
 fn lies_in(mode: Mode, a: usize, n: usize, t: &[u8], disc: Disc) -> bool
     requires { ⌜ ReadOff (now t) disc ⌝ }
-    ensures { λ r. ⌜ r ≡ inRange a n (L (now (t .entry))) and allIn mode (descriptors (now (t .entry))) a n ⌝ }
+    ensures { λ r. ⌜ r ≡ inRange a n (L (now (t .entry))) and all_in mode (descriptors (now (t .entry))) a n ⌝ }
 {
     if in_range(a, n, disc.lead_out) {
         return run_is(mode, t, a, n);

@@ -13,14 +13,14 @@ ghost use mathlib.Core.Path.{_≡_};
 ghost use Prim.Native.Nat.{_≤_};
 ghost use lib.ListN.{length};
 ghost use Rattle·table.specs.Layout.{bound};
-ghost use Rattle·command.specs.Command.{lengthIn};
-ghost use Rattle·audio.specs.SubChannel.{subAskIn};
+ghost use Rattle·command.specs.Command.{length_in};
+ghost use Rattle·audio.specs.SubChannel.{sub_ask_in};
 ghost use Rattle·target·specs.Perform.{Performed, tells};
 
 // The position's track is that of the table lent now.
 pub(crate) fn read_sub_channel(p: &[u8], m: Deck, t: &[u8], mem: &mut [u8]) -> Done
     requires { ⌜ (length (now p) ≡ 12) × (bound ≤ length (now mem)) ⌝ }
-    ensures { λ r. ⌜ Performed (tells (subAskIn (now (p .entry))) (lengthIn (now (p .entry))) m (now (t .entry))) (now (mem .entry)) r (now (mem .exit)) ⌝ }
+    ensures { λ r. ⌜ Performed (tells (sub_ask_in (now (p .entry))) (length_in (now (p .entry))) m (now (t .entry))) (now (mem .entry)) r (now (mem .exit)) ⌝ }
 {
     let ask = sub_ask(p[1], p[2], p[3]);
     let limit = word16(p[7], p[8]);

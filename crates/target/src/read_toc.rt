@@ -15,14 +15,14 @@ ghost use mathlib.Core.Path.{_≡_};
 ghost use Prim.Native.Nat.{_≤_};
 ghost use lib.ListN.{length};
 ghost use Rattle·table.specs.Layout.{bound};
-ghost use Rattle·target·specs.ReadToc.{askOf, readToc};
+ghost use Rattle·target·specs.ReadToc.{ask_of, read_toc};
 ghost use Rattle·target·specs.FitFacts.{ReadOff};
 ghost use Rattle·target·specs.Perform.{Performed};
 
 // What the packet asks for.
 fn toc_ask(p: &[u8]) -> TocAsk
     requires { ⌜ length (now p) ≡ 12 ⌝ }
-    ensures { λ r. ⌜ r ≡ askOf (now (p .entry)) ⌝ }
+    ensures { λ r. ⌜ r ≡ ask_of (now (p .entry)) ⌝ }
 {
     TocAsk {
         format: wide(p[2]) % 16,
@@ -34,7 +34,7 @@ fn toc_ask(p: &[u8]) -> TocAsk
 // READ TOC, of a fit table.
 pub(crate) fn read_toc(p: &[u8], m: Deck, t: &[u8], disc: Disc, mem: &mut [u8]) -> Done
     requires { ⌜ ReadOff (now t) disc × (length (now p) ≡ 12) × (bound ≤ length (now mem)) ⌝ }
-    ensures { λ r. ⌜ Performed (readToc (now (p .entry)) m (now (t .entry))) (now (mem .entry)) r (now (mem .exit)) ⌝ }
+    ensures { λ r. ⌜ Performed (read_toc (now (p .entry)) m (now (t .entry))) (now (mem .entry)) r (now (mem .exit)) ⌝ }
 {
     let ask = toc_ask(p);
     if toc_bad(disc, ask) {

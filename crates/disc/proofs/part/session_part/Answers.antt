@@ -8,7 +8,7 @@ use Rattle.ground.specs.Memory.{rest_all}
 use Rattle.table.specs.Layout.{descriptors}
 use Rattle.sessions.specs.Session.{size, starts}
 use Rattle.sessions.specs.SessionLaws.{IsSession, size-within}
-use Rattle.disc.specs.RulesLaws.{fit-sized, fit-starts, fit-session}
+use Rattle.disc.specs.RulesLaws.{fit_sized, fit-starts, fit-session}
 use Rattle.disc.specs.Part.{part_refusal}
 use Rattle.disc.specs.PartLaws.{Given, part_refusal-given, part_refused_number, part_start-given, part_size-given, part_start-refused, part_size-refused, rest-rest}
 use borrow.Author.Rules.{rules}
@@ -58,13 +58,13 @@ ends c =
     (drop 4 c.before.before.before.before.before.before.before.before.args.t.now) w (here c.before.before) in
     let b = bytes c in
     let l = length-drop 4 c.before.before.before.before.before.before.before.before.args.t.now in
-    let s = fit-sized (given c.before.before.before.before).fit in omega arith
+    let s = fit_sized (given c.before.before.before.before).fit in omega arith
 
 pub overflow-sub-d : goal.overflow-sub-d
-overflow-sub-d c = (fit-sized (given (goal.at.overflow-sub-d c).Then-session_refusal-eq0).fit).least
+overflow-sub-d c = (fit_sized (given (goal.at.overflow-sub-d c).Then-session_refusal-eq0).fit).least
 
 pub slice_bounds-d-start : goal.slice_bounds-d-start
-slice_bounds-d-start c = let l = fit-sized (given (goal.at.slice_bounds-d-start c).Then-session_refusal-eq0).fit in search rules
+slice_bounds-d-start c = let l = fit_sized (given (goal.at.slice_bounds-d-start c).Then-session_refusal-eq0).fit in search rules
 
 pub overflow-sub-starts-after : goal.overflow-sub-starts-after
 overflow-sub-starts-after c = let g = given (goal.at.overflow-sub-starts-after c).Then-session_refusal-eq0 in search rules

@@ -6,7 +6,7 @@ use native.Mathlib.Omega.{arith}
 use native.Mathlib.Nat.{le_antisymm}
 use borrow.Author.Tests.{lt-ltb, le-ltb}
 use lib.Dec.{ltb}
-use Rattle.ground.specs.Tests.{every, and-on, and-off, every-none, every_more, every-breaks}
+use Rattle.ground.specs.Tests.{every, and_on, and_off, every-none, every_more, every-breaks}
 use Rattle.table.specs.Row.{start_of}
 use Rattle.disc.specs.Rules.{track_start, rises}
 use borrow.Author.Rules.{rules}
@@ -30,14 +30,14 @@ loop-i-preserved c = (
 pub returns-else-start-next : goal.returns-else-start-next
 unfolding rises
 returns-else-start-next c =
-    and-off _ _ (sym (every-breaks _ _ c.loop-i.i c.loop-i-test.true (le-ltb _
+    and_off _ _ (sym (every-breaks _ _ c.loop-i.i c.loop-i-test.true (le-ltb _
     _ (rw (c.loop-i.invariant.1, c.start_of-next.ensures, c.row_at-in-loop-i.ensures) at
     c.if-start-next.false))))
 
 pub returns : goal.returns
 unfolding rises
 returns c =
-    and-on _ _ (rw (le_antisymm c.loop-i.invariant.0 c.loop-i-test.false) at
+    and_on _ _ (rw (le_antisymm c.loop-i.invariant.0 c.loop-i-test.false) at
     c.loop-i.invariant.2) (rw (
       c.loop-i.invariant.1,
       le_antisymm

@@ -6,7 +6,7 @@ use native.Mathlib.Omega.{arith}
 use native.Mathlib.Nat.{le_antisymm}
 use borrow.Author.Tests.{lt-ltb, le-ltb}
 use lib.Dec.{ltb}
-use Rattle.ground.specs.Tests.{every, and-on, and-off, every-none, every_more, every-breaks}
+use Rattle.ground.specs.Tests.{every, and_on, and_off, every-none, every_more, every-breaks}
 use Rattle.table.specs.Row.{start_of}
 use Rattle.disc.specs.Rules.{track_start, rises}
 use Rattle.disc.proofs.rules.rises.Given as goal

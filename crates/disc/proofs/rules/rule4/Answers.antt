@@ -4,7 +4,7 @@ use Prim.Native.Nat.{◌+◌, ◌-◌}
 use native.Mathlib.Omega.{arith}
 use lib.ListN.{drop}
 use Rattle.ground.specs.Memory.{rest_all}
-use Rattle.sessions.specs.SessionLaws.{is_session_parts, size-within, Told, read_session-told, read_session-told_not}
+use Rattle.sessions.specs.SessionLaws.{is_session_parts, size-within, Told, read_session-told, read_session_told_not}
 use Rattle.disc.specs.WalkSteps.{Reached, reached-next, reached-not, reached-off, reached_end}
 use borrow.Author.Rules.{rules}
 use Rattle.disc.proofs.rules.rule4.Goals as goal
@@ -44,7 +44,7 @@ returns-else-wide-next c =
 pub returns-in-Not : goal.returns-in-Not
 returns-in-Not c =
     reached-not c.loop-k.invariant c.loop-k-test.true
-    (read_session-told_not _ _ (sym c.in-Not.is ∙ rw (rest_all, c.wide.ensures.same) at
+    (read_session_told_not _ _ (sym c.in-Not.is ∙ rw (rest_all, c.wide.ensures.same) at
     c.read_session.ensures))
 
 pub returns : goal.returns

@@ -4,7 +4,7 @@ use Prim.Native.Nat.{◌+◌, ◌-◌}
 use native.Mathlib.Omega.{arith}
 use lib.ListN.{drop}
 use Rattle.ground.specs.Memory.{rest_all}
-use Rattle.sessions.specs.SessionLaws.{is_session_parts, size-within, Told, read_session-told, read_session-told_not}
+use Rattle.sessions.specs.SessionLaws.{is_session_parts, size-within, Told, read_session-told, read_session_told_not}
 use Rattle.disc.specs.WalkSteps.{Reached, reached-next, reached-not, reached-off, reached_end}
 use Rattle.disc.proofs.rules.rule4.Given as goal
 

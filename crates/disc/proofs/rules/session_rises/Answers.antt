@@ -1,12 +1,12 @@
 -- `disc::rules::session_rises` meets its contract: the two tests are the definition's, in its order.
 use mathlib.Core.Path.{sym, ◌∙◌}
-use Rattle.ground.specs.Tests.{and-on, and-off}
+use Rattle.ground.specs.Tests.{and_on, and_off}
 use borrow.Author.Rules.{rules}
 use Rattle.disc.proofs.rules.session_rises.Goals as goal
 
 pub returns-then-rises : goal.returns-then-rises
 returns-then-rises c =
-    and-on _ _
+    and_on _ _
     (rw (
       c.wide.ensures.same,
       c.wide-2.ensures.same,
@@ -16,6 +16,6 @@ returns-then-rises c =
 
 pub returns : goal.returns
 returns c =
-    and-off _ _
+    and_off _ _
     (rw (c.wide.ensures.same, c.wide-2.ensures.same) at
     (sym c.rises.ensures ∙ c.if-rises.false))

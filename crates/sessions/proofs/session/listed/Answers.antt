@@ -3,7 +3,7 @@ use mathlib.Core.Path.{◌≡◌, sym, ap, ◌∙◌}
 use mathlib.Core.Bool.{Bool}
 use Prim.Native.Nat.{ℕ}
 use Rattle.ground.specs.Number.{Byte}
-use Rattle.ground.specs.Tests.{and-on, and-off, and-late}
+use Rattle.ground.specs.Tests.{and_on, and_off, and_late}
 use Rattle.table.specs.declared.row.Row.{Row}
 use Rattle.table.specs.Row.{names}
 use Rattle.sessions.specs.Session.{listed}
@@ -17,22 +17,22 @@ told s k w e h = ap (names s k) (sym w.same) ∙ sym e ∙ h
 pub returns-then-named-3 : goal.returns-then-named-3
 unfolding listed
 returns-then-named-3 c =
-    and-on _ _ (told _ _ c.wide.ensures
+    and_on _ _ (told _ _ c.wide.ensures
     c.named.ensures
-    c.if-named.true) (and-on _ _ (told _ _
+    c.if-named.true) (and_on _ _ (told _ _
     c.wide-then-named.ensures c.named-then-named.ensures
-    c.if-named-2.true) (and-on _ _ (told _ _ c.wide-then-named-2.ensures
+    c.if-named-2.true) (and_on _ _ (told _ _ c.wide-then-named-2.ensures
     c.named-then-named-2.ensures c.if-named-3.true) c.lists_tracks.ensures))
 
 pub returns-then-named-2 : goal.returns-then-named-2
 unfolding listed
 returns-then-named-2 c =
-    and-late _ _ (and-late _ _ (and-off _ _ (told _ _ c.wide-then-named-2.ensures c.named-then-named-2.ensures c.if-named-3.false)))
+    and_late _ _ (and_late _ _ (and_off _ _ (told _ _ c.wide-then-named-2.ensures c.named-then-named-2.ensures c.if-named-3.false)))
 
 pub returns-then-named : goal.returns-then-named
 unfolding listed
-returns-then-named c = and-late _ _ (and-off _ _ (told _ _ c.wide-then-named.ensures c.named-then-named.ensures c.if-named-2.false))
+returns-then-named c = and_late _ _ (and_off _ _ (told _ _ c.wide-then-named.ensures c.named-then-named.ensures c.if-named-2.false))
 
 pub returns : goal.returns
 unfolding listed
-returns c = and-off _ _ (told _ _ c.wide.ensures c.named.ensures c.if-named.false)
+returns c = and_off _ _ (told _ _ c.wide.ensures c.named.ensures c.if-named.false)

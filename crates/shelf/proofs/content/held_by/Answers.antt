@@ -9,7 +9,7 @@ use Rattle.ground.specs.Memory.{rest_all}
 use Rattle.table.specs.Layout.{descriptors}
 use Rattle.sessions.specs.Session.{size}
 use Rattle.sessions.specs.SessionLaws.{IsSession, size_least}
-use Rattle.disc.specs.RulesLaws.{fit-sized, fit-numbered}
+use Rattle.disc.specs.RulesLaws.{fit_sized, fit-numbered}
 use Rattle.shelf.specs.ContentLaws.{Summed, summed-none, summed-most, summed-here, summed-rises, summed-begins, summed-next, summed-all}
 use borrow.Author.Rules.{rules}
 use Rattle.shelf.proofs.content.held_by.Goals as goal
@@ -97,7 +97,7 @@ pub overflow_add-at : goal.overflow_add-at
 overflow_add-at c =
     let w = (loop-again c).walked.within in
     let d = length-drop 4 c.args.t.now in
-    let m = (fit-sized c.requires).most in
+    let m = (fit_sized c.requires).most in
     omega arith
 
 pub overflow_add-k : goal.overflow_add-k

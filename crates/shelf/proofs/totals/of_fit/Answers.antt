@@ -1,6 +1,6 @@
 -- `shelf::totals::of_fit` meets its contract: what the disc tells and what is held are what a fit table adds (`fit_adds`).
 use native.Mathlib.Omega.{arith}
-use Rattle.disc.specs.RulesLaws.{isFit-true}
+use Rattle.disc.specs.RulesLaws.{is_fit_true}
 use Rattle.shelf.specs.TotalsLaws.{FitAdds, fit_adds}
 use borrow.Author.Rules.{rules}
 use Rattle.shelf.proofs.totals.of_fit.Goals as goal

@@ -4,7 +4,7 @@ use mathlib.Core.Path.{sym, ap, _∙_}
 use mathlib.Core.Bool.{true≢false}
 use denote.Ref.{now}
 use Rattle·disc.specs.Part.{unfit}
-use Rattle·disc.specs.DiscLaws.{reading-fit, reading-unfit}
+use Rattle·disc.specs.DiscLaws.{reading_fit, reading-unfit}
 use Rattle·outcome.specs.Outcome.{refused}
 use Rattle·target·specs.FitFacts.{read-off}
 use Rattle·target·specs.PacketLaws.{answer-4, answer-steps, answered-refused}
@@ -20,7 +20,7 @@ pub returns-in-Fit : goal.returns-in-Fit
 returns-in-Fit c = let x = c .before .before .before .before .before .before .before .before .before .before .before .before .before .before .args in
     let q = c .before .before .before .before .before .before .before .before .before .before .before .before .before .before .pre in
     let r = sym (c .before .before .before .before .before .before .before .read .ensures) ∙ c .before .before .before .before .before .disc .given .1 in
-    rw (answer-steps (x .d) (now (x .p)) (now (x .t)) (now (x .list)) _ (q .0) (q .1) (q .2) (λ h. reading-fit _ _ r .0)) (c .before .before .steps .ensures)
+    rw (answer-steps (x .d) (now (x .p)) (now (x .t)) (now (x .list)) _ (q .0) (q .1) (q .2) (λ h. reading_fit _ _ r .0)) (c .before .before .steps .ensures)
 
 pub returns-in-Unfit : goal.returns-in-Unfit
 returns-in-Unfit c = let x = c .before .before .before .before .before .before .before .before .before .before .before .args in

@@ -2,7 +2,7 @@
 use mathlib.Core.Path.{sym, _∙_}
 use denote.Ref.{now}
 use mathlib.Core.Bool.{true≢false}
-use Rattle·target·specs.PerformLaws.{performed-fails, perform-empty, perform-loaded, perform-free}
+use Rattle·target·specs.PerformLaws.{performed-fails, perform_empty, perform-loaded, perform-free}
 use borrow.Author.Needs.{needs}
 use Rattle.target.proofs.perform.perform.Goals as goal
 
@@ -14,7 +14,7 @@ returns-then-is_loaded c = let x = c .before .before .before .before .before .be
     rw (perform-loaded (x .c) (now (x .p)) (x .m) (now (x .t)) (now (x .list)) (sym (c .before .before .before .before .before .is-loaded .ensures) ∙ c .before .before .before .before .if2 .taken)) (c .before .before .work .ensures)
 
 pub returns-then-needs_disc : goal.returns-then-needs_disc
-returns-then-needs_disc c = rw (c .no-medium .ensures) (performed-fails _ (perform-empty _ _ _ _ _ (sym (c .before .before .before .before .needs-disc .ensures) ∙ c .before .before .before .if1 .taken) (sym (c .before .before .is-loaded .ensures) ∙ c .before .if2 .left)))
+returns-then-needs_disc c = rw (c .no-medium .ensures) (performed-fails _ (perform_empty _ _ _ _ _ (sym (c .before .before .before .before .needs-disc .ensures) ∙ c .before .before .before .if1 .taken) (sym (c .before .before .is-loaded .ensures) ∙ c .before .if2 .left)))
 
 pub work-requires-2 : goal.work-requires-2
 work-requires-2 c = let q = c .before .before .before .before .before .before .before .before .pre in

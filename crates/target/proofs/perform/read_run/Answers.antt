@@ -2,10 +2,10 @@
 use mathlib.Core.Path.{ap, _∙_}
 use Rattle·command.specs.Done.{doneOf}
 use Rattle·blocks.specs.RangeLaws.{ranged-looked}
-use Rattle·target·specs.PerformLaws.{readOff-leads}
+use Rattle·target·specs.PerformLaws.{read_off_leads}
 use borrow.Author.Needs.{needs}
 use Rattle.target.proofs.perform.read_run.Goals as goal
 
 pub returns : goal.returns
 returns c = let q = c .before .before .before .pre in
-    rw (c .before .lies-in .ensures, readOff-leads q) at (c .read-blocks .ensures) ∙ ap doneOf (ranged-looked _ _ _ _ _)
+    rw (c .before .lies-in .ensures, read_off_leads q) at (c .read-blocks .ensures) ∙ ap doneOf (ranged-looked _ _ _ _ _)

@@ -4,9 +4,9 @@ use native.Mathlib.Omega.{arith}
 use lib.ListN.{length}
 use denote.Ref.{now}
 use Rattle·table.specs.Layout.{descriptors}
-use Rattle·tracks.specs.Track.{trackOf}
-use Rattle·audio.specs.SubChannel.{subAskIn}
-use Rattle·audio.specs.SubChannelLaws.{positionBytes-length, subBytes-on, subBytes-off}
+use Rattle·tracks.specs.Track.{track_of}
+use Rattle·audio.specs.SubChannel.{sub_ask_in}
+use Rattle·audio.specs.SubChannelLaws.{position_bytes-length, sub_bytes-on, sub_bytes-off}
 use borrow.Author.Needs.{needs}
 use Rattle.target.proofs.read_sub_channel.read_sub_channel.Goals as goal
 
@@ -14,7 +14,7 @@ pub answer-requires : goal.answer-requires
 answer-requires c =
     let x = c .before .before .before .before .before .before .before .before .before .before .before .before .before .before .before .before .before .before .before .args in
     let k = c .before .before .before .before .track-of .result in
-    let l = ap length (c .before .before .before .position-bytes .ensures) ∙ positionBytes-length (c .before .before .before .before .before .before .before .before .before .before .before .before .sub-ask .result .msf) k (x .m .play) in
+    let l = ap length (c .before .before .before .position-bytes .ensures) ∙ position_bytes-length (c .before .before .before .before .before .before .before .before .before .before .before .before .sub-ask .result .msf) k (x .m .play) in
     let r = c .before .before .before .before .before .before .before .before .before .before .before .before .before .before .before .before .before .before .before .pre .1 in
     omega arith
 
@@ -22,12 +22,12 @@ pub returns-then-ask : goal.returns-then-ask
 returns-then-ask c = let x = c .before .before .before .before .before .before .before .before .before .before .before .before .before .before .before .before .before .before .before .before .before .before .args in
     let a = c .before .before .before .before .before .before .before .before .before .before .before .before .before .before .before .sub-ask .ensures in
     let h = rw a at (c .before .before .before .before .before .before .before .before .if1 .taken) in
-    rw (subBytes-on (subAskIn (now (x .p))) (trackOf (descriptors (now (x .t))) (x .m .play .position)) (x .m .play) h)
+    rw (sub_bytes-on (sub_ask_in (now (x .p))) (track_of (descriptors (now (x .t))) (x .m .play .position)) (x .m .play) h)
     (rw (c .before .before .before .before .before .sub-bad .ensures, c .before .before .before .before .before .before .before .before .before .with-play .ensures, c .before .before .before .before .before .before .before .before .before .before .reported .ensures, c .before .before .before .before .before .before .position-bytes .ensures, c .before .before .before .before .before .before .before .track-of .ensures, a, c .before .before .before .before .before .before .before .before .before .before .before .before .word16 .ensures) at (c .before .before .answer .ensures))
 
 pub returns : goal.returns
 returns c = let x = c .before .before .before .before .before .before .before .before .before .before .before .before .before .before .before .before .before .before .before .before .before .args in
     let a = c .before .before .before .before .before .before .before .before .before .before .before .before .before .before .sub-ask .ensures in
     let h = rw a at (c .before .before .before .before .before .before .before .if1 .left) in
-    rw (subBytes-off (subAskIn (now (x .p))) (trackOf (descriptors (now (x .t))) (x .m .play .position)) (x .m .play) h)
+    rw (sub_bytes-off (sub_ask_in (now (x .p))) (track_of (descriptors (now (x .t))) (x .m .play .position)) (x .m .play) h)
     (rw (c .before .before .before .before .before .before .sub-bad2 .ensures, c .before .before .before .before .before .before .before .before .with-play .ensures, c .before .before .before .before .before .before .before .before .before .reported .ensures, c .before .before .before .before .before .status-bytes .ensures, a, c .before .before .before .before .before .before .before .before .before .before .before .word16 .ensures) at (c .before .before .answer2 .ensures))

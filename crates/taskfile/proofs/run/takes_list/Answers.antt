@@ -2,15 +2,15 @@
 use mathlib.Core.Path.{ap}
 use lib.Dec.{eqb}
 use borrow.Author.Tests.{eq-eqb, ne_eqb}
-use Rattle.ground.specs.Tests.{and-on, and-off}
+use Rattle.ground.specs.Tests.{and_on, and_off}
 use Rattle.taskfile.specs.Run.{takes_list}
 use borrow.Author.Rules.{rules}
 use Rattle.taskfile.proofs.run.takes_list.Goals as goal
 
 pub returns-then-p-eq-SELECT : goal.returns-then-p-eq-SELECT
 unfolding takes_list
-returns-then-p-eq-SELECT c = and-on _ _ (eq-eqb _ _ c.if-p-eq-SELECT.true) (ap (λ n. eqb n 16) c.word16.ensures)
+returns-then-p-eq-SELECT c = and_on _ _ (eq-eqb _ _ c.if-p-eq-SELECT.true) (ap (λ n. eqb n 16) c.word16.ensures)
 
 pub returns : goal.returns
 unfolding takes_list
-returns c = and-off _ _ (ne_eqb _ _ c.if-p-eq-SELECT.false)
+returns c = and_off _ _ (ne_eqb _ _ c.if-p-eq-SELECT.false)
