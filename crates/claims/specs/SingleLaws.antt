@@ -8,9 +8,9 @@ use Rattle.table.specs.Layout.{last_session, descriptors, rows, point_at, A0, A1
 use Rattle.table.specs.RowLaws.{is_track_true, is_track-over}
 use Rattle.sessions.specs.Session.{first, session}
 use Rattle.disc.specs.Rules.{leadOut}
-use Rattle.disc.specs.RulesLaws.{Fit, isFit-true, fit-numbered, fit-session}
+use Rattle.disc.specs.RulesLaws.{Fit, is_fit_true, fit-numbered, fit-session}
 use Rattle.disc.specs.FitLaws.{point_at-session, session-none, fit-listed, fit_row, fit-address, fit-tracks-rise, fit-lead-out}
-use Rattle.disc.specs.Disc.{discOf}
+use Rattle.disc.specs.Disc.{disc_of}
 use Rattle.disc.specs.declared.disc.Disc.{Disc}
 use Rattle.tracks.specs.declared.track.Track.{Track}
 use Rattle.tracks.specs.declared.track.Ask.{Ask}
@@ -63,7 +63,7 @@ module _ {t : List ℕ} (f : Fit t) where
       ]
 
   -- so every track is numbered from the disc's first on
-  pub fit-numbers : (n : ℕ) → n ≤ (discOf t).first → Each (λ (e : Entry). n ≤ e.number) (contents_of t).tracks
+  pub fit-numbers : (n : ℕ) → n ≤ (disc_of t).first → Each (λ (e : Entry). n ≤ e.number) (contents_of t).tracks
   fit-numbers n l = entries_each (λ (e : Entry). n ≤ e.number) (descriptors t) (rows (descriptors t)) (λ j h e.
       let r = fit-track-row f j h e in
       let p : point_at (descriptors t) j ≡ first (session (descriptors t) r.k) + r.m =
@@ -132,7 +132,7 @@ first_entry d n a b c e l =
 
 module _ {t : List ℕ} (s : Single t) where
   is-fit : Fit t
-  is-fit = isFit-true s.fit
+  is-fit = is_fit_true s.fit
 
   -- every track ends at the lead-out, L
   single-out : (j : ℕ) → j < rows (descriptors t) → is_track (point_at (descriptors t) j) ≡ true → out_at (descriptors t) j ≡ (contents_of t).leadOut
@@ -164,7 +164,7 @@ module _ {t : List ℕ} (s : Single t) where
       ∙ ap (λ (x : List ℕ). entry_at x 3) (sym (session-none d))
       ∙ ap (λ (k : ℕ). entry_at (session d k) 3) (let o = s.one in omega arith)
 
-  pub single-disc : discOf t ≡ disc_in (contents_of t)
+  pub single-disc : disc_of t ≡ disc_in (contents_of t)
   single-disc = λ i. record {
     first = (contents_of t).first;
     last = (contents_of t).last;

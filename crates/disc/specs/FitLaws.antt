@@ -14,7 +14,7 @@ use Rattle.sessions.specs.Session.{first, last, tracks, count, starts, session, 
 use Rattle.sessions.specs.SessionLaws.{extras-most, extras_each, starts_none, Listed, listed_parts, in_place-follows, before-next, rows_before, rows_before-next, starts-rows}
 use Rattle.disc.specs.Rules.{each_row, leadOut, track_start, rises, out_before, begins_after, rising, rule7}
 use Rattle.disc.specs.RulesLaws.{Fit, out_before-next, fit-numbered, fit-places, fit-end-rows, fit-session, fit-last}
-use Rattle.disc.specs.Disc.{lastPart}
+use Rattle.disc.specs.Disc.{last_part}
 
 -- ---- where the descriptors of a session stand among all
 
@@ -128,8 +128,8 @@ session-none d = refl
 -- the first and the last track of the disc
 pub record Span (t : List ℕ) : Type 0 where
   pub low : 1 ≤ first (descriptors t)
-  pub order : first (descriptors t) ≤ last (lastPart t)
-  pub high : last (lastPart t) ≤ 99
+  pub order : first (descriptors t) ≤ last (last_part t)
+  pub high : last (last_part t) ≤ 99
 
 -- ---- a fit table's descriptors
 
@@ -181,7 +181,7 @@ module _ {t : List ℕ} (f : Fit t) where
       record {
         low = omega arith;
         order = elim (ℕ_discrete (last_session t - 1) 0) [
-          | yes q ↦ (let z : last (lastPart t) ≡ last (session (descriptors t) 0) = ap (λ (x : ℕ). last (session (descriptors t) x)) q in omega arith)
+          | yes q ↦ (let z : last (last_part t) ≡ last (session (descriptors t) 0) = ap (λ (x : ℕ). last (session (descriptors t) x)) q in omega arith)
           | no q ↦ (let r = fit-tracks-rise 0 (last_session t - 1) (omega arith) (omega arith) in omega arith)
         ];
         high = b.high;
@@ -214,8 +214,8 @@ module _ {t : List ℕ} (f : Fit t) where
       (omega arith, omega arith)
 
   pub fit_count :
-      (3 * last_session t + (last (lastPart t) + 1) ≤ rows (descriptors t) + first (descriptors t))
-      × (rows (descriptors t) + first (descriptors t) ≤ 5 * last_session t + (last (lastPart t) + 1))
+      (3 * last_session t + (last (last_part t) + 1) ≤ rows (descriptors t) + first (descriptors t))
+      × (rows (descriptors t) + first (descriptors t) ≤ 5 * last_session t + (last (last_part t) + 1))
   fit_count =
       let n = fit-numbered f in
       let e : last_session t - 1 + 1 ≡ last_session t = omega arith in
@@ -291,7 +291,7 @@ module _ {t : List ℕ} (f : Fit t) where
           ]
 
   -- the last lead-out, L, is 1 to 449,849: a track starts before it
-  pub fit-lead-out : (1 ≤ leadOut (lastPart t)) × (leadOut (lastPart t) ≤ 449849)
+  pub fit-lead-out : (1 ≤ leadOut (last_part t)) × (leadOut (last_part t) ≤ 449849)
   fit-lead-out =
       let n = fit-numbered f in
       let h : last_session t - 1 < last_session t = omega arith in

@@ -64,5 +64,5 @@ row_rules s d = each_row 3 d ∷ in_order s d ∷ late_rules s d
 unfoldable pub fault : List ℕ → ℕ
 fault t = first_broken 1 (rule1 t ∷ rule2 t ∷ row_rules (last_session t) (descriptors t))
 
-unfoldable pub isFit : List ℕ → Bool
-isFit t = eqb (fault t) 0
+unfoldable pub is_fit : List ℕ → Bool
+is_fit t = eqb (fault t) 0

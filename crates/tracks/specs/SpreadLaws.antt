@@ -10,7 +10,7 @@ use Rattle.sessions.specs.SessionLaws.{rows_before}
 use Rattle.disc.specs.Rules.{leadOut, track_start}
 use Rattle.disc.specs.RulesLaws.{Fit, fit-session}
 use Rattle.disc.specs.FitLaws.{point_at-session, address_at-session, Place, Kind, is_a0, is_a1, is_a2, is_track_after, is_b0, is_c0, fit-locate, fit-listed, fit-kind, fit-rises, fit_apart}
-use Rattle.tracks.specs.Track.{out_at, allIn, runIs}
+use Rattle.tracks.specs.Track.{out_at, all_in, run_is}
 use Rattle.tracks.specs.declared.track.Mode.{Mode}
 use Rattle.tracks.specs.TrackLaws.{next_out-here, next_out_on, out_at-next}
 use Rattle.tracks.specs.RunLaws.{Spread, run_agrees}
@@ -166,5 +166,5 @@ module _ {t : List ℕ} (f : Fit t) where
   }
 
   -- of a fit table the run test is that every one of the n blocks from a on lies in a track of the mode
-  pub fit-run-agrees : (mode : Mode) (a n : ℕ) → runIs mode (descriptors t) a n ≡ allIn mode (descriptors t) a n
+  pub fit-run-agrees : (mode : Mode) (a n : ℕ) → run_is mode (descriptors t) a n ≡ all_in mode (descriptors t) a n
   fit-run-agrees mode = run_agrees mode (descriptors t) fit-spread

@@ -3,7 +3,7 @@ use Prim.Native.Nat.{ℕ}
 use mathlib.Core.Path.{sym, ap, ◌∙◌}
 use mathlib.Core.Bool.{true≢false}
 use Rattle.disc.specs.Part.{unfit}
-use Rattle.disc.specs.DiscLaws.{reading-fit, reading-unfit}
+use Rattle.disc.specs.DiscLaws.{reading_fit, reading-unfit}
 use Rattle.outcome.specs.Outcome.{refused}
 use Rattle.target.specs.FitFacts.{read_off}
 use Rattle.target.specs.PacketLaws.{answer-4, answer-steps, answered-refused}
@@ -20,7 +20,7 @@ returns : tie.Need-returns
 returns c = let x = c.before.before.before.before.before.before.before.before.before.before.before.before.before.before.args in
     let q = c.before.before.before.before.before.before.before.before.before.before.before.before.before.before.requires in
     let r = sym c.before.before.before.before.before.before.before.read.ensures ∙ c.before.before.before.before.before.disc.given.1 in
-    rw (answer-steps x.d x.p.now x.t.now x.list.now _ q.0 q.1 q.2 (λ h. (reading-fit _ _ r).0)) c.before.before.steps.ensures
+    rw (answer-steps x.d x.p.now x.t.now x.list.now _ q.0 q.1 q.2 (λ h. (reading_fit _ _ r).0)) c.before.before.steps.ensures
 
 returns-2 : tie.Need-returns-2
 returns-2 c = let x = c.before.before.before.before.before.before.before.before.before.before.before.args in

@@ -1,7 +1,7 @@
 -- `target::perform::perform` meets its contract: the disc that is needed is asked for before the work.
 use mathlib.Core.Path.{sym, ◌∙◌}
 use mathlib.Core.Bool.{true≢false}
-use Rattle.target.specs.PerformLaws.{performed-fails, perform-empty, perform-loaded, perform-free}
+use Rattle.target.specs.PerformLaws.{performed-fails, perform_empty, perform-loaded, perform-free}
 use borrow.Author.Rules.{rules}
 use Rattle.target.proofs.perform.perform.Statement.{statement}
 use Rattle.target.proofs.perform.perform.Tie as tie
@@ -14,7 +14,7 @@ returns c = let x = c.before.before.before.before.before.before.before.before.be
     rw (perform-loaded x.c x.p.now x.m x.t.now x.list.now (sym c.before.before.before.before.before.is-loaded.ensures ∙ c.before.before.before.before.if2.true)) c.before.before.work.ensures
 
 returns-2 : tie.Need-returns-2
-returns-2 c = rw c.no-medium.ensures (performed-fails _ (perform-empty _ _ _ _ _ (sym c.before.before.before.before.needs-disc.ensures ∙ c.before.before.before.if1.true) (sym c.before.before.is-loaded.ensures ∙ c.before.if2.false)))
+returns-2 c = rw c.no-medium.ensures (performed-fails _ (perform_empty _ _ _ _ _ (sym c.before.before.before.before.needs-disc.ensures ∙ c.before.before.before.if1.true) (sym c.before.before.is-loaded.ensures ∙ c.before.if2.false)))
 
 work-requires-2 : tie.Need-work-requires-2
 work-requires-2 c κs = let q = c.before.before.before.before.before.before.before.before.requires in
