@@ -1,35 +1,31 @@
 -- Steps 3 to 5: what a packet comes to that is performed. (INQUIRY and 4Ah also with an attention pending, any other once none is.)
-use Prim.Native.Nat.{ℕ}
-use mathlib.Core.Path.{_≡_}
-use mathlib.Core.Bool.{not}
-use mathlib.Core.List.{List, []}
-use lib.ListN.{take}
-use Rattle·ground.specs.Tests.{_and_, if_then_else_}
-use Rattle·ground.specs.Memory.{fill}
-use Rattle·deck.specs.declared.Deck.{Deck}
-use Rattle·deck.specs.Deck.{is_loaded}
-use Rattle·table.specs.Layout.{descriptors}
-use Rattle·disc.specs.Rules.{leadOut}
-use Rattle·tracks.specs.declared.track.Mode.the-variants.{Data, Audio}
-use Rattle·tracks.specs.Track.{track_of, all_in}
-use Rattle·disc.specs.Disc.{last_part}
-use Rattle·gate.specs.declared.fault.Fault.the-variants.{UnknownCode}
-use Rattle·gate.specs.Gate.{Result, fails, goes}
-use Rattle·command.specs.declared.decode.Command.{Command}
-use Rattle·command.specs.declared.decode.Command.the-variants.{TestUnitReady, RequestSense, Inquiry, StartStop, Prevent, ReadCapacity, Read10, Seek, ReadToc, Read12, PlayAudio, PauseResume, ReadSubChannel, ModeSense, ModeSelect, GetEvent, Unknown}
-use Rattle·command.specs.declared.done.Done.{Done}
-use Rattle·command.specs.Command.{byte, bit0, needs_disc, address_in, count10, count12, length_in}
-use Rattle·command.specs.Tray.{start_stop, prevent, no_medium}
-use Rattle·command.specs.Inquiry.{inquiry}
-use Rattle·command.specs.Done.{done, doneOf}
-use Rattle·blocks.specs.Blocks.{read_capacity, seek, read}
-use Rattle·audio.specs.declared.sub_channel.SubAsk.{SubAsk}
-use Rattle·audio.specs.Audio.{play, pause_resume}
-use Rattle·audio.specs.SubChannel.{sub_ask_in, read_sub_channel}
-use Rattle·mode.specs.ModeSense.{mode_sense}
-use Rattle·mode.specs.ModeSelect.{mode_select}
-use Rattle·event.specs.EventAnswer.{get_event}
-use Rattle·target·specs.ReadToc.{read_toc}
+use Rattle.std.specs.Prelude.{ℕ, ◌≡◌, not, List, [], take}
+use Rattle.ground.specs.Tests.{◌and◌, if◌then◌else◌}
+use Rattle.ground.specs.Memory.{fill}
+use Rattle.deck.specs.declared.Deck.{Deck}
+use Rattle.deck.specs.Deck.{is_loaded}
+use Rattle.table.specs.Layout.{descriptors}
+use Rattle.disc.specs.Rules.{leadOut}
+use Rattle.tracks.specs.declared.track.Mode.TheVariants.{Data, Audio}
+use Rattle.tracks.specs.Track.{track_of, all_in}
+use Rattle.disc.specs.Disc.{last_part}
+use Rattle.gate.specs.declared.fault.Fault.TheVariants.{UnknownCode}
+use Rattle.gate.specs.Gate.{Result, fails, goes}
+use Rattle.command.specs.declared.decode.Command.{Command}
+use Rattle.command.specs.declared.decode.Command.TheVariants.{TestUnitReady, RequestSense, Inquiry, StartStop, Prevent, ReadCapacity, Read10, Seek, ReadToc, Read12, PlayAudio, PauseResume, ReadSubChannel, ModeSense, ModeSelect, GetEvent, Unknown}
+use Rattle.command.specs.declared.done.Done.{Done}
+use Rattle.command.specs.Command.{byte, bit0, needs_disc, address_in, count10, count12, length_in}
+use Rattle.command.specs.Tray.{start_stop, prevent, no_medium}
+use Rattle.command.specs.Inquiry.{inquiry}
+use Rattle.command.specs.Done.{done, done_of}
+use Rattle.blocks.specs.Blocks.{read_capacity, seek, read}
+use Rattle.audio.specs.declared.sub_channel.SubAsk.{SubAsk}
+use Rattle.audio.specs.Audio.{play, pause_resume}
+use Rattle.audio.specs.SubChannel.{sub_ask_in, read_sub_channel}
+use Rattle.mode.specs.ModeSense.{mode_sense}
+use Rattle.mode.specs.ModeSelect.{mode_select}
+use Rattle.event.specs.EventAnswer.{get_event}
+use Rattle.target.specs.ReadToc.{read_toc}
 
 -- "L is the last session's lead-out."
 abbrev pub L : List ℕ → ℕ
@@ -45,7 +41,7 @@ plays a n m t = play (all_in Audio (descriptors t) a n) a n (L t) m
 
 -- K2: READ SUB-CHANNEL, of the position's track on the disc of the table lent now
 abbrev pub tells : SubAsk → ℕ → Deck → List ℕ → Result Deck
-tells ask limit m t = read_sub_channel ask (track_of (descriptors t) (m .play .position)) limit m
+tells ask limit m t = read_sub_channel ask (track_of (descriptors t) m.play.position) limit m
 
 -- step 5: each command's own work; K4: l is the lent parameter list, which MODE SELECT alone looks at (REQUEST SENSE never comes here:
 -- `steps_by` answers it by `request_sense`)
@@ -79,7 +75,7 @@ abbrev pub written : Result Deck → List ℕ
 written (fails f) = []
 written (goes next loading full limit start count) = take limit full
 
--- the code's answer o and the memory m′ are what the result says, of the memory m
-pub record Performed (r : Result Deck) (m : List ℕ) (o : Done) (m′ : List ℕ) : Type 0 where
-  pub outcome : o ≡ doneOf r
-  pub memory : m′ ≡ fill m (written r)
+-- the code's answer o and the memory m' are what the result says, of the memory m
+pub record Performed (r : Result Deck) (m : List ℕ) (o : Done) (m' : List ℕ) : Type 0 where
+  pub outcome : o ≡ done_of r
+  pub memory : m' ≡ fill m (written r)
