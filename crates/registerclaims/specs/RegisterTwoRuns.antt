@@ -107,9 +107,9 @@ register-two-runs handed common c h k p i e f =
     handed common c (cause-live c (final handed common) h k) p i
 
 -- and the second run has an event at each place where the first has one
-pub register-two_runs_long : (handed : Console) (common : List Call) (c : Call) {cs ds : List Call} → Pairwise Alike cs ds
+pub register_two_runs_long : (handed : Console) (common : List Call) (c : Call) {cs ds : List Call} → Pairwise Alike cs ds
     → length (history handed (common ++ c ∷ cs)) ≡ length (history handed (common ++ c ∷ ds))
-register-two_runs_long handed common c p = runs_long answer next handed common c p
+register_two_runs_long handed common c p = runs_long answer next handed common c p
 
 -- ---- and with one response memory carried from call to call: "Until the transfer ends the response memory is handed on as it was left."
 
@@ -139,10 +139,10 @@ register-two-runs-carried handed common c h k p i e f =
 
 -- ---- "that call counts for demand 3": after any calls they agree for longer, until a call completes a packet with nothing pending
 
-pub register-two_runs_until : (handed : Console) (common : List Call) {cs ds : List Call} → Pairwise Alike cs ds
+pub register_two_runs_until : (handed : Console) (common : List Call) {cs ds : List Call} → Pairwise Alike cs ds
     → AgreeUntil answer next is_free handed common cs ds
-register-two_runs_until handed common p = agree-until answer next is_free Alike blind handed common p
+register_two_runs_until handed common p = agree-until answer next is_free Alike blind handed common p
 
-pub register-two_runs_until-carried : (handed : Board Console) (common : List Call) {cs ds : List Call} → Pairwise Alike cs ds
+pub register_two_runs_until-carried : (handed : Board Console) (common : List Call) {cs ds : List Call} → Pairwise Alike cs ds
     → AgreeUntil answers follows is_free_on handed common cs ds
-register-two_runs_until-carried handed common p = agree-until answers follows is_free_on Alike blind_on handed common p
+register_two_runs_until-carried handed common p = agree-until answers follows is_free_on Alike blind_on handed common p

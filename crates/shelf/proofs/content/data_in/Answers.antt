@@ -3,7 +3,7 @@
 use mathlib.Core.Path.{◌≡◌, sym, ◌∙◌}
 use Prim.Native.Nat.{◌-◌, ◌≤◌}
 use native.Mathlib.Omega.{arith}
-use Rattle.disc.specs.Rules.{leadOut}
+use Rattle.disc.specs.Rules.{session_lead_out}
 use Rattle.tracks.specs.declared.track.Mode.TheVariants.{Data}
 use Rattle.shelf.specs.Count.{sum_below}
 use Rattle.shelf.specs.Lengths.{track_blocks, run_at, blocks_to}
@@ -31,10 +31,10 @@ loop-i-preserved c =
 -- all are passed
 done :
     (c : tie.After-loop invariant-loop decreases-loop)
-    → (c.before.loop.r.from ≤ leadOut c.before.before.before.before.args.s.now)
-    × (blocks_to (leadOut c.before.before.before.before.args.s.now) c.before.loop.r
-    ≤ leadOut c.before.before.before.before.args.s.now)
-    × (blocks_to (leadOut c.before.before.before.before.args.s.now) c.before.loop.r
+    → (c.before.loop.r.from ≤ session_lead_out c.before.before.before.before.args.s.now)
+    × (blocks_to (session_lead_out c.before.before.before.before.args.s.now) c.before.loop.r
+    ≤ session_lead_out c.before.before.before.before.args.s.now)
+    × (blocks_to (session_lead_out c.before.before.before.before.args.s.now) c.before.loop.r
     ≡ sum_below c.before.before.before.before.args.n
     (track_blocks Data c.before.before.before.before.args.s.now c.before.before.before.before.args.n))
 done c =
@@ -50,7 +50,7 @@ overflow_add-result c =
     let e = c.address_at.ensures in
     let k = c.address_at.type-inv in
     let b =
-    blocks_to_on (leadOut c.args.s.now)
+    blocks_to_on (session_lead_out c.args.s.now)
     c.loop-i.r c.if-r.true in
     omega arith
 

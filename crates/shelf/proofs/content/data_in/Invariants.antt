@@ -3,7 +3,7 @@
 use mathlib.Core.Path.{◌≡◌, sym, ◌∙◌}
 use Prim.Native.Nat.{◌-◌, ◌≤◌}
 use native.Mathlib.Omega.{arith}
-use Rattle.disc.specs.Rules.{leadOut}
+use Rattle.disc.specs.Rules.{session_lead_out}
 use Rattle.tracks.specs.declared.track.Mode.TheVariants.{Data}
 use Rattle.shelf.specs.Count.{sum_below}
 use Rattle.shelf.specs.Lengths.{track_blocks, run_at, blocks_to}
