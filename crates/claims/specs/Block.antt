@@ -6,7 +6,7 @@ use Rattle.table.specs.Layout.{last_session, descriptors, rows, point_at, is_tra
 use Rattle.table.specs.Row.{address_at}
 use Rattle.sessions.specs.Session.{tracks, session}
 use Rattle.sessions.specs.SessionLaws.{rows_before}
-use Rattle.disc.specs.Rules.{leadOut}
+use Rattle.disc.specs.Rules.{session_lead_out}
 use Rattle.disc.specs.RulesLaws.{Fit}
 use Rattle.tracks.specs.declared.track.Track.{Track}
 use Rattle.tracks.specs.Track.{flagged, out_at, no_track, track_at, track_of, is_mode, in_mode, all_in, run_is}
@@ -48,7 +48,7 @@ module _ {t : List ℕ} (f : Fit t) where
   -- "that track's session's lead-out": of the descriptor after a session's heads and m tracks it is the address of that session's A2
   pub block-lead-out :
       {k m : ℕ} → k < last_session t → m < tracks (session (descriptors t) k)
-      → out_at (descriptors t) (rows_before (descriptors t) k + (3 + m)) ≡ leadOut (session (descriptors t) k)
+      → out_at (descriptors t) (rows_before (descriptors t) k + (3 + m)) ≡ session_lead_out (session (descriptors t) k)
   block-lead-out {k} {m} h l = fit-out f h m (omega arith)
 
   -- the run test, which never goes from block to block, is that every block belongs to a track, and to one of the mode

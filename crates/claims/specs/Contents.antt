@@ -38,7 +38,7 @@ pub record Contents : Type 0 where
   pub last : ℕ
   pub tracks : List Entry
   pub flags_of_lead : ℕ
-  pub leadOut : ℕ
+  pub session_lead_out : ℕ
 
 -- descriptor j of the table as a track
 abbrev pub entry_at : List ℕ → ℕ → Entry
@@ -56,7 +56,7 @@ contents_of t = record {
   last = (disc_of t).last;
   tracks = entries (descriptors t) (rows (descriptors t));
   flags_of_lead = (disc_of t).lead_flags;
-  leadOut = (disc_of t).lead_out;
+  session_lead_out = (disc_of t).lead_out;
 }
 
 -- ---- the list that contents make
@@ -77,7 +77,7 @@ written msf (e ∷ es) = entry_bytes msf e ++ written msf es
 
 -- "then the lead-out as AAh"
 abbrev pub lead_entry : Contents → Entry
-lead_entry c = record { flags = c.flags_of_lead; number = AA; start = c.leadOut }
+lead_entry c = record { flags = c.flags_of_lead; number = AA; start = c.session_lead_out }
 
 -- by MSF and N: it is a table's list (`list-made`), and nothing else of the table goes into it
 abbrev pub list_of : Bool → ℕ → Contents → List ℕ

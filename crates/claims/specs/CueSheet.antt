@@ -42,7 +42,7 @@ numbered e h = sym (ap (λ (x : Answer). x.number) e) ∙ h
 -- a described sheet's last entry has number AAh
 lead_number : (s : List ℕ) → is_described s ≡ true → (lead_out_of s).number ≡ AA
 unfolding is_lead_out
-lead_number s d = eqb-true _ _ (and_head _ _ (is_described_parts s d).leadOut)
+lead_number s d = eqb-true _ _ (and_head _ _ (is_described_parts s d).session_lead_out)
 
 told_of : (s : List ℕ) → is_described s ≡ true → is_fit (table_of s) ≡ true → Told s (table_of s)
 told_of s d f =

@@ -7,7 +7,7 @@ use Rattle.ground.specs.Tests.{if◌then◌else◌, either}
 use Rattle.table.specs.Layout.{last_session, descriptors, rows, point_at, A0, A1, A2, is_track}
 use Rattle.table.specs.RowLaws.{is_track_true, is_track-over}
 use Rattle.sessions.specs.Session.{first, session}
-use Rattle.disc.specs.Rules.{leadOut}
+use Rattle.disc.specs.Rules.{session_lead_out}
 use Rattle.disc.specs.RulesLaws.{Fit, is_fit_true, fit-numbered, fit-session}
 use Rattle.disc.specs.FitLaws.{point_at-session, session-none, fit-listed, fit_row, fit-address, fit-tracks-rise, fit-lead-out}
 use Rattle.disc.specs.Disc.{disc_of}
@@ -113,7 +113,7 @@ disc_in c = record {
   first = c.first;
   last = c.last;
   sessions = 1;
-  lead_out = c.leadOut;
+  lead_out = c.session_lead_out;
   lead_flags = c.flags_of_lead;
   last_first = (first_of c.tracks).number;
   last_first_flags = (first_of c.tracks).flags;
@@ -135,15 +135,15 @@ module _ {t : List ℕ} (s : Single t) where
   is-fit = is_fit_true s.fit
 
   -- every track ends at the lead-out, L
-  single-out : (j : ℕ) → j < rows (descriptors t) → is_track (point_at (descriptors t) j) ≡ true → out_at (descriptors t) j ≡ (contents_of t).leadOut
+  single-out : (j : ℕ) → j < rows (descriptors t) → is_track (point_at (descriptors t) j) ≡ true → out_at (descriptors t) j ≡ (contents_of t).session_lead_out
   single-out j h e =
       let r = fit-track-row is-fit j h e in
       let b = r.below in
       let o = s.one in
-      r.out ∙ ap (λ (k : ℕ). leadOut (session (descriptors t) k)) (omega arith)
+      r.out ∙ ap (λ (k : ℕ). session_lead_out (session (descriptors t) k)) (omega arith)
 
-  pub single-track : (a : Ask) → found a (descriptors t) (rows (descriptors t)) ≡ found_among a (contents_of t).leadOut (contents_of t).tracks no_track
-  single-track a = found-entries a (descriptors t) (contents_of t).leadOut (rows (descriptors t)) single-out
+  pub single-track : (a : Ask) → found a (descriptors t) (rows (descriptors t)) ≡ found_among a (contents_of t).session_lead_out (contents_of t).tracks no_track
+  single-track a = found-entries a (descriptors t) (contents_of t).session_lead_out (rows (descriptors t)) single-out
 
   -- descriptor i of the session is descriptor i of the table
   tested : (i : ℕ) {a : ℕ} {b : Bool} → point_at (session (descriptors t) 0) i ≡ a → is_track a ≡ b → is_track (point_at (descriptors t) i) ≡ b
@@ -169,7 +169,7 @@ module _ {t : List ℕ} (s : Single t) where
     first = (contents_of t).first;
     last = (contents_of t).last;
     sessions = s.one i;
-    lead_out = (contents_of t).leadOut;
+    lead_out = (contents_of t).session_lead_out;
     lead_flags = (contents_of t).flags_of_lead;
     last_first = (sym single-first i).number;
     last_first_flags = (sym single-first i).flags;

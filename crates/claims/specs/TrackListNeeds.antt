@@ -247,7 +247,7 @@ contents_e = record {
       ∷ record { flags = 0x10; number = 2; start = 150 }
       ∷ [];
   flags_of_lead = 0x10;
-  leadOut = 300;
+  session_lead_out = 300;
 }
 
 -- as computed; and of the same tracks in two sessions, wherever the first ends

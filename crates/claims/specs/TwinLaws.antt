@@ -56,7 +56,7 @@ pub contents-same : {t u : List ℕ} → Single t → Single u → contents_of t
 unfolding track_of
 contents-same {t} {u} a b e = record {
   disc = single-disc a ∙ ap disc_in e ∙ sym (single-disc b);
-  track = λ n. ap (below n) (single-track a (Block n) ∙ ap (λ (c : Contents). found_among (Block n) c.leadOut c.tracks no_track) e ∙ sym (single-track b (Block n)));
+  track = λ n. ap (below n) (single-track a (Block n) ∙ ap (λ (c : Contents). found_among (Block n) c.session_lead_out c.tracks no_track) e ∙ sym (single-track b (Block n)));
   list = λ msf n. list-made msf n t ∙ ap (list_of msf n) e ∙ sym (list-made msf n u);
 }
   where

@@ -32,7 +32,7 @@ pub record Holds (t : List ℕ) (ts : List Track) (out : Track) : Type 0 where
   pub fit : is_fit t ≡ true
   pub one : last_session t ≡ 1
   pub tracks : held_tracks t ≡ ts
-  pub leadOut : held_lead_out t ≡ out
+  pub session_lead_out : held_lead_out t ≡ out
 
 -- a list of bytes
 pub record Bytes (l : List ℕ) : Type 0 where

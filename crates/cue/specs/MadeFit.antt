@@ -239,7 +239,7 @@ module _ {t : List ℕ} {ts : List Track} {out : Track} (h : Holds t ts out) whe
       (and_both _ _ (made_kept _ _ _ _ _ a) (climbs-placed d (3 + i) _ _ _ ∙ and_tail _ _ w))
 
   made-A2 : row_at (body_of ts out) 2 ≡ placed A2 (held_lead_out t)
-  made-A2 = body-A2 ts out ∙ ap (placed A2) (sym h.leadOut)
+  made-A2 = body-A2 ts out ∙ ap (placed A2) (sym h.session_lead_out)
 
   made-heads : heads_kept (body_of ts out) 1 ≡ true
   unfolding heads_kept track_kept
@@ -334,7 +334,7 @@ made_holds ts out n a f = record {
   tracks = single-tracks (is_fit_true f) (made_one ts out)
       ∙ ap (λ (d : List ℕ). up_to (λ i. track_at d (3 + i)) (tracks d)) (made-rows ts out)
       ∙ numbered-tracks ts out n;
-  leadOut = ap (λ (d : List ℕ). placed_at d 2 AA) (made-rows ts out)
+  session_lead_out = ap (λ (d : List ℕ). placed_at d 2 AA) (made-rows ts out)
       ∙ ap (λ (r : Row). record { flags = r.flags; number = AA; minute = r.pmin; second = r.psec; frame = r.pframe }) (body-A2 ts out)
       ∙ (λ i. record { flags = out.flags; number = sym a i; minute = out.minute; second = out.second; frame = out.frame });
 }

@@ -4,7 +4,7 @@ use Rattle.ground.specs.Tests.{if◌then◌else◌}
 use Rattle.table.specs.Layout.{last_session, descriptors, flags_at, point_at}
 use Rattle.table.specs.Row.{address_at}
 use Rattle.sessions.specs.Session.{first, last, session}
-use Rattle.disc.specs.Rules.{leadOut, fault, is_fit}
+use Rattle.disc.specs.Rules.{session_lead_out, fault, is_fit}
 use Rattle.disc.specs.declared.disc.Disc.{Disc}
 use Rattle.disc.specs.declared.disc.Reading.{Reading}
 use Rattle.disc.specs.declared.disc.Reading.TheVariants.{Fit, Unfit}
@@ -20,7 +20,7 @@ disc_from n d = record {
   first = first d;
   last = last (session d (n - 1));
   sessions = n;
-  lead_out = leadOut (session d (n - 1));
+  lead_out = session_lead_out (session d (n - 1));
   lead_flags = flags_at (session d (n - 1)) 2;
   last_first = point_at (session d (n - 1)) 3;
   last_first_flags = flags_at (session d (n - 1)) 3;

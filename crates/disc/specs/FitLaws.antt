@@ -12,7 +12,7 @@ use Rattle.table.specs.RowLaws.{row_from-drop, is_track_true, addressed_range, r
 use Rattle.table.specs.declared.row.Row.{Row}
 use Rattle.sessions.specs.Session.{first, last, tracks, count, starts, session, follows}
 use Rattle.sessions.specs.SessionLaws.{extras-most, extras_each, starts_none, Listed, listed_parts, in_place-follows, before-next, rows_before, rows_before-next, starts-rows}
-use Rattle.disc.specs.Rules.{each_row, leadOut, track_start, rises, out_before, begins_after, rising, rule7}
+use Rattle.disc.specs.Rules.{each_row, session_lead_out, track_start, rises, out_before, begins_after, rising, rule7}
 use Rattle.disc.specs.RulesLaws.{Fit, out_before-next, fit-numbered, fit-places, fit-end-rows, fit-session, fit-last}
 use Rattle.disc.specs.Disc.{last_part}
 
@@ -99,7 +99,7 @@ steps_rise f n h i (suc j) l g =
 -- the starts of the n tracks of the session that s begins with rise, and lie before its lead-out
 pub record Rises (s : List ℕ) (n : ℕ) : Type 0 where
   pub tracks : (i j : ℕ) → i < j → j < n → track_start s i < track_start s j
-  pub lead : (i : ℕ) → i < n → track_start s i < leadOut s
+  pub lead : (i : ℕ) → i < n → track_start s i < session_lead_out s
 
 pub rises_parts : {s : List ℕ} {n : ℕ} → rises s n ≡ true → Rises s n
 unfolding rises
@@ -116,7 +116,7 @@ rises_parts {s} {n} h = record {
         steps_rise (track_start s) (n - 1)
         (λ i l. ltb-true _ _ (every-at (n - 1) (λ m. ltb (track_start s m) (track_start s (m + 1))) (and_head _ _ h) i l))
 
-    top : track_start s (n - 1) < leadOut s
+    top : track_start s (n - 1) < session_lead_out s
     top = ltb-true _ _ (and_tail _ _ h)
 
 -- ---- the first session begins at the table's first descriptor
@@ -265,7 +265,7 @@ module _ {t : List ℕ} (f : Fit t) where
   fit-rises {k} h = rises_parts (and_head _ _ (every-at _ _ f.rule7 k h))
 
   -- and the next session's first track starts after it
-  pub fit-begins : (k : ℕ) → k + 1 < last_session t → leadOut (session (descriptors t) k) < track_start (session (descriptors t) (k + 1)) 0
+  pub fit-begins : (k : ℕ) → k + 1 < last_session t → session_lead_out (session (descriptors t) k) < track_start (session (descriptors t) (k + 1)) 0
   unfolding rule7 rising begins_after
   fit-begins k h =
       let b : out_before (descriptors t) (k + 1) < track_start (session (descriptors t) (k + 1)) 0 =
@@ -274,16 +274,16 @@ module _ {t : List ℕ} (f : Fit t) where
 
   -- so every track starts after the lead-out of every session before its own
   pub fit_apart : (k n : ℕ) → k < n → n < last_session t → (i : ℕ) → i < tracks (session (descriptors t) n)
-      → leadOut (session (descriptors t) k) < track_start (session (descriptors t) n) i
+      → session_lead_out (session (descriptors t) k) < track_start (session (descriptors t) n) i
   fit_apart k n h l i g = elim (ℕ_discrete i 0) [
     | yes e ↦ rw e (begins k n h l)
     | no e ↦ (let b = begins k n h l in let r = (fit-rises l).tracks 0 i (omega arith) g in omega arith)
   ]
     where
-      begins : (k n : ℕ) → k < n → n < last_session t → leadOut (session (descriptors t) k) < track_start (session (descriptors t) n) 0
+      begins : (k n : ℕ) → k < n → n < last_session t → session_lead_out (session (descriptors t) k) < track_start (session (descriptors t) n) 0
       begins k zero h l = absurd (omega arith)
       begins k (suc n) h l =
-          let b : leadOut (session (descriptors t) n) < track_start (session (descriptors t) (suc n)) 0 = rw (add-one n) at
+          let b : session_lead_out (session (descriptors t) n) < track_start (session (descriptors t) (suc n)) 0 = rw (add-one n) at
           (fit-begins n (omega arith)) in
           elim (ℕ_discrete k n) [
             | yes e ↦ rw e b
@@ -291,7 +291,7 @@ module _ {t : List ℕ} (f : Fit t) where
           ]
 
   -- the last lead-out, L, is 1 to 449,849: a track starts before it
-  pub fit-lead-out : (1 ≤ leadOut (last_part t)) × (leadOut (last_part t) ≤ 449849)
+  pub fit-lead-out : (1 ≤ session_lead_out (last_part t)) × (session_lead_out (last_part t) ≤ 449849)
   fit-lead-out =
       let n = fit-numbered f in
       let h : last_session t - 1 < last_session t = omega arith in

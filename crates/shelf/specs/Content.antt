@@ -1,7 +1,7 @@
 -- What one table adds: "over the fit ones tracks, data blocks, audio blocks, blocks of no track".
 use Rattle.std.specs.Prelude.{ℕ, Bool, not, List}
 use Rattle.table.specs.Layout.{descriptors, rows, point_at, is_track}
-use Rattle.disc.specs.Rules.{leadOut}
+use Rattle.disc.specs.Rules.{session_lead_out}
 use Rattle.disc.specs.Disc.{last_part}
 use Rattle.tracks.specs.Track.{track_of}
 use Rattle.tracks.specs.declared.track.Track.{Track}
@@ -9,7 +9,7 @@ use Rattle.shelf.specs.Count.{count_below}
 
 -- L, "the last session's lead-out"
 abbrev pub last_out : List ℕ → ℕ
-last_out t = leadOut (last_part t)
+last_out t = session_lead_out (last_part t)
 
 -- how many descriptors are tracks
 unfoldable pub tracks_in : List ℕ → ℕ

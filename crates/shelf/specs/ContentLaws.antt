@@ -14,7 +14,7 @@ use Rattle.table.specs.RowLaws.{is_track_true, is_track-over}
 use Rattle.table.specs.declared.row.Row.{Row}
 use Rattle.sessions.specs.Session.{first, last, tracks, count, size, session}
 use Rattle.sessions.specs.SessionLaws.{IsSession, placed_at, Walked, walked_none, walked_next, walked_all, rows_before, rows_before-next, starts_none, starts-rows}
-use Rattle.disc.specs.Rules.{leadOut, track_start, out_before}
+use Rattle.disc.specs.Rules.{session_lead_out, track_start, out_before}
 use Rattle.disc.specs.RulesLaws.{Fit, out_before-next, fit-places, fit-numbered, fit-session, fit-end-rows}
 use Rattle.disc.specs.FitLaws.{Rises, row_at-session, point_at-session, address_at-session, session-none, Kind, is_a0, is_a1, is_a2, is_track_after, is_b0, is_c0, fit_row, fit-listed, fit-kind, fit_next, fit-rises, fit-begins, fit_apart, fit-address}
 use Rattle.disc.specs.Disc.{last_part}
@@ -128,10 +128,10 @@ module _ {t : List ℕ} (f : Fit t) where
   fit-none-of k b h g e =
       track_of_no (descriptors t) b (λ i w. earlier i (fit-track-row f i w.listed w.reaches.track) w.reaches.start)
     where
-      leads : (k : ℕ) → k < last_session t → out_before (descriptors t) k ≤ b → {n : ℕ} → n < k → leadOut (session (descriptors t) n) ≤ b
+      leads : (k : ℕ) → k < last_session t → out_before (descriptors t) k ≤ b → {n : ℕ} → n < k → session_lead_out (session (descriptors t) n) ≤ b
       leads zero h g l = absurd (omega arith)
       leads (suc k) h g {n} l =
-          let o : out_before (descriptors t) (suc k) ≡ leadOut (session (descriptors t) k) = rw (add-one k) at (out_before-next (descriptors t) k) in
+          let o : out_before (descriptors t) (suc k) ≡ session_lead_out (session (descriptors t) k) = rw (add-one k) at (out_before-next (descriptors t) k) in
           let u = fit-leads-rise f n k (omega arith) (omega arith) in omega arith
 
       own : (m : ℕ) {a : ℕ} → m < tracks (session (descriptors t) k) → a ≡ track_start (session (descriptors t) k) m → a ≤ b → ⊥
@@ -156,7 +156,7 @@ module _ {t : List ℕ} (f : Fit t) where
   unfolding out_before
   out-begins zero h = omega arith
   out-begins (suc k) h =
-      let u : leadOut (session (descriptors t) k) < track_start (session (descriptors t) (suc k)) 0 = rw (add-one k) at
+      let u : session_lead_out (session (descriptors t) k) < track_start (session (descriptors t) (suc k)) 0 = rw (add-one k) at
       (fit-begins f k (omega arith)) in omega arith
 
   pub out-most : (k : ℕ) → k ≤ last_session t → out_before (descriptors t) k ≤ 449849
@@ -221,8 +221,8 @@ module _ {t : List ℕ} (f : Fit t) where
         let a = session-counts k (omega arith) in
         let b = gap-counts k h in
         let c = track-counts k h (tracks s) (omega arith) in
-        let d : counts (edge s (tracks s) (tracks s)) ≡ counts (leadOut s) = ap counts e in
-        let q : counts (out_before (descriptors t) (k + 1)) ≡ counts (leadOut s) = ap counts o in
+        let d : counts (edge s (tracks s) (tracks s)) ≡ counts (session_lead_out s) = ap counts e in
+        let q : counts (out_before (descriptors t) (k + 1)) ≡ counts (session_lead_out s) = ap counts o in
         let n = sum-next k session_such in
         rw (add-one k) at (let z : counts (out_before (descriptors t) (k + 1)) ≡ sum_below (k + 1) session_such = omega arith in z)
 
@@ -389,7 +389,7 @@ module _ {t : List ℕ} (f : Fit t) {k at out data_of of_no_track : ℕ} (c : Su
     summed-begins = rw (c.walked.place, c.lead) (out-begins f k i)
 
     pub summed-next :
-        {b o d g : ℕ} → b ≡ size (drop at (descriptors t)) → o ≡ leadOut (drop at (descriptors t)) → d ≡ mode_blocks Data (drop at (descriptors t))
+        {b o d g : ℕ} → b ≡ size (drop at (descriptors t)) → o ≡ session_lead_out (drop at (descriptors t)) → d ≡ mode_blocks Data (drop at (descriptors t))
         → g ≡ track_start (drop at (descriptors t)) 0 → Summed t (k + 1) (at + b) o (data_of + d) (of_no_track + (g - out))
     unfolding gap_before
     summed-next {b} {o} {d} {g} e p q r =
@@ -403,7 +403,7 @@ module _ {t : List ℕ} (f : Fit t) {k at out data_of of_no_track : ℕ} (c : Su
         let z = c.lead in
         record {
           walked = walked_next c.walked i summed-here e;
-          lead = p ∙ ap (λ (x : ℕ). leadOut (drop x (descriptors t))) w ∙ sym (out_before-next (descriptors t) k);
+          lead = p ∙ ap (λ (x : ℕ). session_lead_out (drop x (descriptors t))) w ∙ sym (out_before-next (descriptors t) k);
           data_blocks_in = omega arith;
           none_blocks = omega arith;
         }

@@ -5,7 +5,7 @@ use Rattle.ground.specs.Memory.{fill}
 use Rattle.deck.specs.declared.Deck.{Deck}
 use Rattle.deck.specs.Deck.{is_loaded}
 use Rattle.table.specs.Layout.{descriptors}
-use Rattle.disc.specs.Rules.{leadOut}
+use Rattle.disc.specs.Rules.{session_lead_out}
 use Rattle.tracks.specs.declared.track.Mode.TheVariants.{Data, Audio}
 use Rattle.tracks.specs.Track.{track_of, all_in}
 use Rattle.disc.specs.Disc.{last_part}
@@ -29,7 +29,7 @@ use Rattle.target.specs.ReadToc.{read_toc}
 
 -- "L is the last session's lead-out."
 abbrev pub L : List ℕ → ℕ
-L t = leadOut (last_part t)
+L t = session_lead_out (last_part t)
 
 -- READ of n blocks from a on, on the disc of the table
 abbrev pub reads : ℕ → ℕ → Deck → List ℕ → Result Deck
