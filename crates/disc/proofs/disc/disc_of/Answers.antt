@@ -5,7 +5,7 @@ use Rattle.disc.proofs.disc.disc_of.Goals as goal
 pub returns : goal.returns
 returns c =
     rw (
-      c.start_of_lem.ensures,
+      c.start_of.ensures,
       c.start_of-2.ensures,
       c.row_at-lead.ensures,
       c.row_at-track.ensures,

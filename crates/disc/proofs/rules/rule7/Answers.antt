@@ -54,7 +54,7 @@ loop-k-preserved c =
     risen-next c.loop-k.invariant
     c.loop-k-test.true
     (here c) (rw rest_all at c.session_bytes-at.ensures)
-    (c.start_of_lem.ensures
+    (c.start_of.ensures
     ∙ ap start_of c.row_at.ensures
     ∙ ap (λ (l : List ℕ). address_at l 2)
     (rest_all c.loop-k.at

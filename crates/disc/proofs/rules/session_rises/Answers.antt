@@ -12,7 +12,7 @@ returns-then-rises c =
       c.wide-2.ensures.same,
     )
     at (sym c.rises.ensures ∙ c.if-rises.true))
-    (rw (c.start_of_lem.ensures, c.row_at.ensures) at c.begins_after.ensures)
+    (rw (c.start_of.ensures, c.row_at.ensures) at c.begins_after.ensures)
 
 pub returns : goal.returns
 returns c =

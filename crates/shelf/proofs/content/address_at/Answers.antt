@@ -10,4 +10,4 @@ use Rattle.shelf.proofs.content.address_at.Goals as goal
 pub returns : goal.returns
 returns c =
     let s = c in
-    c.start_of_lem.ensures ∙ ap start_of (c.row_of.ensures ∙ row_of_part s.args.s.now (row * s.args.j) s.requires)
+    c.start_of.ensures ∙ ap start_of (c.row_of.ensures ∙ row_of_part s.args.s.now (row * s.args.j) s.requires)

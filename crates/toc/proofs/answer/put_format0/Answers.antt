@@ -31,4 +31,4 @@ overflow-add-put-head-2 c = let k = few (goal.at.overflow-add-put-head-2 c).Afte
 pub returns : goal.returns
 returns c = let x = c.args in
     rw (format0_laid x.disc x.msf x.n x.d.now c.shown_count-k.result c.shown_count-k.ensures)
-    (laid_more (laid_more c.put_head-at.ensures c.put_all_lem.ensures) c.put_described-at.ensures)
+    (laid_more (laid_more c.put_head-at.ensures c.put_all.ensures) c.put_described-at.ensures)

@@ -7,4 +7,4 @@ use Rattle.toc.proofs.answer.put_format2.Goals as goal
 pub returns : goal.returns
 returns c = let x = c.args in
     let e = c.sessions_from-s.ensures in
-    rw (format2_laid x.disc x.n x.d.now) (laid_more (rw e at c.put_head-at.ensures) (rw e at c.put_all_lem.ensures))
+    rw (format2_laid x.disc x.n x.d.now) (laid_more (rw e at c.put_head-at.ensures) (rw e at c.put_all.ensures))
