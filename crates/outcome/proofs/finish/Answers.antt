@@ -16,4 +16,4 @@ pub returns-in-Goes : goal.returns-in-Goes
 returns-in-Goes c =
     let x = c.args in
     let e = sym (ap (finished x.u x.v x.deck) c.in-Goes.is) in
-    (rw c.attend.ensures at c.good2.ensures) ∙ e
+    (rw c.attend.ensures at c.good.ensures) ∙ e

@@ -9,8 +9,8 @@ pub returns-then-n-eq0 : goal.returns-then-n-eq0
 returns-then-n-eq0 c = c.done_with.ensures ∙ ap done_of (sym (mode_select-none _ _ _ c.if-n-list.true c.if-n-eq0.true))
 
 pub returns-then-n-eq-LIST : goal.returns-then-n-eq-LIST
-returns-then-n-eq-LIST c = let x = c in
-    c.selected.ensures ∙ ap done_of (sym (mode_select-page _ _ _ x.before.before.if1.true x.before.if2.false x.if3.true))
+returns-then-n-eq-LIST c =
+    c.selected.ensures ∙ ap done_of (sym (mode_select-page _ _ _ c.if-n-list.true c.if-n-eq0.false c.if-n-eq-LIST.true))
 
 pub returns-then-n-list : goal.returns-then-n-list
 returns-then-n-list c = ap done_of (sym (mode_select-other _ _ _ c.if-n-list.true c.if-n-eq0.false c.if-n-eq-LIST.false))

@@ -7,5 +7,5 @@ use Rattle.target.proofs.packet.ask_sense.Goals as goal
 pub returns : goal.returns
 returns c =
     let h = c.requires in
-    rw (← c.give-g.ensures, c.good2.ensures)
+    rw (← c.give-g.ensures, c.good.ensures)
     (answered-good _ _ _ (omega arith) (rw c.sense_bytes-full.ensures at c.put_cut-len.ensures))
