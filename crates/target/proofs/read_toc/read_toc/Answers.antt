@@ -12,22 +12,20 @@ use Rattle.target.specs.ReadToc.{format_in, msf_in, number_in}
 use Rattle.target.specs.PerformLaws.{performed-bad, performed-answer, read_off-length}
 use borrow.Author.Rules.{rules}
 use Rattle.target.proofs.read_toc.read_toc.Goals as goal
+use Rattle.target.proofs.read_toc.read_toc.Goals.{After-toc_bad}
 
 -- what the field checks say
 told :
-    (c : tie.After-toc-bad)
-    → c.toc-bad.result ≡ toc_bad (disc_of c.before.before.before.before.before.args.t.now) (format_in c.before.before.before.before.before.args.p.now) (number_in c.before.before.before.before.before.args.p.now)
+    (c : After-toc_bad)
+    → c.toc_bad.result ≡ toc_bad (disc_of c.args.t.now) (format_in c.args.p.now) (number_in c.args.p.now)
 told c =
-    let x = c.before.before.before.before.before.args in
-    c.toc-bad.ensures
-    ∙ ap (λ (a : TocAsk). toc_bad x.disc a.format a.number) c.before.toc-ask.ensures
-    ∙ ap (λ (d : Disc). toc_bad d (format_in x.p.now) (number_in x.p.now)) c.before.before.before.before.before.requires.0.same
+    let x = c.args in
+    c.toc_bad.ensures
+    ∙ ap (λ (a : TocAsk). toc_bad x.disc a.format a.number) c.toc_ask-ask.ensures
+    ∙ ap (λ (d : Disc). toc_bad d (format_in x.p.now) (number_in x.p.now)) c.requires.0.same
 
 pub returns-then-toc_bad : goal.returns-then-toc_bad
-returns-then-toc_bad c = performed-bad _ _ _ _ (sym (told c) ∙ c.if-toc_bad.true)
-
-pub overflow-sub-put-toc : goal.overflow-sub-put-toc
-overflow-sub-put-toc c = let h = c.requires.0.fits.head in search rules
+returns-then-toc_bad c = performed-bad _ _ _ _ (sym (told (goal.at.returns-then-toc_bad c).After-toc_bad) ∙ c.if-toc_bad.true)
 
 pub slice_bounds-put_toc-start : goal.slice_bounds-put_toc-start
 slice_bounds-put_toc-start c = let h = c.requires.0.fits.head in search rules
@@ -36,5 +34,5 @@ pub returns : goal.returns
 returns c = let x = c.args in
     let q = c.requires in
     let w = toc_bytes-within (disc_of x.t.now) (format_in x.p.now) (msf_in x.p.now) (number_in x.p.now) (descriptors x.t.now) (read_off-length q.0) in
-    performed-answer _ _ _ (sym (told c) ∙ c.if-toc_bad.false) (let b = q.2 in omega arith)
+    performed-answer _ _ _ (sym (told (goal.at.returns c).After-toc_bad) ∙ c.if-toc_bad.false) (let b = q.2 in omega arith)
     (rw (c.toc_ask-ask.ensures, c.word16.ensures, q.0.same, rest_all 4 x.t.now) at c.put_toc-len.ensures)
