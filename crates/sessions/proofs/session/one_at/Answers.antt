@@ -7,24 +7,24 @@ use borrow.Author.Rules.{rules}
 use Rattle.sessions.proofs.session.one_at.Goals as goal
 
 pub returns-then-byte_at-wide : goal.returns-then-byte_at-wide
-returns-then-byte_at-wide c = (
-  sym
+returns-then-byte_at-wide c = record {
+  same = sym
       (one_is
       (get_or-drop c.args.i c.args.d.now 3 0
       ∙ sym c.byte_at.ensures.same
       ∙ c.if-byte_at-wide.true
-      ∙ c.wide.ensures.same)),
-  omega arith,
-)
+      ∙ c.wide.ensures.same));
+  most = omega arith;
+}
 
 pub returns : goal.returns
-returns c = (
-  sym
+returns c = record {
+  same = sym
       (one_not
       (λ e. c.if-byte_at-wide.false
       (c.byte_at.ensures.same
       ∙ sym (get_or-drop c.args.i c.args.d.now 3 0)
       ∙ e
-      ∙ sym c.wide.ensures.same))),
-  omega arith,
-)
+      ∙ sym c.wide.ensures.same)));
+  most = omega arith;
+}

@@ -42,9 +42,9 @@ pub listed-requires : goal.listed-requires
 unfolding size
 listed-requires c = (omega arith, omega arith, omega arith)
 
-pub overflow-sub-numbered : goal.overflow-sub-numbered
+pub overflow_sub-bytes : goal.overflow_sub-bytes
 unfolding size
-overflow-sub-numbered c = omega arith
+overflow_sub-bytes c = omega arith
 
 pub numbered-requires : goal.numbered-requires
 unfolding size

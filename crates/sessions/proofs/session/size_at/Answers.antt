@@ -7,8 +7,8 @@ use borrow.Author.Rules.{rules}
 use Rattle.sessions.proofs.session.size_at.Goals as goal
 
 pub returns : goal.returns
-returns c = (
-  size-drop _ _ (ap (λ (x : ℕ). 3 + x) c.tracks_at-n.ensures.0) c.one_at-b.ensures.0
-      c.one_at-c.ensures.0,
-  omega arith,
-)
+returns c = record {
+  same = size-drop _ _ (ap (λ (x : ℕ). 3 + x) c.tracks_at-n.ensures.same) c.one_at-b.ensures.same
+      c.one_at-c.ensures.same;
+  most = omega arith;
+}

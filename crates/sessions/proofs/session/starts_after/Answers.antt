@@ -12,7 +12,7 @@ pub loop-k-init : goal.loop-k-init
 loop-k-init c = (omega arith, starts_none _, omega arith)
 
 pub loop-k-preserved : goal.loop-k-preserved
-loop-k-preserved c = (omega arith, starts-next _ _ c.loop-k.invariant.1 c.size_at-at.ensures.0, omega arith)
+loop-k-preserved c = (omega arith, starts-next _ _ c.loop-k.invariant.1 c.size_at-at.ensures.same, omega arith)
 
 pub returns : goal.returns
 returns c = rw (le_antisymm c.loop-k.invariant.0 c.loop-k-test.false) at c.loop-k.invariant.1

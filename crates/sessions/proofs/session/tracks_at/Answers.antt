@@ -8,10 +8,10 @@ pub returns-then-l-f : goal.returns-then-l-f
 returns-then-l-f c =
     (let e = tracks-drop c.args.d.now c.args.at in
     let f = c.byte_at-f.ensures in
-    let l = c.byte_at-l.ensures in (omega arith, omega arith))
+    let l = c.byte_at-l.ensures in record { same = omega arith; most = omega arith })
 
 pub returns : goal.returns
 returns c =
     (let e = tracks-drop c.args.d.now c.args.at in
     let f = c.byte_at-f.ensures in
-    let l = c.byte_at-l.ensures in (omega arith, omega arith))
+    let l = c.byte_at-l.ensures in record { same = omega arith; most = omega arith })
