@@ -28,4 +28,4 @@ pub returns-in-Nothing : goal.returns-in-Nothing
 returns-in-Nothing c = let x = c.args in
     let e = sym c.first_pending-a.ensures ∙ c.in-Nothing.is in
     let f = c.finish.ensures ∙ ap (λ (v : Unit). finished x.d.unit v x.d.deck c.perform-done.result) c.clear.ensures in
-    rw (gate-settles _ _ _ e) (answered-settle _ _ _ c.perform-done.ensures f)
+    rw (gate-settles _ _ _ e) (answered-settle x.d.unit x.d.deck _ c.perform-done.ensures f)
