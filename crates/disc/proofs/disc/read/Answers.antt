@@ -15,8 +15,8 @@ pub bounds-t-3 : goal.bounds-t-3
 bounds-t-3 c =
     let s = rule1_parts (sym c.rule1.ensures ∙ c.if-rule1.true) in search rules
 
-pub overflow-sub-walk : goal.overflow-sub-walk
-overflow-sub-walk c = (rule1_parts (sym c.rule1.ensures ∙ c.if-rule1.true)).least
+pub slice_bounds-walk-count : goal.slice_bounds-walk-count
+slice_bounds-walk-count c = (rule1_parts (sym c.rule1.ensures ∙ c.if-rule1.true)).least
 
 pub slice_bounds-walk-start : goal.slice_bounds-walk-start
 slice_bounds-walk-start c =

@@ -22,13 +22,9 @@ long : (c : Else-end-eq0) → 44 ≤ length c.loop-k.s.now
 long c = let s = here c in let l = size_least s in let f = s.fits in omega arith
 
 -- and ends in what is left
-ends :
-    (c : tie.After-frames-of invariant-loop decreases-loop) → c.before.before.before.before.before.session-end.result ≤ length
-    c.before.before.before.before.before.before.before.loop.s.now
+ends : (c : Else-end-eq0) → c.session_end-end.result ≤ length c.loop-k.s.now
 ends c =
-    let t = walking-session c.before.before.before.before.before.before.before.loop.invariant
-    c.before.before.before.before.before.before.loop-test.true c.before.before.before.before.before.session-end.ensures
-    c.before.before.before.before.if1.false in
+    let t = walking-session c.loop-k.invariant c.loop-k-test.true c.session_end-end.ensures c.if-end-eq0.false in
     let f = t.0.fits in
     let e = t.1 in
     omega arith
@@ -59,18 +55,18 @@ bounds-s c = let l = long (goal.at.bounds-s c).Else-end-eq0 in omega arith
 pub row_at-requires : goal.row_at-requires
 row_at-requires c = let l = long (goal.at.row_at-requires c).Else-end-eq0 in omega arith
 
-pub overflow-sub-s : goal.overflow-sub-s
-overflow-sub-s c = ends c
+pub slice_bounds-s-count : goal.slice_bounds-s-count
+slice_bounds-s-count c = ends (goal.at.slice_bounds-s-count c).Else-end-eq0
 
 pub slice_bounds-s-start : goal.slice_bounds-s-start
-slice_bounds-s-start c = let e = ends c in search rules
+slice_bounds-s-start c = let e = ends (goal.at.slice_bounds-s-start c).Else-end-eq0 in search rules
 
 pub loop-k-preserved : goal.loop-k-preserved
 loop-k-preserved c =
     walking-next c.loop-k.invariant
     c.loop-k-test.true
     c.session_end-end.ensures c.if-end-eq0.false
-    c.wide-next.ensures.same (c.frames_of-floor.ensures.0 ∙ ap frames_of c.row_at.ensures)
+    c.wide-next.ensures.same (c.frames_of-floor.ensures.same ∙ ap frames_of c.row_at.ensures)
     (rest_all c.session_end-end.result
     c.loop-k.s.now)
 
@@ -91,14 +87,14 @@ returns c =
     rows_reading-unfit _ _ (sym (walking-done c.loop-k.invariant c.loop-k-test.false) ∙ ne_eqb _ _
     c.if-s-eq0.false) c.fault_from-2.ensures
 
-pub overflow-sub-fault-from : goal.overflow-sub-fault-from
-overflow-sub-fault-from c = let w = c.loop-k.invariant in let l = w.low in let m = w.less in search rules
+pub overflow_sub-k : goal.overflow_sub-k
+overflow_sub-k c = let w = c.loop-k.invariant in let l = w.low in let m = w.less in search rules
 
-pub overflow-sub-fault-from-2 : goal.overflow-sub-fault-from-2
-overflow-sub-fault-from-2 c = let w = c.loop-k.invariant in let l = w.low in let m = w.less in search rules
+pub overflow_sub-d : goal.overflow_sub-d
+overflow_sub-d c = let w = c.loop-k.invariant in let l = w.low in let m = w.less in search rules
 
-pub overflow-sub-fault-from-3 : goal.overflow-sub-fault-from-3
-overflow-sub-fault-from-3 c = let w = c.loop-k.invariant in let l = w.low in let m = w.less in search rules
+pub overflow_sub-k-2 : goal.overflow_sub-k-2
+overflow_sub-k-2 c = let w = c.loop-k.invariant in let l = w.low in let m = w.less in search rules
 
-pub overflow-sub-fault-from-4 : goal.overflow-sub-fault-from-4
-overflow-sub-fault-from-4 c = let w = c.loop-k.invariant in let l = w.low in let m = w.less in search rules
+pub overflow_sub-d-2 : goal.overflow_sub-d-2
+overflow_sub-d-2 c = let w = c.loop-k.invariant in let l = w.low in let m = w.less in search rules

@@ -20,7 +20,9 @@ loop-at-preserved c =
     (sym c.row_test.ensures ∙ c.if-row_test.true)
 
 pub overflow_add-at : goal.overflow_add-at
-overflow_add-at c = let r = loop-again c in search rules
+overflow_add-at c =
+    let r = tested-next c.loop-at.invariant c.requires c.loop-at-test.true c.row_from.ensures (sym c.row_test.ensures ∙ c.if-row_test.true) in
+    search rules
 
 pub returns-else-row_test : goal.returns-else-row_test
 returns-else-row_test c =

@@ -9,9 +9,6 @@ use borrow.Author.Rules.{rules}
 use Rattle.disc.proofs.rules.fault_from.Goals as goal
 use Rattle.disc.proofs.rules.fault_from.Goals.{After-each_row}
 
-pub overflow-sub-each-row : goal.overflow-sub-each-row
-overflow-sub-each-row c = c.requires.1.walked.within
-
 pub slice_bounds-each_row-start : goal.slice_bounds-each_row-start
 slice_bounds-each_row-start c = let w = c.requires.1.walked.within in search rules
 

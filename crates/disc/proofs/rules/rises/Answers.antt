@@ -13,7 +13,7 @@ use borrow.Author.Rules.{rules}
 use Rattle.disc.proofs.rules.rises.Goals as goal
 
 pub loop-i-init : goal.loop-i-init
-loop-i-init c = (omega arith, c.start_of.ensures ∙ ap start_of c.row_at.ensures, every-none _)
+loop-i-init c = (omega arith, c.start_of-start.ensures ∙ ap start_of c.row_at.ensures, every-none _)
 
 pub loop-i-preserved : goal.loop-i-preserved
 loop-i-preserved c = (

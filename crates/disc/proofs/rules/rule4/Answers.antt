@@ -9,27 +9,17 @@ use Rattle.disc.specs.WalkSteps.{Reached, reached-next, reached-not, reached-off
 use borrow.Author.Rules.{rules}
 use Rattle.disc.proofs.rules.rule4.Goals as goal
 
--- what the reader told of the session that begins here
-read :
-    (c : tie.After-known-told invariant-loop decreases-loop)
-    → Told (c.before.before.before.before.before.before.before.loop.k + 1)
-    (drop c.before.before.before.before.before.before.before.loop.at
-    c.before.before.before.before.before.before.before.before.before.args.d.now)
-    c.before.first.given.0.0 c.before.first.given.0.1.0 c.before.first.given.0.1.1.0
-read c =
-    read_session-told _ _ (sym c.before.first.given.1 ∙ rw (rest_all, c.before.before.before.before.wide.ensures.same) at
-    c.before.before.before.read-session.ensures)
-
 pub loop-k-preserved : goal.loop-k-preserved
 loop-k-preserved c =
+    let t = read_session-told _ _ (sym c.in-Is.is ∙ rw (rest_all, c.wide.ensures.same) at c.read_session.ensures) in
     rw c.wide-next.ensures.same
     (reached-next c.loop-k.invariant
-    c.loop-k-test.true (read c)
+    c.loop-k-test.true t
     (let w = c.wide-in-Is.ensures.same in omega arith))
 
 pub overflow_add-at : goal.overflow_add-at
 overflow_add-at c =
-    let t = read c in
+    let t = read_session-told _ _ (sym c.in-Is.is ∙ rw (rest_all, c.wide.ensures.same) at c.read_session.ensures) in
     let b = t.bytes in
     let w = size-within _ _ c.loop-k.invariant.walked.within
     (is_session_parts t.is) in
@@ -37,8 +27,9 @@ overflow_add-at c =
 
 pub returns-else-wide-next : goal.returns-else-wide-next
 returns-else-wide-next c =
+    let t = read_session-told _ _ (sym c.in-Is.is ∙ rw (rest_all, c.wide.ensures.same) at c.read_session.ensures) in
     reached-off c.loop-k.invariant
-    c.loop-k-test.true (read c)
+    c.loop-k-test.true t
     (λ e. c.if-wide-next.false (let w = c.wide-in-Is.ensures.same in omega arith))
 
 pub returns-in-Not : goal.returns-in-Not

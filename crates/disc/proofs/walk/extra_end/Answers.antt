@@ -11,30 +11,30 @@ use Rattle.disc.proofs.walk.extra_end.Goals as goal
 
 pub returns-then-extra_kept : goal.returns-then-extra_kept
 unfolding extra_end
-returns-then-extra_kept c = (
-  sym
+returns-then-extra_kept c = record {
+  same = sym
       (when _ _ _
       (eq-eqb _ _ (ap (λ (r : Row). r.point) (sym c.row_from-r.ensures) ∙ c.if-r-p.true))
-      ∙ when _ _ _ (sym (rw c.row_from-r.ensures at c.extra_kept.ensures) ∙ c.if-extra_kept.true)),
-  (omega arith, omega arith),
-)
+      ∙ when _ _ _ (sym (rw c.row_from-r.ensures at c.extra_kept.ensures) ∙ c.if-extra_kept.true));
+  within = (omega arith, omega arith);
+}
 
 pub returns-then-r-p : goal.returns-then-r-p
 unfolding extra_end
-returns-then-r-p c = (
-  sym
+returns-then-r-p c = record {
+  same = sym
       (when _ _ _
       (eq-eqb _ _ (ap (λ (r : Row). r.point) (sym c.row_from-r.ensures) ∙ c.if-r-p.true))
-      ∙ unless _ _ _ (sym (rw c.row_from-r.ensures at c.extra_kept.ensures) ∙ c.if-extra_kept.false)),
-  (omega arith, omega arith),
-)
+      ∙ unless _ _ _ (sym (rw c.row_from-r.ensures at c.extra_kept.ensures) ∙ c.if-extra_kept.false));
+  within = (omega arith, omega arith);
+}
 
 pub returns-then-at-d : goal.returns-then-at-d
 unfolding extra_end
-returns-then-at-d c = (
-  sym (unless _ _ _ (ne_eqb _ _ (λ e. c.if-r-p.false (ap (λ (r : Row). r.point) c.row_from-r.ensures ∙ e)))),
-  (omega arith, omega arith),
-)
+returns-then-at-d c = record {
+  same = sym (unless _ _ _ (ne_eqb _ _ (λ e. c.if-r-p.false (ap (λ (r : Row). r.point) c.row_from-r.ensures ∙ e))));
+  within = (omega arith, omega arith);
+}
 
 pub returns : goal.returns
-returns c = (extra_end-past _ _ _ _ c.if-at-d.false c.requires.3, (omega arith, omega arith))
+returns c = record { same = extra_end-past _ _ _ _ c.if-at-d.false c.requires.3; within = (omega arith, omega arith) }

@@ -14,12 +14,12 @@ returns-then-d-at c = extras_end-past _ _ _ c.if-d-at.true
 
 pub returns-then-b-eq0 : goal.returns-then-b-eq0
 unfolding extras_end
-returns-then-b-eq0 c = sym (when _ _ _ (eq-eqb _ _ (sym c.extra_end-b.ensures.0 ∙ c.if-b-eq0.true)))
+returns-then-b-eq0 c = sym (when _ _ _ (eq-eqb _ _ (sym c.extra_end-b.ensures.same ∙ c.if-b-eq0.true)))
 
 pub returns : goal.returns
 unfolding extras_end
 returns c =
-    c.extra_end.ensures.0
+    c.extra_end.ensures.same
     ∙ ap (λ (x : ℕ). extra_end c.args.d.now c.args.k
-    x C0) c.extra_end-b.ensures.0
-    ∙ sym (unless _ _ _ (ne_eqb _ _ (λ e. c.if-b-eq0.false (c.extra_end-b.ensures.0 ∙ e))))
+    x C0) c.extra_end-b.ensures.same
+    ∙ sym (unless _ _ _ (ne_eqb _ _ (λ e. c.if-b-eq0.false (c.extra_end-b.ensures.same ∙ e))))

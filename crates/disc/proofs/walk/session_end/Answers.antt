@@ -29,7 +29,7 @@ pub returns-then-end-eq0 : goal.returns-then-end-eq0
 returns-then-end-eq0 c =
     session_end_not _ _ _ _
     (λ s n. false≢true
-    (sym (tracks_end-none _ _ _ _ _ (sym c.tracks_end-end.ensures.0 ∙ c.if-end-eq0.true)) ∙ session_kept-tracks _ _ _ s))
+    (sym (tracks_end-none _ _ _ _ _ (sym c.tracks_end-end.ensures.same ∙ c.if-end-eq0.true)) ∙ session_kept-tracks _ _ _ s))
 
 pub returns-then-heads_kept : goal.returns-then-heads_kept
 returns-then-heads_kept c =
@@ -40,7 +40,7 @@ returns-then-heads_kept c =
     (sym c.wide.ensures.same
     ∙ c.if-wide-next.false)
     (omega arith) (omega arith) (sym c.heads_kept.ensures ∙ c.if-heads_kept.true)
-    c.tracks_end-end.ensures.0 c.if-end-eq0.false c.tracks_end-end.ensures.1.1
+    c.tracks_end-end.ensures.same c.if-end-eq0.false c.tracks_end-end.ensures.within.1
 
 pub returns : goal.returns
 returns c =
