@@ -15,12 +15,6 @@ use Rattle.cue.proofs.made.put_tracks.Goals as goal
 pub loop-i-init : goal.loop-i-init
 loop-i-init c = (omega arith, omega arith, refl, rw rows_of-none (laid_none _), refl)
 
-pub overflow-add-loop : goal.overflow-add-loop
-overflow-add-loop c = let g = c.shared_slice_known-1.given in omega arith
-
-pub overflow-sub-put-entry : goal.overflow-sub-put-entry
-overflow-sub-put-entry c = laid-within c.loop-i.invariant.3
-
 pub overflow_add-at : goal.overflow_add-at
 overflow_add-at c =
     let m = laid_more c.loop-i.invariant.3 c.put_entry-at.ensures in

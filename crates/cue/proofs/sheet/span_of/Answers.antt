@@ -12,9 +12,6 @@ use Rattle.cue.proofs.sheet.span_of.Goals as goal
 pub loop-i-init : goal.loop-i-init
 loop-i-init c = (omega arith, omega arith, refl, c.no_span-span.ensures ∙ sym (span_of-none _))
 
-pub overflow-add-loop : goal.overflow-add-loop
-overflow-add-loop c = let g = c.shared_slice_known-1.given in omega arith
-
 pub loop-i-preserved : goal.loop-i-preserved
 loop-i-preserved c =
     let l = c.loop-i in

@@ -7,9 +7,6 @@ use Rattle.cue.specs.SpanLaws.{is_run, is_run-numbered}
 use Rattle.cue.specs.WriteLaws.{turned-refuse, whole_answer-described, whole_answer_not}
 use Rattle.cue.proofs.write.write_whole.Goals as goal
 
-pub overflow-sub-entry-at : goal.overflow-sub-entry-at
-overflow-sub-entry-at c = let d = is_described_parts _ (sym c.is_described.ensures ∙ c.if-is_described.true) in omega arith
-
 pub entry_at-last-requires : goal.entry_at-last-requires
 entry_at-last-requires c = let d = is_described_parts _ (sym c.is_described.ensures ∙ c.if-is_described.true) in omega arith
 
@@ -26,3 +23,6 @@ returns-then-is_described c =
 
 pub returns : goal.returns
 returns c = rw (whole_answer_not _ (sym c.is_described.ensures ∙ c.if-is_described.false)) (turned-refuse _ _ c.refuse.ensures)
+
+pub overflow_sub-s : goal.overflow_sub-s
+overflow_sub-s c = let d = is_described_parts _ (sym c.is_described.ensures ∙ c.if-is_described.true) in omega arith

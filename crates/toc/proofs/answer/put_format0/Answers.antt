@@ -19,16 +19,16 @@ few c =
     let w = shown_count-within x.n x.d.now (rows x.d.now) in
     omega arith
 
-pub overflow-mul-put-head : goal.overflow-mul-put-head
-overflow-mul-put-head c = let k = few (goal.at.overflow-mul-put-head c).After-shown_count-k in let g = c.shared_slice_known-1.given in omega arith
+pub overflow_mul-k : goal.overflow_mul-k
+overflow_mul-k c = let k = few (goal.at.overflow_mul-k c).After-shown_count-k in omega arith
 
-pub overflow-add-put-head : goal.overflow-add-put-head
-overflow-add-put-head c = let k = few (goal.at.overflow-add-put-head c).After-shown_count-k in let g = c.shared_slice_known-1.given in omega arith
+pub overflow_add-k : goal.overflow_add-k
+overflow_add-k c = let k = few (goal.at.overflow_add-k c).After-shown_count-k in omega arith
 
-pub overflow-add-put-head-2 : goal.overflow-add-put-head-2
-overflow-add-put-head-2 c = let k = few (goal.at.overflow-add-put-head-2 c).After-shown_count-k in let g = c.shared_slice_known-1.given in omega arith
+pub overflow_add-k-2 : goal.overflow_add-k-2
+overflow_add-k-2 c = let k = few (goal.at.overflow_add-k-2 c).After-shown_count-k in omega arith
 
 pub returns : goal.returns
 returns c = let x = c.args in
     rw (format0_laid x.disc x.msf x.n x.d.now c.shown_count-k.result c.shown_count-k.ensures)
-    (laid_more (laid_more c.put_head-at.ensures c.put_all.ensures) c.put_described-at.ensures)
+    (laid_more (laid_more c.put_head-at.ensures c.put_all-at.ensures) c.put_described-at.ensures)

@@ -13,9 +13,6 @@ use Rattle.toc.proofs.shown.put_all.Goals as goal
 pub loop-j-init : goal.loop-j-init
 loop-j-init c = (omega arith, refl, rw listed-none (laid_none _), refl)
 
-pub overflow-sub-put-one : goal.overflow-sub-put-one
-overflow-sub-put-one c = laid-within c.loop-j.invariant.2
-
 pub overflow_add-at : goal.overflow_add-at
 overflow_add-at c =
     let m = laid_more c.loop-j.invariant.2 c.put_one-at.ensures in
