@@ -28,36 +28,28 @@ loop-i-preserved c =
     let l = c.loop-i in
     (omega arith, rw l.invariant.1 at c.pass-r.ensures ∙ sym (run_at-next _ _))
 
--- all are passed
-done :
-    (c : tie.After-loop invariant-loop decreases-loop)
-    → (c.before.loop.r.from ≤ session_lead_out c.before.before.before.before.args.s.now)
-    × (blocks_to (session_lead_out c.before.before.before.before.args.s.now) c.before.loop.r
-    ≤ session_lead_out c.before.before.before.before.args.s.now)
-    × (blocks_to (session_lead_out c.before.before.before.before.args.s.now) c.before.loop.r
-    ≡ sum_below c.before.before.before.before.args.n
-    (track_blocks Data c.before.before.before.before.args.s.now c.before.before.before.before.args.n))
-done c =
-    let l = c.before.loop in
-    run-done _ _ l.i c.before.before.before.before.requires.1 (let m = l.invariant.0 in let t = c.loop-test.false in omega arith) l.invariant.1
-
 pub overflow_sub-result : goal.overflow_sub-result
-overflow_sub-result c = let d = (done c).0 in let e = c.address_at.ensures in omega arith
+overflow_sub-result c =
+    let d = run-done _ _ c.loop-i.i c.requires.1 (let m = c.loop-i.invariant.0 in let t = c.loop-i-test.false in omega arith) c.loop-i.invariant.1 in
+    let f = d.0 in
+    let e = c.address_at.ensures in
+    omega arith
 
 pub overflow_add-result : goal.overflow_add-result
 overflow_add-result c =
-    let d = (done c).1 in
+    let d = run-done _ _ c.loop-i.i c.requires.1 (let m = c.loop-i.invariant.0 in let t = c.loop-i-test.false in omega arith) c.loop-i.invariant.1 in
+    let f = d.1 in
     let e = c.address_at.ensures in
-    let k = c.address_at.type-inv in
-    let b =
-    blocks_to_on (session_lead_out c.args.s.now)
-    c.loop-i.r c.if-r.true in
+    let k = c.address_at.type_inv in
+    let b = blocks_to_on (session_lead_out c.args.s.now) c.loop-i.r c.if-r.true in
     omega arith
 
 pub returns-then-r : goal.returns-then-r
 returns-then-r c =
-    rw c.address_at.ensures
-    (sym (blocks_to_on _ _ c.if-r.true) ∙ (done c).2)
+    let d = run-done _ _ c.loop-i.i c.requires.1 (let m = c.loop-i.invariant.0 in let t = c.loop-i-test.false in omega arith) c.loop-i.invariant.1 in
+    rw c.address_at.ensures (sym (blocks_to_on _ _ c.if-r.true) ∙ d.2)
 
 pub returns : goal.returns
-returns c = sym (blocks_to_off _ _ c.if-r.false) ∙ (done c).2
+returns c =
+    let d = run-done _ _ c.loop-i.i c.requires.1 (let m = c.loop-i.invariant.0 in let t = c.loop-i-test.false in omega arith) c.loop-i.invariant.1 in
+    sym (blocks_to_off _ _ c.if-r.false) ∙ d.2

@@ -18,58 +18,6 @@ use Rattle.shelf.proofs.content.held_by.Goals as goal
 part : (t : List ℕ) (at : ℕ) → take (length (take (length t - 4) (drop 4 t)) - at) (drop at (take (length t - 4) (drop 4 t))) ≡ drop at (descriptors t)
 part t at = rw (rest_all 4 t) (rest_all at (drop 4 t))
 
--- the session that begins there
-here :
-    (c : tie.In-loop invariant-loop decreases-loop)
-    → IsSession (c.before.loop.k + 1) (drop c.before.loop.at (descriptors c.before.before.before.before.before.args.t.now))
-here c = summed-here c.before.before.before.before.before.requires c.before.loop.invariant c.loop-test.true
-
-pub overflow-sub-s : goal.overflow-sub-s
-overflow-sub-s c = rw (rest_all 4 c.args.t.now) c.loop-k.invariant.walked.within
-
-pub address_at-requires : goal.address_at-requires
-address_at-requires c =
-    rw (part c.args.t.now c.loop-k.at)
-    (let s = here c in let l = size_least s in let f = s.fits in omega arith)
-
--- what its first track's start is
-start :
-    (c : tie.After-address-at invariant-loop decreases-loop)
-    → c.address-at.result
-    ≡ Rattle.disc.specs.Rules.track_start
-    (drop c.before.before.before.loop.at (descriptors c.before.before.before.before.before.before.before.args.t.now)) 0
-start c =
-    rw (part c.before.before.before.before.before.before.before.args.t.now c.before.before.before.loop.at) at
-    c.address-at.ensures
-
-pub overflow_sub-of_none : goal.overflow_sub-of_none
-overflow_sub-of_none c =
-    let b =
-    summed-begins c.requires c.loop-k.invariant
-    c.loop-k-test.true in
-    let e = start c in
-    omega arith
-
-pub overflow_add-of_none : goal.overflow_add-of_none
-overflow_add-of_none c =
-    let f = c.requires in
-    let n = summed-next f c.loop-k.invariant c.loop-k-test.true refl refl refl (start c) in
-    let m = (summed-most f n).1 in
-    omega arith
-
-pub data_of-of_data-requires : goal.data_of-of_data-requires
-unfolding size
-data_of-of_data-requires c =
-    rw (part c.args.t.now c.loop-k.at)
-    (let s = here c in
-    let o = s.order in
-    let l = s.fits in (
-      o,
-      omega arith,
-      summed-rises c.requires c.loop-k.invariant
-          c.loop-k-test.true,
-    ))
-
 pub overflow_add-of_data : goal.overflow_add-of_data
 overflow_add-of_data c =
     let f = c.requires in
@@ -78,26 +26,6 @@ overflow_add-of_data c =
     c.data_of-of_data.ensures in
     let n = summed-next f c.loop-k.invariant c.loop-k-test.true refl refl e refl in
     let m = (summed-most f n).0 in
-    omega arith
-
-pub address_at-out-requires : goal.address_at-out-requires
-address_at-out-requires c =
-    rw (part c.args.t.now c.loop-k.at)
-    (let s = here c in let l = size_least s in let f = s.fits in omega arith)
-
-pub loop-k-preserved : goal.loop-k-preserved
-loop-k-preserved c =
-    let l = c.loop-k in
-    let p = part c.args.t.now l.at in
-    summed-next c.requires l.invariant
-    c.loop-k-test.true (rw p at c.session_bytes-at.ensures) (rw p at
-    c.address_at-out.ensures) (rw p at c.data_of-of_data.ensures) (start c)
-
-pub overflow_add-at : goal.overflow_add-at
-overflow_add-at c =
-    let w = (loop-again c).walked.within in
-    let d = length-drop 4 c.args.t.now in
-    let m = (fit_sized c.requires).most in
     omega arith
 
 pub overflow_add-k : goal.overflow_add-k
@@ -110,3 +38,62 @@ pub returns : goal.returns
 returns c =
     let a = summed-all c.requires c.loop-k.invariant c.loop-k-test.false in
     rw (a.0, a.1)
+
+pub bounds-t-3 : goal.bounds-t-3
+bounds-t-3 c = let l = (fit_sized c.requires).least in omega arith
+
+pub slice_bounds-d-count : goal.slice_bounds-d-count
+slice_bounds-d-count c = (fit_sized c.requires).least
+
+pub slice_bounds-d-start : goal.slice_bounds-d-start
+slice_bounds-d-start c = (fit_sized c.requires).least
+
+pub loop-k-init : goal.loop-k-init
+loop-k-init c = summed-none _
+
+pub address_at-requires : goal.address_at-requires
+address_at-requires c =
+    rw (part c.args.t.now c.loop-k.at)
+    (let s = summed-here c.requires c.loop-k.invariant c.loop-k-test.true in let l = size_least s in let f = s.fits in omega arith)
+
+pub overflow_sub-of_none : goal.overflow_sub-of_none
+overflow_sub-of_none c =
+    let b = summed-begins c.requires c.loop-k.invariant c.loop-k-test.true in
+    let e = rw (part c.args.t.now c.loop-k.at) at c.address_at.ensures in
+    omega arith
+
+pub overflow_add-of_none : goal.overflow_add-of_none
+overflow_add-of_none c =
+    let f = c.requires in
+    let e = rw (part c.args.t.now c.loop-k.at) at c.address_at.ensures in
+    let n = summed-next f c.loop-k.invariant c.loop-k-test.true refl refl refl e in
+    let m = (summed-most f n).1 in
+    omega arith
+
+pub data_of-of_data-requires : goal.data_of-of_data-requires
+unfolding size
+data_of-of_data-requires c =
+    rw (part c.args.t.now c.loop-k.at)
+    (let s = summed-here c.requires c.loop-k.invariant c.loop-k-test.true in
+    let o = s.order in
+    let l = s.fits in (o, omega arith, summed-rises c.requires c.loop-k.invariant c.loop-k-test.true))
+
+pub address_at-out-requires : goal.address_at-out-requires
+address_at-out-requires c =
+    rw (part c.args.t.now c.loop-k.at)
+    (let s = summed-here c.requires c.loop-k.invariant c.loop-k-test.true in let l = size_least s in let f = s.fits in omega arith)
+
+pub loop-k-preserved : goal.loop-k-preserved
+loop-k-preserved c =
+    let p = part c.args.t.now c.loop-k.at in
+    summed-next c.requires c.loop-k.invariant c.loop-k-test.true
+    (rw p at c.session_bytes-at.ensures) (rw p at c.address_at-out.ensures) (rw p at c.data_of-of_data.ensures) (rw p at c.address_at.ensures)
+
+pub overflow_add-at : goal.overflow_add-at
+overflow_add-at c =
+    let p = part c.args.t.now c.loop-k.at in
+    let n = summed-next c.requires c.loop-k.invariant c.loop-k-test.true (rw p at c.session_bytes-at.ensures) refl refl refl in
+    let w = n.walked.within in
+    let d = length-drop 4 c.args.t.now in
+    let m = (fit_sized c.requires).most in
+    omega arith

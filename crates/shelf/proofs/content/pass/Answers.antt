@@ -14,15 +14,6 @@ returns-then-is_data c =
     rw c.address_at.ensures
     (run_past-begins _ _ _ (sym c.is_data.ensures ∙ c.if-is_data.true) c.if-r.false)
 
-pub overflow-add-t15 : goal.overflow-add-t15
-overflow-add-t15 c =
-    let p = c.requires in
-    let e = c.address_at-then-r-2.ensures in
-    let a = c.args in
-    let b = blocks_to_on (track_start a.s.now a.i) a.r c.if-r-2.true in
-    let k = c.address_at-then-r-2.type-inv in
-    omega arith
-
 pub returns-then-r-2 : goal.returns-then-r-2
 returns-then-r-2 c =
     rw c.address_at-then-r-2.ensures
@@ -31,3 +22,12 @@ returns-then-r-2 c =
 
 pub returns : goal.returns
 returns c = run_past-off _ _ _ (sym c.is_data.ensures ∙ c.if-is_data.false) c.if-r-2.false
+
+pub overflow_add-result : goal.overflow_add-result
+overflow_add-result c =
+    let p = c.requires in
+    let e = c.address_at-then-r-2.ensures in
+    let a = c.args in
+    let b = blocks_to_on (track_start a.s.now a.i) a.r c.if-r-2.true in
+    let k = c.address_at-then-r-2.type_inv in
+    omega arith

@@ -14,11 +14,9 @@ slice_bounds-count_whole-end-2 c =
 
 pub keep-requires : goal.keep-requires
 keep-requires c =
-    let u = passed_used _ _ (sym c.in-On.is ∙ c.count_whole.ensures.0) in
+    let u = passed_used _ _ (sym c.in-On.is ∙ c.count_whole.ensures.same) in
     let e = c.smaller-n.ensures in
-    let l =
-    length-take c.smaller-n.result
-    c.args.room.now in
+    let l = length-take c.smaller-n.result c.args.room.now in
     (omega arith, omega arith)
 
 pub returns-in-On : goal.returns-in-On
@@ -30,13 +28,11 @@ returns-in-On c =
     let k = c.keep.ensures in
     let e = n.ensures in
     let l : length (take n.result a.room.now) ≡ n.result = let t = length-take n.result a.room.now in omega arith in
-    (took_of _ _ a.end e (sym g ∙ w.0) k.0 k.1, taken_short k.0 g l w.1)
+    record { taken = took_of _ _ a.end e (sym g ∙ w.same) k.0 k.1; short = taken_short k.0 g l w.short }
 
 pub returns-in-Over : goal.returns-in-Over
 returns-in-Over c =
     let a = c.args in
     let n = c.smaller-n in
-    let o = took-over a.room.now (take n.result a.room.now) n.result in (
-      took_of _ _ a.end n.ensures (sym c.in-Over.is ∙ c.count_whole.ensures.0) o.0 o.1,
-      o.2,
-    )
+    let o = took-over a.room.now (take n.result a.room.now) n.result in
+    record { taken = took_of _ _ a.end n.ensures (sym c.in-Over.is ∙ c.count_whole.ensures.same) o.0 o.1; short = o.2 }

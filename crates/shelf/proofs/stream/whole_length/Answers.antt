@@ -18,21 +18,21 @@ told c = let e = c.word16-n.ensures in omega arith
 pub overflow_add-n : goal.overflow_add-n
 overflow_add-n c =
     let e = c.word16-n.ensures in
-    let h = c.shared_slice_known-3-1.given 0 in
-    let l = c.shared_slice_known-3-1.given 1 in
+    let h = c.type_inv.s 0 in
+    let l = c.type_inv.s 1 in
     omega arith
 
 pub returns-then-n-s : goal.returns-then-n-s
 returns-then-n-s c =
     let e = told (goal.at.returns-then-n-s c).After-word16-n in
-    let h = c.shared_slice_known-3-1.given 0 in
-    let l = c.shared_slice_known-3-1.given 1 in
+    let h = c.type_inv.s 0 in
+    let l = c.type_inv.s 1 in
     let q = whole_length-whole c.args.s.now (let t = c.if-n-s.true in omega arith) in
     omega arith
 
 pub returns : goal.returns
 returns c =
     let e = told (goal.at.returns c).After-word16-n in
-    let h = c.shared_slice_known-3-1.given 0 in
-    let l = c.shared_slice_known-3-1.given 1 in
+    let h = c.type_inv.s 0 in
+    let l = c.type_inv.s 1 in
     sym (whole_length-cut c.args.s.now (let t = c.if-n-s.false in omega arith))

@@ -10,3 +10,6 @@ returns-then-is_within c = ap Is c.sum.ensures ∙ sym (bounded_is _ (sym c.is_w
 
 pub returns : goal.returns
 returns c = sym (bounded-over _ (sym c.is_within.ensures ∙ c.if-is_within.false))
+
+pub sum-requires : goal.sum-requires
+sum-requires c = within_parts (sym c.is_within.ensures ∙ c.if-is_within.true)
