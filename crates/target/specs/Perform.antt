@@ -1,35 +1,31 @@
 -- Steps 3 to 5: what a packet comes to that is performed. (INQUIRY and 4Ah also with an attention pending, any other once none is.)
-use Prim.Native.Nat.{ℕ}
-use mathlib.Core.Path.{_≡_}
-use mathlib.Core.Bool.{not}
-use mathlib.Core.List.{List, []}
-use lib.ListN.{take}
-use Rattle·ground.specs.Tests.{_and_, if_then_else_}
-use Rattle·ground.specs.Memory.{fill}
-use Rattle·deck.specs.declared.Deck.{Deck}
-use Rattle·deck.specs.Deck.{isLoaded}
-use Rattle·table.specs.Layout.{descriptors}
-use Rattle·disc.specs.Rules.{leadOut}
-use Rattle·tracks.specs.declared.track.Mode.the-variants.{Data, Audio}
-use Rattle·tracks.specs.Track.{trackOf, allIn}
-use Rattle·disc.specs.Disc.{lastPart}
-use Rattle·gate.specs.declared.fault.Fault.the-variants.{UnknownCode}
-use Rattle·gate.specs.Gate.{Result, fails, goes}
-use Rattle·command.specs.declared.decode.Command.{Command}
-use Rattle·command.specs.declared.decode.Command.the-variants.{TestUnitReady, RequestSense, Inquiry, StartStop, Prevent, ReadCapacity, Read10, Seek, ReadToc, Read12, PlayAudio, PauseResume, ReadSubChannel, ModeSense, ModeSelect, GetEvent, Unknown}
-use Rattle·command.specs.declared.done.Done.{Done}
-use Rattle·command.specs.Command.{byte, bit0, needsDisc, addressIn, count10, count12, lengthIn}
-use Rattle·command.specs.Tray.{startStop, prevent, noMedium}
-use Rattle·command.specs.Inquiry.{inquiry}
-use Rattle·command.specs.Done.{done, doneOf}
-use Rattle·blocks.specs.Blocks.{readCapacity, seek, read}
-use Rattle·audio.specs.declared.sub_channel.SubAsk.{SubAsk}
-use Rattle·audio.specs.Audio.{play, pauseResume}
-use Rattle·audio.specs.SubChannel.{subAskIn, readSubChannel}
-use Rattle·mode.specs.ModeSense.{modeSense}
-use Rattle·mode.specs.ModeSelect.{modeSelect}
-use Rattle·event.specs.EventAnswer.{getEvent}
-use Rattle·target·specs.ReadToc.{readToc}
+use Rattle.std.specs.Prelude.{ℕ, ◌≡◌, not, List, [], take}
+use Rattle.ground.specs.Tests.{◌and◌, if◌then◌else◌}
+use Rattle.ground.specs.Memory.{fill}
+use Rattle.deck.specs.declared.Deck.{Deck}
+use Rattle.deck.specs.Deck.{isLoaded}
+use Rattle.table.specs.Layout.{descriptors}
+use Rattle.disc.specs.Rules.{leadOut}
+use Rattle.tracks.specs.declared.track.Mode.TheVariants.{Data, Audio}
+use Rattle.tracks.specs.Track.{trackOf, allIn}
+use Rattle.disc.specs.Disc.{lastPart}
+use Rattle.gate.specs.declared.fault.Fault.TheVariants.{UnknownCode}
+use Rattle.gate.specs.Gate.{Result, fails, goes}
+use Rattle.command.specs.declared.decode.Command.{Command}
+use Rattle.command.specs.declared.decode.Command.TheVariants.{TestUnitReady, RequestSense, Inquiry, StartStop, Prevent, ReadCapacity, Read10, Seek, ReadToc, Read12, PlayAudio, PauseResume, ReadSubChannel, ModeSense, ModeSelect, GetEvent, Unknown}
+use Rattle.command.specs.declared.done.Done.{Done}
+use Rattle.command.specs.Command.{byte, bit0, needsDisc, addressIn, count10, count12, lengthIn}
+use Rattle.command.specs.Tray.{startStop, prevent, noMedium}
+use Rattle.command.specs.Inquiry.{inquiry}
+use Rattle.command.specs.Done.{done, done_of}
+use Rattle.blocks.specs.Blocks.{readCapacity, seek, read}
+use Rattle.audio.specs.declared.sub_channel.SubAsk.{SubAsk}
+use Rattle.audio.specs.Audio.{play, pauseResume}
+use Rattle.audio.specs.SubChannel.{subAskIn, readSubChannel}
+use Rattle.mode.specs.ModeSense.{modeSense}
+use Rattle.mode.specs.ModeSelect.{modeSelect}
+use Rattle.event.specs.EventAnswer.{getEvent}
+use Rattle.target.specs.ReadToc.{readToc}
 
 -- "L is the last session's lead-out."
 abbrev pub L : List ℕ → ℕ
@@ -45,7 +41,7 @@ plays a n m t = play (allIn Audio (descriptors t) a n) a n (L t) m
 
 -- K2: READ SUB-CHANNEL, of the position's track on the disc of the table lent now
 abbrev pub tells : SubAsk → ℕ → Deck → List ℕ → Result Deck
-tells ask limit m t = readSubChannel ask (trackOf (descriptors t) (m .play .position)) limit m
+tells ask limit m t = readSubChannel ask (trackOf (descriptors t) m.play.position) limit m
 
 -- step 5: each command's own work; K4: l is the lent parameter list, which MODE SELECT alone looks at (REQUEST SENSE never comes here:
 -- `steps_by` answers it by `requestSense`)
@@ -79,7 +75,7 @@ abbrev pub written : Result Deck → List ℕ
 written (fails f) = []
 written (goes next loading full limit start count) = take limit full
 
--- the code's answer o and the memory m′ are what the result says, of the memory m
-pub record Performed (r : Result Deck) (m : List ℕ) (o : Done) (m′ : List ℕ) : Type 0 where
-  pub outcome : o ≡ doneOf r
-  pub memory : m′ ≡ fill m (written r)
+-- the code's answer o and the memory m' are what the result says, of the memory m
+pub record Performed (r : Result Deck) (m : List ℕ) (o : Done) (m' : List ℕ) : Type 0 where
+  pub outcome : o ≡ done_of r
+  pub memory : m' ≡ fill m (written r)
