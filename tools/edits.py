@@ -152,6 +152,12 @@ def tight(text):
 
 
 class Spelling:
+    def clause(self, text, result):
+        """A clause that speaks of no & or &mut."""
+        if result:
+            text = re.sub(rf"(?<![\w.'-]){result}(?![\w'-])", "result", text)
+        return self.text(text, True)
+
     def __init__(self):
         self.map, self.odd = names()
         self.map.update(PLAIN)
@@ -161,7 +167,7 @@ class Spelling:
 
     def text(self, text, antt):
         if not antt:
-            return text
+            return re.sub(r"(ensures|requires) \{ (?:λ (\w+)\. )?⌜ (.*?) ⌝ \}", lambda m: f"{m[1]} {{ {self.clause(m[3], m[2])} }}", text)
         text = TOKEN.sub(lambda m: self.name(m[0]), text)
         text = re.sub(r"«(\w+)»", r"\1", text)
         text = re.sub(r"(?<![\w'])_(\S+?)_(?![\w'])", r"◌\1◌", text)
@@ -178,7 +184,7 @@ def read(text):
             file = line[6:].strip()
         elif line.startswith("old: "):
             old = line[5:]
-        elif line.startswith("new: "):
+        elif line.startswith("new:"):
             out.append((file, old, line[5:]))
         elif line:
             head.append(line)
@@ -191,7 +197,7 @@ def written(head, pairs):
         if f != file:
             out.append("file: " + f)
             file = f
-        out += ["old: " + old, "new: " + new]
+        out += ["old: " + old, ("new: " + new).rstrip(" ") if not new else "new: " + new]
     return "\n".join(out) + "\n"
 
 
