@@ -286,4 +286,5 @@ def main():
     return 1 if wrong else 0
 
 
-raise SystemExit(main())
+if __name__ == "__main__":
+    raise SystemExit(main())
