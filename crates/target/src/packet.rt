@@ -1,40 +1,24 @@
 // One packet met by the drive, its lent table, its parameter list and its response memory.
+ghost use Rattle.std.specs.Prelude.{◌≡◌, true, ◌≤◌, length};
+ghost use Rattle.drive.specs.State.{is_known_state};
+ghost use Rattle.table.specs.Layout.{bound};
+ghost use Rattle.gate.specs.Gate.{request_sense, pass, gate};
+ghost use Rattle.target.specs.Perform.{perform};
+ghost use Rattle.outcome.specs.Outcome.{Answered};
+ghost use Rattle.target.specs.Packet.{answer};
+ghost use Rattle.target.specs.PerformLaws.{Ready};
+ghost use Rattle.target.specs.PacketLaws.{unread, steps_of};
+
 use crate::perform::perform;
-use command::decode::Command;
-use command::decode::Kind;
-use command::decode::decode;
-use command::decode::kind_of;
-use disc::disc::Disc;
-use disc::disc::Reading;
-use disc::disc::read;
+use command::decode::{Command, Kind, decode, kind_of};
+use disc::disc::{Disc, Reading, read};
 use disc::part::UNFIT;
-use drive::state::Drive;
-use drive::state::UNKNOWN_STATE;
-use gate::unit::Pending;
-use gate::unit::clear;
-use gate::unit::first_pending;
-use gate::unit::give;
-use gate::unit::sense_bytes;
+use drive::state::{Drive, UNKNOWN_STATE};
+use gate::unit::{Pending, clear, first_pending, give, sense_bytes};
 use ground::memory::put_cut;
 use ground::number::wide;
-use outcome::Outcome;
-use outcome::finish;
-use outcome::good;
-use outcome::refuse;
-use outcome::tell;
+use outcome::{Outcome, finish, good, refuse, tell};
 use table::layout::BOUND;
-ghost use mathlib.Core.Path.{_≡_};
-ghost use mathlib.Core.Bool.{true};
-ghost use Prim.Native.Nat.{_≤_};
-ghost use lib.ListN.{length};
-ghost use Rattle·drive.specs.State.{isKnownState};
-ghost use Rattle·table.specs.Layout.{bound};
-ghost use Rattle·gate.specs.Gate.{requestSense, pass, gate};
-ghost use Rattle·target·specs.Perform.{perform};
-ghost use Rattle·outcome.specs.Outcome.{Answered};
-ghost use Rattle·target·specs.Packet.{answer};
-ghost use Rattle·target·specs.PerformLaws.{Ready};
-ghost use Rattle·target·specs.PacketLaws.{unread, stepsOf};
 
 // The refusals that only packets give.
 pub const NOT_TWELVE: u8 = 1;
@@ -43,8 +27,8 @@ pub const SHORT_MEMORY: u8 = 3;
 
 // REQUEST SENSE: the 18 bytes, cut to the length asked for.
 fn ask_sense(d: Drive, limit: usize, mem: &mut [u8]) -> Outcome
-    requires { ⌜ bound ≤ length (now mem) ⌝ }
-    ensures { λ r. ⌜ Answered (requestSense limit (d .unit) (d .deck)) (now (mem .entry)) r (now (mem .exit)) ⌝ }
+    requires { bound ≤ length mem.old }
+    ensures { Answered (request_sense limit d.unit d.deck) mem.old result mem.new }
 {
     let deck = d.deck;
     let g = give(d.unit);
@@ -64,8 +48,8 @@ fn passed(
     disc: Disc,
     mem: &mut [u8],
 ) -> Outcome
-    requires { ⌜ Ready (d .deck) (now p) (now t) disc (now mem) ⌝ }
-    ensures { λ r. ⌜ Answered (pass (d .unit) (d .deck) (perform c (now (p .entry)) (d .deck) (now (t .entry)) (now (list .entry)))) (now (mem .entry)) r (now (mem .exit)) ⌝ }
+    requires { Ready d.deck p.now t.now disc mem.old }
+    ensures { Answered (pass d.unit d.deck (perform c p.now d.deck t.now list.now)) mem.old result mem.new }
 {
     let unit = d.unit;
     let deck = d.deck;
@@ -83,8 +67,8 @@ fn gated(
     disc: Disc,
     mem: &mut [u8],
 ) -> Outcome
-    requires { ⌜ Ready (d .deck) (now p) (now t) disc (now mem) ⌝ }
-    ensures { λ r. ⌜ Answered (gate (d .unit) (d .deck) (perform c (now (p .entry)) (d .deck) (now (t .entry)) (now (list .entry)))) (now (mem .entry)) r (now (mem .exit)) ⌝ }
+    requires { Ready d.deck p.now t.now disc mem.old }
+    ensures { Answered (gate d.unit d.deck (perform c p.now d.deck t.now list.now)) mem.old result mem.new }
 {
     let unit = d.unit;
     let deck = d.deck;
@@ -101,8 +85,8 @@ fn gated(
 
 // The steps, by how the command meets a pending attention.
 fn steps(d: Drive, p: &[u8], t: &[u8], list: &[u8], disc: Disc, mem: &mut [u8]) -> Outcome
-    requires { ⌜ Ready (d .deck) (now p) (now t) disc (now mem) ⌝ }
-    ensures { λ r. ⌜ Answered (stepsOf d (now (p .entry)) (now (t .entry)) (now (list .entry))) (now (mem .entry)) r (now (mem .exit)) ⌝ }
+    requires { Ready d.deck p.now t.now disc mem.old }
+    ensures { Answered (steps_of d p.now t.now list.now) mem.old result mem.new }
 {
     let c = decode(p[0]);
     match kind_of(c) {
@@ -114,7 +98,7 @@ fn steps(d: Drive, p: &[u8], t: &[u8], list: &[u8], disc: Disc, mem: &mut [u8]) 
 
 // No disc was read.
 fn unread() -> Disc
-    ensures { λ r. ⌜ r ≡ unread ⌝ }
+    ensures { result ≡ unread }
 {
     Disc {
         first: 0,
@@ -130,8 +114,8 @@ fn unread() -> Disc
 
 // Refusal 4, with the broken rule: a loaded drive's table is read first.
 fn meet(d: Drive, p: &[u8], t: &[u8], list: &[u8], mem: &mut [u8]) -> Outcome
-    requires { ⌜ (length (now p) ≡ 12) × (isKnownState d ≡ true) × (bound ≤ length (now mem)) ⌝ }
-    ensures { λ r. ⌜ Answered (answer d (now (p .entry)) (now (t .entry)) (now (list .entry)) (length (now (mem .entry)))) (now (mem .entry)) r (now (mem .exit)) ⌝ }
+    requires { (length p.now ≡ 12) × (is_known_state d ≡ true) × (bound ≤ length mem.old) }
+    ensures { Answered (answer d p.now t.now list.now (length mem.old)) mem.old result mem.new }
 {
     if d.deck.is_loaded() {
         return match read(t) {
@@ -144,7 +128,7 @@ fn meet(d: Drive, p: &[u8], t: &[u8], list: &[u8], mem: &mut [u8]) -> Outcome
 
 // A packet met by the drive, with a disc table, a parameter list and a response memory: the refusals 1, 2, 3, 4 in order, then the steps.
 pub fn packet(d: Drive, p: &[u8], t: &[u8], list: &[u8], mem: &mut [u8]) -> Outcome
-    ensures { λ r. ⌜ Answered (answer d (now (p .entry)) (now (t .entry)) (now (list .entry)) (length (now (mem .entry)))) (now (mem .entry)) r (now (mem .exit)) ⌝ }
+    ensures { Answered (answer d p.now t.now list.now (length mem.old)) mem.old result mem.new }
 {
     if p.len() == 12 {
         if d.is_known_state() {

@@ -1,51 +1,40 @@
 // Steps 3 to 5: what each command does that is performed.
+ghost use Rattle.std.specs.Prelude.{◌≡◌, ◌+◌, ◌≤◌, length};
+ghost use Rattle.ground.specs.Tests.{◌and◌};
+ghost use Rattle.table.specs.Layout.{descriptors};
+ghost use Rattle.tracks.specs.Track.{all_in};
+ghost use Rattle.blocks.specs.Range.{in_range};
+ghost use Rattle.command.specs.Command.{word_at};
+ghost use Rattle.command.specs.Done.{answering, done_of};
+ghost use Rattle.target.specs.FitFacts.{ReadOff};
+ghost use Rattle.target.specs.PerformLaws.{Met, Ready};
+ghost use Rattle.target.specs.Perform.{Performed, L, reads, plays, work, perform};
+
 use crate::get_event::get_event;
 use crate::mode_sense::mode_sense;
 use crate::read_sub_channel::read_sub_channel;
 use crate::read_toc::read_toc;
-use audio::audio::pause_resume;
-use audio::audio::play_blocks;
-use blocks::blocks::capacity_bytes;
-use blocks::blocks::read_blocks;
-use blocks::blocks::seek;
+use audio::audio::{pause_resume, play_blocks};
+use blocks::blocks::{capacity_bytes, read_blocks, seek};
 use blocks::range::in_range;
-use command::decode::Command;
-use command::decode::needs_disc;
-use command::done::Done;
-use command::done::Went;
-use command::done::done_with;
+use command::decode::{Command, needs_disc};
+use command::done::{Done, Went, done_with};
 use command::field::bit0;
 use command::inquiry::inquiry_bytes;
-use command::tray::no_medium;
-use command::tray::prevent;
-use command::tray::start_stop;
+use command::tray::{no_medium, prevent, start_stop};
 use deck::Deck;
 use disc::disc::Disc;
 use gate::fault::Fault;
 use ground::memory::put_cut;
-use ground::number::wide;
-use ground::number::word16;
-use ground::number::word32;
+use ground::number::{wide, word16, word32};
 use mode::mode_select::mode_select;
 use tracks::run::run_is;
 use tracks::track::Mode;
-ghost use mathlib.Core.Path.{_≡_};
-ghost use Prim.Native.Nat.{_+_, _≤_};
-ghost use lib.ListN.{length};
-ghost use Rattle·ground.specs.Tests.{_and_};
-ghost use Rattle·table.specs.Layout.{descriptors};
-ghost use Rattle·tracks.specs.Track.{allIn};
-ghost use Rattle·blocks.specs.Range.{inRange};
-ghost use Rattle·command.specs.Command.{wordAt};
-ghost use Rattle·command.specs.Done.{answering, doneOf};
-ghost use Rattle·target·specs.FitFacts.{ReadOff};
-ghost use Rattle·target·specs.PerformLaws.{Met, Ready};
-ghost use Rattle·target·specs.Perform.{Performed, L, reads, plays, work, perform};
 
 // A command's answer: a field in the packet is bad, or the full answer is laid, cut to the limit.
 pub(crate) fn answer(bad: bool, next: Deck, full: &[u8], limit: usize, mem: &mut [u8]) -> Done
-    requires { ⌜ length (now full) ≤ length (now mem) ⌝ }
-    ensures { λ r. ⌜ Performed (answering bad next (now (full .entry)) limit) (now (mem .entry)) r (now (mem .exit)) ⌝ }
+    requires { length full.now ≤ length mem.old }
+    ensures { Performed (answering bad next full.now limit) mem.old result mem.new }
 {
     if bad {
         return Done::Fails(Fault::BadField);
@@ -62,16 +51,16 @@ pub(crate) fn answer(bad: bool, next: Deck, full: &[u8], limit: usize, mem: &mut
 
 // The number in the packet's four bytes from i on.
 fn word_at(p: &[u8], i: usize) -> usize
-    requires { ⌜ i + 4 ≤ length (now p) ⌝ }
-    ensures { λ r. ⌜ r ≡ wordAt (now (p .entry)) i ⌝ }
+    requires { i + 4 ≤ length p.now }
+    ensures { result ≡ word_at p.now i }
 {
     word32(p[i], p[i + 1], p[i + 2], p[i + 3])
 }
 
 // Every one of the n blocks from a on lies in a track of the mode; a run that is out of range is not looked at.
 fn lies_in(mode: Mode, a: usize, n: usize, t: &[u8], disc: Disc) -> bool
-    requires { ⌜ ReadOff (now t) disc ⌝ }
-    ensures { λ r. ⌜ r ≡ inRange a n (L (now (t .entry))) and allIn mode (descriptors (now (t .entry))) a n ⌝ }
+    requires { ReadOff t.now disc }
+    ensures { result ≡ in_range a n (L t.now) and all_in mode (descriptors t.now) a n }
 {
     if in_range(a, n, disc.lead_out) {
         return run_is(mode, t, a, n);
@@ -81,24 +70,24 @@ fn lies_in(mode: Mode, a: usize, n: usize, t: &[u8], disc: Disc) -> bool
 
 // READ of n blocks from a on.
 fn read_run(a: usize, n: usize, m: Deck, t: &[u8], disc: Disc) -> Done
-    requires { ⌜ ReadOff (now t) disc ⌝ }
-    ensures { λ r. ⌜ r ≡ doneOf (reads a n m (now (t .entry))) ⌝ }
+    requires { ReadOff t.now disc }
+    ensures { result ≡ done_of (reads a n m t.now) }
 {
     read_blocks(lies_in(Mode::Data, a, n, t, disc), a, n, disc.lead_out, m)
 }
 
 // PLAY of n blocks from a on.
 fn play_run(a: usize, n: usize, m: Deck, t: &[u8], disc: Disc) -> Done
-    requires { ⌜ ReadOff (now t) disc ⌝ }
-    ensures { λ r. ⌜ r ≡ doneOf (plays a n m (now (t .entry))) ⌝ }
+    requires { ReadOff t.now disc }
+    ensures { result ≡ done_of (plays a n m t.now) }
 {
     play_blocks(lies_in(Mode::Audio, a, n, t, disc), a, n, disc.lead_out, m)
 }
 
 // Step 5: each command's own work. (REQUEST SENSE never comes here: `steps` answers it by `ask_sense`.)
 fn work(c: Command, p: &[u8], m: Deck, t: &[u8], list: &[u8], disc: Disc, mem: &mut [u8]) -> Done
-    requires { ⌜ Met c (now p) (now t) disc (now mem) ⌝ }
-    ensures { λ r. ⌜ Performed (work c (now (p .entry)) m (now (t .entry)) (now (list .entry))) (now (mem .entry)) r (now (mem .exit)) ⌝ }
+    requires { Met c p.now t.now disc mem.old }
+    ensures { Performed (work c p.now m t.now list.now) mem.old result mem.new }
 {
     match c {
         Command::TestUnitReady => done_with(m),
@@ -131,8 +120,8 @@ pub(crate) fn perform(
     disc: Disc,
     mem: &mut [u8],
 ) -> Done
-    requires { ⌜ Ready m (now p) (now t) disc (now mem) ⌝ }
-    ensures { λ r. ⌜ Performed (perform c (now (p .entry)) m (now (t .entry)) (now (list .entry))) (now (mem .entry)) r (now (mem .exit)) ⌝ }
+    requires { Ready m p.now t.now disc mem.old }
+    ensures { Performed (perform c p.now m t.now list.now) mem.old result mem.new }
 {
     if needs_disc(c, p[4]) {
         if m.is_loaded() {

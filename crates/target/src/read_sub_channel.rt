@@ -1,26 +1,21 @@
 // READ SUB-CHANNEL: what the packet asks for, and the answer.
+ghost use Rattle.std.specs.Prelude.{◌≡◌, ◌≤◌, length};
+ghost use Rattle.table.specs.Layout.{bound};
+ghost use Rattle.command.specs.Command.{length_in};
+ghost use Rattle.audio.specs.SubChannel.{sub_ask_in};
+ghost use Rattle.target.specs.Perform.{Performed, tells};
+
 use crate::perform::answer;
-use audio::sub_channel::position_bytes;
-use audio::sub_channel::reported;
-use audio::sub_channel::status_bytes;
-use audio::sub_channel::sub_ask;
-use audio::sub_channel::sub_bad;
+use audio::sub_channel::{position_bytes, reported, status_bytes, sub_ask, sub_bad};
 use command::done::Done;
 use deck::Deck;
 use ground::number::word16;
 use tracks::track::track_of;
-ghost use mathlib.Core.Path.{_≡_};
-ghost use Prim.Native.Nat.{_≤_};
-ghost use lib.ListN.{length};
-ghost use Rattle·table.specs.Layout.{bound};
-ghost use Rattle·command.specs.Command.{lengthIn};
-ghost use Rattle·audio.specs.SubChannel.{subAskIn};
-ghost use Rattle·target·specs.Perform.{Performed, tells};
 
 // The position's track is that of the table lent now.
 pub(crate) fn read_sub_channel(p: &[u8], m: Deck, t: &[u8], mem: &mut [u8]) -> Done
-    requires { ⌜ (length (now p) ≡ 12) × (bound ≤ length (now mem)) ⌝ }
-    ensures { λ r. ⌜ Performed (tells (subAskIn (now (p .entry))) (lengthIn (now (p .entry))) m (now (t .entry))) (now (mem .entry)) r (now (mem .exit)) ⌝ }
+    requires { (length p.now ≡ 12) × (bound ≤ length mem.old) }
+    ensures { Performed (tells (sub_ask_in p.now) (length_in p.now) m t.now) mem.old result mem.new }
 {
     let ask = sub_ask(p[1], p[2], p[3]);
     let limit = word16(p[7], p[8]);

@@ -1,28 +1,23 @@
 // READ TOC: what the packet asks for, and the answer.
-use command::done::Done;
-use command::done::Went;
+ghost use Rattle.std.specs.Prelude.{◌≡◌, ◌≤◌, length};
+ghost use Rattle.table.specs.Layout.{bound};
+ghost use Rattle.target.specs.ReadToc.{ask_of, read_toc};
+ghost use Rattle.target.specs.FitFacts.{ReadOff};
+ghost use Rattle.target.specs.Perform.{Performed};
+
+use command::done::{Done, Went};
 use command::field::bit1;
 use deck::Deck;
 use disc::disc::Disc;
 use gate::fault::Fault;
-use ground::number::wide;
-use ground::number::word16;
+use ground::number::{wide, word16};
 use table::layout::HEADER;
-use toc::answer::TocAsk;
-use toc::answer::put_toc;
-use toc::answer::toc_bad;
-ghost use mathlib.Core.Path.{_≡_};
-ghost use Prim.Native.Nat.{_≤_};
-ghost use lib.ListN.{length};
-ghost use Rattle·table.specs.Layout.{bound};
-ghost use Rattle·target·specs.ReadToc.{askOf, readToc};
-ghost use Rattle·target·specs.FitFacts.{ReadOff};
-ghost use Rattle·target·specs.Perform.{Performed};
+use toc::answer::{TocAsk, put_toc, toc_bad};
 
 // What the packet asks for.
 fn toc_ask(p: &[u8]) -> TocAsk
-    requires { ⌜ length (now p) ≡ 12 ⌝ }
-    ensures { λ r. ⌜ r ≡ askOf (now (p .entry)) ⌝ }
+    requires { length p.now ≡ 12 }
+    ensures { result ≡ ask_of p.now }
 {
     TocAsk {
         format: wide(p[2]) % 16,
@@ -33,8 +28,8 @@ fn toc_ask(p: &[u8]) -> TocAsk
 
 // READ TOC, of a fit table.
 pub(crate) fn read_toc(p: &[u8], m: Deck, t: &[u8], disc: Disc, mem: &mut [u8]) -> Done
-    requires { ⌜ ReadOff (now t) disc × (length (now p) ≡ 12) × (bound ≤ length (now mem)) ⌝ }
-    ensures { λ r. ⌜ Performed (readToc (now (p .entry)) m (now (t .entry))) (now (mem .entry)) r (now (mem .exit)) ⌝ }
+    requires { ReadOff t.now disc × (length p.now ≡ 12) × (bound ≤ length mem.old) }
+    ensures { Performed (read_toc p.now m t.now) mem.old result mem.new }
 {
     let ask = toc_ask(p);
     if toc_bad(disc, ask) {

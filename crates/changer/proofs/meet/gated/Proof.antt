@@ -5,7 +5,7 @@ use native.Mathlib.Omega.{arith}
 use Rattle.attention.specs.declared.Unit.{Unit}
 use Rattle.gate.specs.declared.unit.Pending.{Pending}
 use Rattle.gate.specs.declared.unit.Pending.TheVariants.{Power, Change}
-use Rattle.gate.specs.Unit.{attentionSense, told}
+use Rattle.gate.specs.Unit.{attention_sense, told}
 use Rattle.outcome.specs.Outcome.{checked, finished}
 use Rattle.changer.specs.RowLaws.{slots_of}
 use Rattle.changer.specs.ChangerPacket.{mechanism_of}
@@ -18,7 +18,7 @@ returns : tie.Need-returns
 returns c = let x = c.before.before.before.before.before.before.before.before.before.before.args in
     let d = x.c.drive in
     let e = sym c.before.before.before.before.before.first-pending.ensures ∙ c.before.before.before.enum_told.given.1 in
-    let o = c.before.before.tell.ensures ∙ ap (λ (a : Pending). checked (attentionSense a) (told a d.unit) d.deck) c.before.before.before.enum_told.given.1 in
+    let o = c.before.before.tell.ensures ∙ ap (λ (a : Pending). checked (attention_sense a) (told a d.unit) d.deck) c.before.before.before.enum_told.given.1 in
     rw (c.with-home.ensures, c.before.staying.ensures)
     (answered_by-tells Power d.unit (mechanism_of x.c (slots_of x.row)) _ _ e (λ h. let z : ◌≡◌ {A = ℕ} 0 1 = cc in omega arith) o)
 
@@ -26,7 +26,7 @@ returns-2 : tie.Need-returns-2
 returns-2 c = let x = c.before.before.before.before.before.before.before.before.before.before.args in
     let d = x.c.drive in
     let e = sym c.before.before.before.before.before.first-pending.ensures ∙ c.before.before.before.enum-told2.given.1 in
-    let o = c.before.before.tell2.ensures ∙ ap (λ (a : Pending). checked (attentionSense a) (told a d.unit) d.deck) c.before.before.before.enum-told2.given.1 in
+    let o = c.before.before.tell2.ensures ∙ ap (λ (a : Pending). checked (attention_sense a) (told a d.unit) d.deck) c.before.before.before.enum-told2.given.1 in
     rw (c.with-home2.ensures, c.before.staying2.ensures)
     (answered_by-tells Change d.unit (mechanism_of x.c (slots_of x.row)) _ _ e (λ h. let z : ◌≡◌ {A = ℕ} 0 1 = cc in omega arith) o)
 

@@ -3,7 +3,7 @@ use mathlib.Core.Path.{sym, ap, ◌∙◌}
 use mathlib.Core.Bool.{true≢false}
 use Prim.Native.Nat.{ℕ}
 use borrow.Author.Tests.{eq-eqb, ne_eqb}
-use Rattle.disc.specs.Rules.{isFit}
+use Rattle.disc.specs.Rules.{is_fit}
 use Rattle.disc.specs.Part.{unfit}
 use Rattle.changer.specs.RowLaws.{slots_of}
 use Rattle.changer.specs.ChangerPacketLaws.{refused_with, changer-4, changer-own, in_order_homed, answered_by-refused}
@@ -15,14 +15,14 @@ gated-requires : tie.Need-gated-requires
 gated-requires c κs = let x = c.before.before.before.before.before.before.before.before.before.args in let q = c.before.before.before.before.before.before.before.before.before.requires in (q.0.twelve, q.0.room, in_order_homed x.c (slots_of x.row) q.0.order)
 
 returns : tie.Need-returns
-unfolding isFit
+unfolding is_fit
 returns c = let x = c.before.before.before.before.before.before.before.before.before.before.before.before.args in
     let q = c.before.before.before.before.before.before.before.before.before.before.before.before.requires in
     let f = eq-eqb _ _ (sym c.before.before.before.before.before.fault.ensures ∙ c.before.before.before.before.if2.true) in
     rw (changer-own x.c (slots_of x.row) x.p.now x.t.now x.list.now _ q.0 q.1 (λ h. f)) c.before.before.gated.ensures
 
 returns-2 : tie.Need-returns-2
-unfolding isFit
+unfolding is_fit
 returns-2 c = let x = c.before.before.before.before.before.before.before.before.before.args in
     let q = c.before.before.before.before.before.before.before.before.before.requires in
     let k = ne_eqb _ _ (λ e. c.before.if2.false (c.before.before.fault.ensures ∙ e)) in

@@ -8,7 +8,7 @@ use Rattle.ground.specs.Memory.{rest_all}
 use Rattle.table.specs.Layout.{descriptors}
 use Rattle.sessions.specs.Session.{size, starts}
 use Rattle.sessions.specs.SessionLaws.{IsSession, size-within}
-use Rattle.disc.specs.RulesLaws.{fit-sized, fit-starts, fit-session}
+use Rattle.disc.specs.RulesLaws.{fit_sized, fit-starts, fit-session}
 use Rattle.disc.specs.Part.{part_refusal}
 use Rattle.disc.specs.PartLaws.{Given, part_refusal-given, part_refused_number, part_start-given, part_size-given, part_start-refused, part_size-refused, rest-rest}
 use borrow.Author.Rules.{rules}
@@ -58,13 +58,13 @@ ends c =
     (drop 4 c.before.before.before.before.before.before.before.before.args.t.now) w (here c.before.before) in
     let b = bytes c in
     let l = length-drop 4 c.before.before.before.before.before.before.before.before.args.t.now in
-    let s = fit-sized (given c.before.before.before.before).fit in omega arith
+    let s = fit_sized (given c.before.before.before.before).fit in omega arith
 
 sub-d : tie.Need-overflow-sub-d
-sub-d c = (fit-sized (given c).fit).least
+sub-d c = (fit_sized (given c).fit).least
 
 part-d-start : tie.Need-slice-bounds-d-start
-part-d-start c = let l = fit-sized (given c).fit in search rules
+part-d-start c = let l = fit_sized (given c).fit in search rules
 
 sub-starts-after : tie.Need-overflow-sub-starts-after
 sub-starts-after c = let g = given c.before in search rules

@@ -6,7 +6,7 @@ use native.Mathlib.Omega.{arith}
 use native.Mathlib.Nat.{le_antisymm}
 use borrow.Author.Tests.{lt-ltb, le-ltb}
 use lib.Dec.{ltb}
-use Rattle.ground.specs.Tests.{every, and-on, and-off, every-none, every_more, every-breaks}
+use Rattle.ground.specs.Tests.{every, and_on, and_off, every-none, every_more, every-breaks}
 use Rattle.table.specs.Row.{start_of}
 use Rattle.disc.specs.Rules.{track_start, rises}
 use borrow.Author.Rules.{rules}
@@ -38,14 +38,14 @@ loop-again c = (
 returns : tie.Need-returns invariant-loop decreases-loop
 unfolding rises
 returns c =
-    and-off _ _ (sym (every-breaks _ _ c.before.before.before.before.loop.i c.before.before.before.loop-test.true (le-ltb _
+    and_off _ _ (sym (every-breaks _ _ c.before.before.before.before.loop.i c.before.before.before.loop-test.true (le-ltb _
     _ (rw (c.before.before.before.before.loop.invariant.1, c.before.start-of2.ensures, c.before.before.row-at2.ensures) at
     c.if1.false))))
 
 returns-2 : tie.Need-returns-2 invariant-loop decreases-loop
 unfolding rises
 returns-2 c =
-    and-on _ _ (rw (le_antisymm c.before.before.before.loop.invariant.0 c.before.before.loop-test.false) at
+    and_on _ _ (rw (le_antisymm c.before.before.before.loop.invariant.0 c.before.before.loop-test.false) at
     c.before.before.before.loop.invariant.2) (rw (
       c.before.before.before.loop.invariant.1,
       le_antisymm

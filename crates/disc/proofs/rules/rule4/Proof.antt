@@ -4,7 +4,7 @@ use Prim.Native.Nat.{◌+◌, ◌-◌}
 use native.Mathlib.Omega.{arith}
 use lib.ListN.{drop}
 use Rattle.ground.specs.Memory.{rest_all}
-use Rattle.sessions.specs.SessionLaws.{is_session_parts, size-within, Told, read_session-told, read_session-told_not}
+use Rattle.sessions.specs.SessionLaws.{is_session_parts, size-within, Told, read_session-told, read_session_told_not}
 use Rattle.disc.specs.WalkSteps.{Reached, reached-next, reached-not, reached-off, reached_end}
 use borrow.Author.Rules.{rules}
 use Rattle.disc.proofs.rules.rule4.Statement.{statement}
@@ -51,7 +51,7 @@ returns c =
 returns-2 : tie.Need-returns-2 invariant-loop decreases-loop
 returns-2 c =
     reached-not c.before.before.before.before.before.before.loop.invariant c.before.before.before.before.before.loop-test.true
-    (read_session-told_not _ _ (sym c.enum_told.given.1 ∙ rw (rest_all, c.before.before.before.wide.ensures.same) at
+    (read_session_told_not _ _ (sym c.enum_told.given.1 ∙ rw (rest_all, c.before.before.before.wide.ensures.same) at
     c.before.before.read-session.ensures))
 
 returns-3 : tie.Need-returns-3 invariant-loop decreases-loop

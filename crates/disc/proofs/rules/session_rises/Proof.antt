@@ -1,13 +1,13 @@
 -- `disc::rules::session_rises` meets its contract: the two tests are the definition's, in its order.
 use mathlib.Core.Path.{sym, ◌∙◌}
-use Rattle.ground.specs.Tests.{and-on, and-off}
+use Rattle.ground.specs.Tests.{and_on, and_off}
 use borrow.Author.Rules.{rules}
 use Rattle.disc.proofs.rules.session_rises.Statement.{statement}
 use Rattle.disc.proofs.rules.session_rises.Tie as tie
 
 returns : tie.Need-returns
 returns c =
-    and-on _ _
+    and_on _ _
     (rw (
       c.before.before.before.before.before.before.before.wide.ensures.same,
       c.before.before.before.before.before.wide2.ensures.same,
@@ -17,7 +17,7 @@ returns c =
 
 returns-2 : tie.Need-returns-2
 returns-2 c =
-    and-off _ _
+    and_off _ _
     (rw (c.before.before.before.before.wide.ensures.same, c.before.before.wide2.ensures.same) at
     (sym c.before.rises.ensures ∙ c.if1.false))
 

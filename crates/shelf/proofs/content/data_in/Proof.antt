@@ -3,7 +3,7 @@
 use mathlib.Core.Path.{◌≡◌, sym, ◌∙◌}
 use Prim.Native.Nat.{◌-◌, ◌≤◌}
 use native.Mathlib.Omega.{arith}
-use Rattle.disc.specs.Rules.{leadOut}
+use Rattle.disc.specs.Rules.{session_lead_out}
 use Rattle.tracks.specs.declared.track.Mode.TheVariants.{Data}
 use Rattle.shelf.specs.Count.{sum_below}
 use Rattle.shelf.specs.Lengths.{track_blocks, run_at, blocks_to}
@@ -38,10 +38,10 @@ loop-again c =
 -- all are passed
 done :
     (c : tie.After-loop invariant-loop decreases-loop)
-    → (c.before.loop.r.from ≤ leadOut c.before.before.before.before.args.s.now)
-    × (blocks_to (leadOut c.before.before.before.before.args.s.now) c.before.loop.r
-    ≤ leadOut c.before.before.before.before.args.s.now)
-    × (blocks_to (leadOut c.before.before.before.before.args.s.now) c.before.loop.r
+    → (c.before.loop.r.from ≤ session_lead_out c.before.before.before.before.args.s.now)
+    × (blocks_to (session_lead_out c.before.before.before.before.args.s.now) c.before.loop.r
+    ≤ session_lead_out c.before.before.before.before.args.s.now)
+    × (blocks_to (session_lead_out c.before.before.before.before.args.s.now) c.before.loop.r
     ≡ sum_below c.before.before.before.before.args.n
     (track_blocks Data c.before.before.before.before.args.s.now c.before.before.before.before.args.n))
 done c =
@@ -57,7 +57,7 @@ add-result c =
     let e = c.before.before.address-at.ensures in
     let k = c.before.before.address-at.type-inv in
     let b =
-    blocks_to_on (leadOut c.before.before.before.before.before.before.before.before.args.s.now)
+    blocks_to_on (session_lead_out c.before.before.before.before.before.before.before.before.args.s.now)
     c.before.before.before.before.before.loop.r c.before.before.before.if1.true in
     omega arith
 

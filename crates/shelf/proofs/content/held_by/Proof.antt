@@ -9,7 +9,7 @@ use Rattle.ground.specs.Memory.{rest_all}
 use Rattle.table.specs.Layout.{descriptors}
 use Rattle.sessions.specs.Session.{size}
 use Rattle.sessions.specs.SessionLaws.{IsSession, size_least}
-use Rattle.disc.specs.RulesLaws.{fit-sized, fit-numbered}
+use Rattle.disc.specs.RulesLaws.{fit_sized, fit-numbered}
 use Rattle.shelf.specs.ContentLaws.{Summed, summed-none, summed-most, summed-here, summed-rises, summed-begins, summed-next, summed-all}
 use borrow.Author.Rules.{rules}
 use Rattle.shelf.proofs.content.held_by.Statement.{statement}
@@ -104,7 +104,7 @@ add_at : tie.Need-overflow-add-at invariant-loop decreases-loop
 add_at c =
     let w = (loop-again c).walked.within in
     let d = length-drop 4 c.before.before.before.before.before.before.before.before.before.before.args.t.now in
-    let m = (fit-sized c.before.before.before.before.before.before.before.before.before.before.requires).most in
+    let m = (fit_sized c.before.before.before.before.before.before.before.before.before.before.requires).most in
     omega arith
 
 add-k : tie.Need-overflow-add-k invariant-loop decreases-loop
@@ -121,7 +121,7 @@ returns c =
 pub held-by-spec : {M : Type 1} → statement M
 held-by-spec =
     tie.close
-    (tie.spec invariant-loop decreases-loop (λ c. let l = (fit-sized c.before.before.requires).least in omega arith)
-    (λ c. (fit-sized c.before.before.requires).least) (λ c. let l = (fit-sized c.before.before.requires).least in search rules) (λ c. search rules) (λ c. summed-none _) sub-s
+    (tie.spec invariant-loop decreases-loop (λ c. let l = (fit_sized c.before.before.requires).least in omega arith)
+    (λ c. (fit_sized c.before.before.requires).least) (λ c. let l = (fit_sized c.before.before.requires).least in search rules) (λ c. search rules) (λ c. summed-none _) sub-s
     (λ c. let l = sub-s c in search rules) (λ c. search rules) address-at-requires sub-of-none add-of-none data-of-requires add-of-data address-at-requires-2
     (λ c κs. search rules) add_at add-k (λ c. search rules) loop-again returns)

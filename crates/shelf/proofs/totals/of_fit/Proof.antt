@@ -1,6 +1,6 @@
 -- `shelf::totals::of_fit` meets its contract: what the disc tells and what is held are what a fit table adds (`fit_adds`).
 use native.Mathlib.Omega.{arith}
-use Rattle.disc.specs.RulesLaws.{isFit-true}
+use Rattle.disc.specs.RulesLaws.{is_fit_true}
 use Rattle.shelf.specs.TotalsLaws.{FitAdds, fit_adds}
 use borrow.Author.Rules.{rules}
 use Rattle.shelf.proofs.totals.of_fit.Statement.{statement}
@@ -26,5 +26,5 @@ returns c =
 pub of-fit-spec : {M : Type 1} → statement M
 of-fit-spec =
     tie.close
-    (tie.spec (λ c κs. isFit-true c.before.requires.0) (λ c κs. search rules) (λ c. search rules) (λ c κs. search rules) sub-t7
+    (tie.spec (λ c κs. is_fit_true c.before.requires.0) (λ c κs. search rules) (λ c. search rules) (λ c κs. search rules) sub-t7
     (λ c. (adds c.before.before.before.before).data_most) (λ c. (adds c.before.before.before.before.before).none_most) returns)

@@ -1,48 +1,47 @@
 -- `target::read_toc::read_toc` meets its contract: the field checks decide, and what they let pass is laid, cut to the allocation length.
-use mathlib.Core.Path.{_≡_, sym, ap, _∙_}
+use mathlib.Core.Path.{◌≡◌, sym, ap, ◌∙◌}
 use native.Mathlib.Omega.{arith}
-use denote.Ref.{now}
-use Rattle·ground.specs.Memory.{rest-all}
-use Rattle·disc.specs.declared.disc.Disc.{Disc}
-use Rattle·table.specs.Layout.{descriptors}
-use Rattle·disc.specs.Disc.{discOf}
-use Rattle·toc.specs.declared.answer.TocAsk.{TocAsk}
-use Rattle·toc.specs.Answer.{tocBad}
-use Rattle·toc.specs.AnswerLaws.{tocBytes-within}
-use Rattle·target·specs.ReadToc.{formatIn, msfIn, numberIn}
-use Rattle·target·specs.PerformLaws.{performed-bad, performed-answer, readOff-length}
-use borrow.Author.Needs.{needs}
-use Rattle·target·proofs.read_toc.read_toc.Statement.{statement}
-use Rattle·target·proofs.read_toc.read_toc.Tie as tie
+use Rattle.ground.specs.Memory.{rest_all}
+use Rattle.disc.specs.declared.disc.Disc.{Disc}
+use Rattle.table.specs.Layout.{descriptors}
+use Rattle.disc.specs.Disc.{disc_of}
+use Rattle.toc.specs.declared.answer.TocAsk.{TocAsk}
+use Rattle.toc.specs.Answer.{toc_bad}
+use Rattle.toc.specs.AnswerLaws.{toc_bytes-within}
+use Rattle.target.specs.ReadToc.{format_in, msf_in, number_in}
+use Rattle.target.specs.PerformLaws.{performed-bad, performed-answer, read_off-length}
+use borrow.Author.Rules.{rules}
+use Rattle.target.proofs.read_toc.read_toc.Statement.{statement}
+use Rattle.target.proofs.read_toc.read_toc.Tie as tie
 
 -- what the field checks say
 told :
     (c : tie.After-toc-bad)
-    → c .toc-bad .result ≡ tocBad (discOf (now (c .before .before .before .before .before .args .t))) (formatIn (now (c .before .before .before .before .before .args .p))) (numberIn (now (c .before .before .before .before .before .args .p)))
+    → c.toc-bad.result ≡ toc_bad (disc_of c.before.before.before.before.before.args.t.now) (format_in c.before.before.before.before.before.args.p.now) (number_in c.before.before.before.before.before.args.p.now)
 told c =
-    let x = c .before .before .before .before .before .args in
-    c .toc-bad .ensures
-    ∙ ap (λ (a : TocAsk). tocBad (x .disc) (a .format) (a .number)) (c .before .toc-ask .ensures)
-    ∙ ap (λ (d : Disc). tocBad d (formatIn (now (x .p))) (numberIn (now (x .p)))) (c .before .before .before .before .before .pre .0 .same)
+    let x = c.before.before.before.before.before.args in
+    c.toc-bad.ensures
+    ∙ ap (λ (a : TocAsk). toc_bad x.disc a.format a.number) c.before.toc-ask.ensures
+    ∙ ap (λ (d : Disc). toc_bad d (format_in x.p.now) (number_in x.p.now)) c.before.before.before.before.before.requires.0.same
 
 returns : tie.Need-returns
-returns c = performed-bad _ _ _ _ (sym (told (c .before)) ∙ c .if1 .taken)
+returns c = performed-bad _ _ _ _ (sym (told c.before) ∙ c.if1.true)
 
-sub-put-toc : tie.Need-sub-put-toc
-sub-put-toc c = let h = c .before .before .before .before .before .before .pre .0 .fits .head in search needs
+sub-put-toc : tie.Need-overflow-sub-put-toc
+sub-put-toc c = let h = c.before.before.before.before.before.before.requires.0.fits.head in search rules
 
-part-put-toc-start : tie.Need-part-put-toc-start
-part-put-toc-start c = let h = c .before .before .before .before .before .before .pre .0 .fits .head in search needs
+part-put-toc-start : tie.Need-slice-bounds-put-toc-start
+part-put-toc-start c = let h = c.before.before.before.before.before.before.requires.0.fits.head in search rules
 
 returns-2 : tie.Need-returns-2
-returns-2 c = let x = c .before .before .before .before .before .before .before .before .before .before .before .before .before .before .args in
-    let q = c .before .before .before .before .before .before .before .before .before .before .before .before .before .before .pre in
-    let w = tocBytes-within (discOf (now (x .t))) (formatIn (now (x .p))) (msfIn (now (x .p))) (numberIn (now (x .p))) (descriptors (now (x .t))) (readOff-length (q .0)) in
-    performed-answer _ _ _ (sym (told (c .before .before .before .before .before .before .before .before .before)) ∙ c .before .before .before .before .before .before .before .before .if1 .left) (let b = q .2 in omega arith)
-    (rw (c .before .before .before .before .before .before .before .before .before .before .toc-ask .ensures, c .before .before .before .before .word16 .ensures, q .0 .same, rest-all 4 (now (x .t))) at (c .before .before .put-toc .ensures))
+returns-2 c = let x = c.before.before.before.before.before.before.before.before.before.before.before.before.before.before.args in
+    let q = c.before.before.before.before.before.before.before.before.before.before.before.before.before.before.requires in
+    let w = toc_bytes-within (disc_of x.t.now) (format_in x.p.now) (msf_in x.p.now) (number_in x.p.now) (descriptors x.t.now) (read_off-length q.0) in
+    performed-answer _ _ _ (sym (told c.before.before.before.before.before.before.before.before.before) ∙ c.before.before.before.before.before.before.before.before.if1.false) (let b = q.2 in omega arith)
+    (rw (c.before.before.before.before.before.before.before.before.before.before.toc-ask.ensures, c.before.before.before.before.word16.ensures, q.0.same, rest_all 4 x.t.now) at c.before.before.put-toc.ensures)
 
 pub read-toc-spec : {M : Type 1} → statement M
 read-toc-spec =
     tie.close
-    (tie.spec (λ c κs. search needs) (λ c κs. search needs) returns sub-put-toc part-put-toc-start (λ c. search needs) (λ c. search needs)
-    (λ c. search needs) (λ c κs. search needs) (λ c κs. search needs) (λ c. search needs) returns-2)
+    (tie.spec (λ c κs. search rules) (λ c κs. search rules) returns sub-put-toc part-put-toc-start (λ c. search rules) (λ c. search rules)
+    (λ c. search rules) (λ c κs. search rules) (λ c κs. search rules) (λ c. search rules) returns-2)

@@ -1,6 +1,6 @@
 -- `toc::shown::is_shown` meets its contract: its tests are the definition's, in its order.
 use mathlib.Core.Path.{◌≡◌, refl, sym, ap, ◌∙◌}
-use Rattle.ground.specs.Tests.{and-on, and-off}
+use Rattle.ground.specs.Tests.{and_on, and_off}
 use Rattle.table.specs.Layout.{point_at, is_track}
 use Rattle.toc.specs.Shown.{is_shown}
 use borrow.Author.Rules.{rules}
@@ -13,11 +13,11 @@ told c = c.is-track.ensures ∙ ap is_track c.before.wide.ensures.same
 
 returns : tie.Need-returns
 unfolding is_shown
-returns c = and-on _ _ (sym (told c.before) ∙ c.if1.true) refl
+returns c = and_on _ _ (sym (told c.before) ∙ c.if1.true) refl
 
 returns-2 : tie.Need-returns-2
 unfolding is_shown
-returns-2 c = and-off _ _ (sym (told c.before) ∙ c.if1.false)
+returns-2 c = and_off _ _ (sym (told c.before) ∙ c.if1.false)
 
 pub is-shown-spec : {M : Type 1} → statement M
 is-shown-spec =
