@@ -1,0 +1,8 @@
+-- `replay::host::call_access` is safe: the part lent is as long as `least` says.
+use mathlib.Core.Path.{sym}
+use lib.Seq.{length-take-le}
+use borrow.Author.Rules.{rules}
+use Rattle.replay.proofs.host.call_access.Goals as goal
+
+pub slice_bounds-lent-end-2 : goal.slice_bounds-lent-end-2
+slice_bounds-lent-end-2 c = sym (length-take-le _ _ (search rules))

@@ -1,0 +1,11 @@
+-- `replay::magazine::call_changer` is safe: the parts lent are as long as `smaller` says.
+use mathlib.Core.Path.{sym}
+use lib.Seq.{length-take-le}
+use borrow.Author.Rules.{rules}
+use Rattle.replay.proofs.magazine.call_changer.Goals as goal
+
+pub slice_bounds-lent-end-2 : goal.slice_bounds-lent-end-2
+slice_bounds-lent-end-2 c = sym (length-take-le _ _ (search rules))
+
+pub slice_bounds-kept-end-2 : goal.slice_bounds-kept-end-2
+slice_bounds-kept-end-2 c = sym (length-take-le _ _ (search rules))
