@@ -1,5 +1,6 @@
 // Turns a file that holds a cue sheet into a disc table, on standard output.
 #![tactic(auto)]
+
 use cue::write::{NO_TABLE, NOT_WHOLE, write_table};
 use input::{fail, is_given, load, say};
 use print::front::front;
@@ -11,7 +12,10 @@ const MOST: usize = 131072;
 // What a refusal's number means.
 fn say_refused(rt: &HostRuntime, number: u8) {
     if number == NOT_WHOLE {
-        say(rt, b"refused 12: the sheet is not whole entries of 8 bytes\n");
+        say(
+            rt,
+            b"refused 12: the sheet is not whole entries of 8 bytes\n",
+        );
         return;
     }
     if number == NO_TABLE {
@@ -48,10 +52,7 @@ fn main(rt: HostRuntime) {
         return;
     }
     if MOST < s.count {
-        say(
-            &rt,
-            b"too long: a sheet file has at most 131,072 bytes\n",
-        );
+        say(&rt, b"too long: a sheet file has at most 131,072 bytes\n");
         return;
     }
     turn(&rt, front(&sheet, s.count));

@@ -1,6 +1,7 @@
 // What a program is given, and what it says where that fails: a file that an argument names, read into lent memory, and lines on standard
 // error. What a file holds is the system's to say, so of the bytes nothing is promised, and of the count that it is not past the end.
 #![tactic(auto)]
+
 mod said;
 
 ghost use Rattle.std.specs.Prelude.{◌≡◌, ◌≤◌, length, IfOk};
@@ -8,10 +9,9 @@ ghost use Rattle.std.specs.Prelude.{◌≡◌, ◌≤◌, length, IfOk};
 pub use said::{fail, say};
 use std::env::FillError;
 use std::fs::File;
-use std::io;
 use std::io::Read;
 use std::rt::Env;
-use std::str;
+use std::{io, str};
 
 // The system's numbers for a name that is too long, and for one that is no text.
 const TOO_LONG: i32 = 36;

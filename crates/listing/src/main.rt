@@ -1,5 +1,6 @@
 // The listing program: meets a file of packets with a file that holds a disc table, and prints a line for each packet.
 #![tactic(auto)]
+
 mod line;
 
 ghost use Rattle.std.specs.Prelude.{◌≡◌, true, [], ◌*◌, ◌≤◌, length};
@@ -75,13 +76,7 @@ struct Listed {
 }
 
 // Meets the packets one after the other, each with the state that the one before left, and writes their lines.
-fn list(
-    rt: &HostRuntime,
-    table: &[u8],
-    packets: &[u8],
-    mem: &mut [u8],
-    line: &mut [u8],
-) -> Listed
+fn list(rt: &HostRuntime, table: &[u8], packets: &[u8], mem: &mut [u8], line: &mut [u8]) -> Listed
     requires { (length packets.now ≤ 49152) × (length mem.old ≡ bound) }
     ensures { (result.state ≡ state_after table.now packets.now result.met) × (result.whole ≡ true → length packets.now ≤ 12 * result.met) }
 {

@@ -1,9 +1,9 @@
 -- What the digits' proofs want of powers of ten, and of lists that end in what is written already.
-use Rattle.std.proofs.Common.{◌≡◌, ℕ, zero, suc, ◌+◌, ◌-◌, ◌*◌, ◌/◌, ◌%◌, ◌^◌, ◌≤◌, ◌<◌, List, [], ◌∷◌, ◌++◌, length, take, drop, set, refl, sym, ap, subst, ◌∙◌, arith, add-one, sub-one, pow-suc, lt_of_not-le}
-use Rattle.std.proofs.Math.Nat.{mul-div-le, pow-zero, one-le-pow, pow-le-pow_right, div-div-eq-div-mul, le-div_iff_mul-le, div-lt_iff_lt-mul, le_of_suc-le-suc, not-suc-le-zero, one-mul}
-use Rattle.std.proofs.Math.Seq.{slice, length-take-le, take-set-lt, append_snoc}
+use Rattle.std.proofs.Common.{◌≡◌, ℕ, zero, suc, ◌+◌, ◌-◌, ◌*◌, ◌/◌, ◌%◌, ◌^◌, ◌≤◌, ◌<◌, List, [], ◌∷◌, ◌++◌, length, take, drop, set, refl, sym, ap, subst, ◌∙◌, arith, add-one, sub-one, pow-suc, le-div_iff_mul-le, div-lt_iff_lt-mul, le_of_suc-le-suc, not-suc-le-zero, length-take-le}
+use Rattle.std.proofs.Math.Nat.{one-le-pow, div-div-eq-div-mul}
+use Rattle.std.proofs.Math.Seq.{slice, take-set-lt, append_snoc}
 use Rattle.std.proofs.lemmas.Bool.Decides.{nat_tests}
-use Rattle.print.specs.Digits.{hex_digit_ascii, last_digits, IsDigitCount, IsPrefixLen}
+use Rattle.print.specs.Digits.{hex_digit_ascii, last_digits, IsPrefixLen}
 
 pub prefix_len_of_le : (n : ℕ) (xs : List ℕ) → n ≤ length xs → IsPrefixLen n xs
 prefix_len_of_le n xs h = (h, sym (length-take-le n xs h))

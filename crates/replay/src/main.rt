@@ -1,5 +1,6 @@
 // Runs a recorded stream of calls from standard input, and prints a line for each.
 #![tactic(auto)]
+
 mod bench;
 mod given;
 mod host;

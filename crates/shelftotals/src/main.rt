@@ -1,5 +1,6 @@
 // Counts the tables that standard input holds, and prints what they come to.
 #![tactic(auto)]
+
 mod line;
 mod progress;
 

@@ -1,13 +1,8 @@
 -- `listing::list` meets its contract: each turn takes the next twelve bytes, and its packet meets the state that the one before left.
-use mathlib.Core.Path.{◌≡◌, refl, sym, ap, ◌∙◌}
-use mathlib.Core.Bool.{true≢false}
-use Prim.Native.Nat.{◌+◌, ◌-◌, ◌*◌, ◌≤◌}
-use native.Mathlib.Omega.{arith}
-use lib.ListN.{length, take}
+use Rattle.std.proofs.Common.{◌≡◌, refl, sym, ap, ◌∙◌, true≢false, ◌+◌, ◌-◌, arith, take, rules}
 use Rattle.ground.specs.Memory.{rest_all}
 use Rattle.listing.specs.Run.{state_after}
 use Rattle.listing.specs.RunLaws.{state_after-none, state_after_met}
-use borrow.Author.Rules.{rules}
 use Rattle.listing.proofs.list.Goals as goal
 use Rattle.listing.proofs.list.Goals.{After-write}
 

@@ -1,5 +1,4 @@
 -- `listing::loaded` meets its contract: the state handed to power-on is that of a loaded drive.
-use borrow.Author.Rules.{rules}
 use Rattle.listing.proofs.loaded.Goals as goal
 
 pub returns : goal.returns

@@ -1,10 +1,5 @@
 -- `listing::main` is safe and ends: the packets that it hands on are at most 49,152 bytes.
-use mathlib.Core.Path.{◌≡◌, refl}
-use mathlib.Core.List.{List}
-use Prim.Native.Nat.{ℕ, ◌≤◌}
-use native.Mathlib.Omega.{arith}
-use lib.ListN.{length, take, length-take}
-use borrow.Author.Rules.{rules}
+use Rattle.std.proofs.Common.{◌≡◌, refl, List, ℕ, ◌≤◌, arith, length, take, length-take}
 use Rattle.listing.proofs.main.Goals as goal
 
 -- the front of n bytes has at most n

@@ -1,7 +1,5 @@
 -- `replay::run` is safe and ends: the measure is the number of turns that are left.
-use mathlib.Core.Path.{◌≡◌, refl}
-use lib.ListN.{length}
-use borrow.Author.Rules.{rules}
+use Rattle.std.proofs.Common.{refl}
 use Rattle.replay.proofs.run.Goals as goal
 
 pub loop-turns-init : goal.loop-turns-init

@@ -1,7 +1,6 @@
 -- `listing::line::next_refusal` meets its contract: the pieces are laid one after the other (`laid_more`).
 use Rattle.ground.specs.Memory.{laid_more}
 use Rattle.listing.specs.Line.{refusal}
-use borrow.Author.Rules.{rules}
 use Rattle.listing.proofs.line.next_refusal.Goals as goal
 
 pub returns : goal.returns

@@ -1,9 +1,8 @@
 -- `listing::line::next_rule` meets its contract: its test is the definition's.
-use borrow.Author.Tests.{eq-eqb, ne_eqb}
+use Rattle.std.proofs.Common.{eq-eqb, ne_eqb}
 use Rattle.ground.specs.Tests.{when, unless}
 use Rattle.ground.specs.Memory.{laid_none}
 use Rattle.listing.specs.Line.{rule_shown}
-use borrow.Author.Rules.{rules}
 use Rattle.listing.proofs.line.next_rule.Goals as goal
 
 pub returns-then-number-eq-UNFIT : goal.returns-then-number-eq-UNFIT

@@ -1,7 +1,6 @@
 -- `listing::line::put_answered` meets its contract: the pieces are laid one after the other (`laid_more`).
 use Rattle.ground.specs.Memory.{laid_more}
 use Rattle.listing.specs.Line.{answered}
-use borrow.Author.Rules.{rules}
 use Rattle.listing.proofs.line.put_answered.Goals as goal
 
 pub returns : goal.returns

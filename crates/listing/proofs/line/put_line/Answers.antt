@@ -1,8 +1,7 @@
 -- `listing::line::put_line` meets its contract: its test is the definition's.
-use borrow.Author.Tests.{eq-eqb, ne_eqb}
+use Rattle.std.proofs.Common.{eq-eqb, ne_eqb}
 use Rattle.ground.specs.Tests.{when, unless}
 use Rattle.listing.specs.Line.{line_of}
-use borrow.Author.Rules.{rules}
 use Rattle.listing.proofs.line.put_line.Goals as goal
 
 pub returns-then-o-eq0 : goal.returns-then-o-eq0

@@ -1,5 +1,5 @@
 -- `print::digits::decimal` meets its contract: twenty digits hold a number of 64 bits (`twenty`).
-use Rattle.std.proofs.Common.{◌≤◌, arith}
+use Rattle.std.proofs.Common.{arith}
 use Rattle.print.specs.Decimal.{twenty}
 use Rattle.print.proofs.Powers.{prefix_len_of_le}
 use Rattle.print.proofs.digits.decimal.Goals as goal

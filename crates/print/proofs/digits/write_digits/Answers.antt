@@ -1,7 +1,6 @@
 -- A turn moves one digit from those still to write to those written (`digits_step`).
-use Rattle.std.proofs.Common.{◌≡◌, refl, sym, ap, ◌∙◌, List, ℕ, ◌%◌, ◌++◌, ◌-◌, ◌≤◌, ◌<◌, length, take, append-nil, length-set, arith}
+use Rattle.std.proofs.Common.{refl, ap, ◌∙◌, List, ℕ, ◌%◌, ◌++◌, ◌-◌, append-nil, length-set, arith, le_refl}
 use Rattle.std.proofs.Math.Seq.{slice_empty}
-use Rattle.std.proofs.Math.Nat.{le_refl}
 use Rattle.print.specs.Digits.{last_digits}
 use Rattle.print.proofs.Powers.{digits_step, digit_code}
 use Rattle.print.proofs.digits.write_digits.Goals as goal

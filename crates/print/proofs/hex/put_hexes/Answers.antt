@@ -1,6 +1,6 @@
 -- The digits of one byte more are laid behind those before.
-use Rattle.std.proofs.Common.{refl, arith, take_all}
-use Rattle.ground.specs.Memory.{laid_none, laid-within, laid_more, laid-length}
+use Rattle.std.proofs.Common.{refl, arith}
+use Rattle.ground.specs.Memory.{laid_none, laid_more, laid-length}
 use Rattle.print.specs.Hex.{hexes-none, hexes_more}
 use Rattle.print.proofs.hex.put_hexes.Goals as goal
 

@@ -1,6 +1,6 @@
 -- One number more is laid behind those before.
 use Rattle.std.proofs.Common.{refl, arith}
-use Rattle.ground.specs.Memory.{laid_none, laid-within, laid_more, laid-length}
+use Rattle.ground.specs.Memory.{laid_none, laid_more, laid-length}
 use Rattle.print.specs.Numbers.{joined-none, joined-next}
 use Rattle.print.proofs.numbers.put_joined.Goals as goal
 

@@ -1,5 +1,5 @@
 -- `replay::bench::are_flags` is safe and ends.
-use Prim.Native.Nat.{◌≤◌, ◌-◌}
+use Rattle.std.proofs.Common.{◌≤◌, ◌-◌}
 use Rattle.replay.proofs.bench.are_flags.Given as goal
 
 abbrev pub invariant-loop-i : goal.invariant-loop-i

@@ -1,7 +1,5 @@
 -- `replay::bench::call_packet` is safe: the part lent is as long as `least` says.
-use mathlib.Core.Path.{sym}
-use lib.Seq.{length-take-le}
-use borrow.Author.Rules.{rules}
+use Rattle.std.proofs.Common.{sym, length-take-le, rules}
 use Rattle.replay.proofs.bench.call_packet.Goals as goal
 
 pub slice_bounds-lent-end-2 : goal.slice_bounds-lent-end-2

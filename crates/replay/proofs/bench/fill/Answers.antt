@@ -1,12 +1,6 @@
 -- `replay::bench::fill` meets its contract: after i turns the first i bytes are x.
-use mathlib.Core.Path.{◌≡◌, refl, sym, ap, ◌∙◌}
-use mathlib.Core.List.{List, [], ◌∷◌, ◌++◌}
-use Prim.Native.Nat.{ℕ, ◌+◌, ◌≤◌, ◌<◌, ◌-◌}
-use native.Mathlib.Omega.{arith}
-use native.Mathlib.Numerals.{add-one}
-use lib.ListN.{length, take, set, replicate, length-set, replicate-append-replicate}
-use lib.Seq.{take_all, take-suc-set}
-use borrow.Author.Rules.{rules}
+use Rattle.std.proofs.Common.{◌≡◌, refl, sym, ap, ◌∙◌, List, [], ◌∷◌, ◌++◌, ℕ, ◌+◌, ◌<◌, ◌-◌, arith, add-one, length, take, set, replicate, length-set, take_all, take-suc-set, rules}
+use lib.ListN.{replicate-append-replicate}
 use Rattle.replay.proofs.bench.fill.Goals as goal
 
 -- one byte more

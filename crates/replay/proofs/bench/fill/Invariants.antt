@@ -1,11 +1,5 @@
 -- `replay::bench::fill` meets its contract: after i turns the first i bytes are x.
-use mathlib.Core.Path.{◌≡◌, refl, sym, ap, ◌∙◌}
-use mathlib.Core.List.{List, [], ◌∷◌, ◌++◌}
-use Prim.Native.Nat.{ℕ, ◌+◌, ◌≤◌, ◌<◌, ◌-◌}
-use native.Mathlib.Omega.{arith}
-use native.Mathlib.Numerals.{add-one}
-use lib.ListN.{length, take, set, replicate, length-set, replicate-append-replicate}
-use lib.Seq.{take_all, take-suc-set}
+use Rattle.std.proofs.Common.{◌≡◌, ◌≤◌, ◌-◌, length, take, replicate}
 use Rattle.replay.proofs.bench.fill.Given as goal
 
 abbrev pub invariant-loop-i : goal.invariant-loop-i

@@ -1,7 +1,5 @@
 -- `replay::bench::set_memory` is safe: the part filled lies within the memory.
-use mathlib.Core.Path.{sym}
-use lib.Seq.{length-take-le}
-use borrow.Author.Rules.{rules}
+use Rattle.std.proofs.Common.{sym, length-take-le, rules}
 use Rattle.replay.proofs.bench.set_memory.Goals as goal
 
 pub slice_bounds-fill-end-then-n-memory : goal.slice_bounds-fill-end-then-n-memory

@@ -1,7 +1,5 @@
 -- `replay::host::call_access` is safe: the part lent is as long as `least` says.
-use mathlib.Core.Path.{sym}
-use lib.Seq.{length-take-le}
-use borrow.Author.Rules.{rules}
+use Rattle.std.proofs.Common.{sym, length-take-le, rules}
 use Rattle.replay.proofs.host.call_access.Goals as goal
 
 pub slice_bounds-lent-end-2 : goal.slice_bounds-lent-end-2

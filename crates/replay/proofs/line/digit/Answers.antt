@@ -1,5 +1,5 @@
 -- `replay::line::digit` meets its contract: its test is the definition's.
-use mathlib.Core.Path.{sym}
+use Rattle.std.proofs.Common.{sym}
 use Rattle.ground.specs.Tests.{when, unless}
 use Rattle.replay.specs.Line.{digit}
 use Rattle.replay.proofs.line.digit.Goals as goal

@@ -1,5 +1,4 @@
 -- `replay::line::next_sum` meets its contract: the four bytes shown are the sum's.
-use borrow.Author.Rules.{rules}
 use Rattle.replay.proofs.line.next_sum.Goals as goal
 
 pub returns : goal.returns

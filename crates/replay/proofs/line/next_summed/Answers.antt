@@ -1,7 +1,6 @@
 -- `replay::line::next_summed` meets its contract: the pieces are laid one after the other (`laid_more`).
 use Rattle.ground.specs.Memory.{laid_more}
 use Rattle.replay.specs.Line.{summed_text}
-use borrow.Author.Rules.{rules}
 use Rattle.replay.proofs.line.next_summed.Goals as goal
 
 pub returns : goal.returns

@@ -1,7 +1,6 @@
 -- `replay::line::put_address` meets its contract: the pieces are laid one after the other (`laid_more`).
 use Rattle.ground.specs.Memory.{laid_more}
 use Rattle.replay.specs.Line.{address_line}
-use borrow.Author.Rules.{rules}
 use Rattle.replay.proofs.line.put_address.Goals as goal
 
 pub returns : goal.returns

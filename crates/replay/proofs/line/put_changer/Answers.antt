@@ -1,7 +1,6 @@
 -- `replay::line::put_changer` meets its contract: the pieces are laid one after the other (`laid_more`).
 use Rattle.ground.specs.Memory.{laid_more}
 use Rattle.replay.specs.Line.{changer_line}
-use borrow.Author.Rules.{rules}
 use Rattle.replay.proofs.line.put_changer.Goals as goal
 
 pub returns : goal.returns

@@ -1,6 +1,5 @@
 -- `replay::line::put_counted` meets its contract: the totals, or that one of them is too large.
 use Rattle.replay.specs.Line.{counted_line}
-use borrow.Author.Rules.{rules}
 use Rattle.replay.proofs.line.put_counted.Goals as goal
 
 pub returns-in-Is : goal.returns-in-Is

@@ -1,9 +1,8 @@
 -- `replay::line::put_rule` meets its contract: its test is the definition's, and the pieces are laid one after the other (`laid_more`).
-use borrow.Author.Tests.{eq-eqb, ne_eqb}
+use Rattle.std.proofs.Common.{eq-eqb, ne_eqb}
 use Rattle.ground.specs.Tests.{when, unless}
 use Rattle.ground.specs.Memory.{laid_none, laid_more}
 use Rattle.replay.specs.Line.{rule_text}
-use borrow.Author.Rules.{rules}
 use Rattle.replay.proofs.line.put_rule.Goals as goal
 
 pub returns-then-number-eq-UNFIT : goal.returns-then-number-eq-UNFIT

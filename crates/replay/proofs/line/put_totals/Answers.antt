@@ -1,7 +1,6 @@
 -- `replay::line::put_totals` meets its contract: the pieces are laid one after the other (`laid_more`).
 use Rattle.replay.specs.Line.{totals_line}
 use Rattle.ground.specs.Memory.{laid_more}
-use borrow.Author.Rules.{rules}
 use Rattle.replay.proofs.line.put_totals.Goals as goal
 
 pub returns : goal.returns

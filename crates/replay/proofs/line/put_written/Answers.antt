@@ -1,7 +1,6 @@
 -- `replay::line::put_written` meets its contract: the pieces are laid one after the other (`laid_more`).
 use Rattle.ground.specs.Memory.{laid_more}
 use Rattle.replay.specs.Line.{written_line}
-use borrow.Author.Rules.{rules}
 use Rattle.replay.proofs.line.put_written.Goals as goal
 
 pub returns : goal.returns

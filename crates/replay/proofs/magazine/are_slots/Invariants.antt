@@ -1,6 +1,5 @@
 -- `replay::magazine::are_slots` is safe and ends.
-use Prim.Native.Nat.{◌≤◌, ◌-◌}
-use lib.ListN.{length}
+use Rattle.std.proofs.Common.{◌≤◌, ◌-◌, length}
 use Rattle.replay.proofs.magazine.are_slots.Given as goal
 
 abbrev pub invariant-loop-i : goal.invariant-loop-i

@@ -1,7 +1,5 @@
 -- `replay::magazine::call_changer` is safe: the parts lent are as long as `smaller` says.
-use mathlib.Core.Path.{sym}
-use lib.Seq.{length-take-le}
-use borrow.Author.Rules.{rules}
+use Rattle.std.proofs.Common.{sym, length-take-le, rules}
 use Rattle.replay.proofs.magazine.call_changer.Goals as goal
 
 pub slice_bounds-lent-end-2 : goal.slice_bounds-lent-end-2

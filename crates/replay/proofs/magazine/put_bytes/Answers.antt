@@ -1,9 +1,5 @@
 -- `replay::magazine::put_bytes` is safe and ends.
-use Prim.Native.Nat.{◌≤◌, ◌-◌}
-use mathlib.Core.Path.{◌≡◌, refl}
-use native.Mathlib.Omega.{arith}
-use lib.ListN.{length, length-set}
-use borrow.Author.Rules.{rules}
+use Rattle.std.proofs.Common.{◌-◌, refl, arith, length-set}
 use Rattle.replay.proofs.magazine.put_bytes.Goals as goal
 
 pub loop-i-init : goal.loop-i-init

@@ -1,8 +1,5 @@
 -- `replay::magazine::put_bytes` is safe and ends.
-use Prim.Native.Nat.{◌≤◌, ◌-◌}
-use mathlib.Core.Path.{◌≡◌, refl}
-use native.Mathlib.Omega.{arith}
-use lib.ListN.{length, length-set}
+use Rattle.std.proofs.Common.{◌≤◌, ◌-◌, ◌≡◌, length}
 use Rattle.replay.proofs.magazine.put_bytes.Given as goal
 
 abbrev pub invariant-loop-i : goal.invariant-loop-i

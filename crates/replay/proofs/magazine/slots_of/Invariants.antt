@@ -1,5 +1,5 @@
 -- `replay::magazine::slots_of` is safe and ends.
-use Prim.Native.Nat.{◌≤◌, ◌-◌}
+use Rattle.std.proofs.Common.{◌≤◌, ◌-◌}
 use Rattle.replay.proofs.magazine.slots_of.Given as goal
 
 abbrev pub invariant-loop-i : goal.invariant-loop-i

@@ -1,7 +1,6 @@
 -- `replay::task::next_stand` meets its contract: the pieces are laid one after the other (`laid_more`).
 use Rattle.ground.specs.Memory.{laid_more}
 use Rattle.replay.specs.Task.{stand_text}
-use borrow.Author.Rules.{rules}
 use Rattle.replay.proofs.task.next_stand.Goals as goal
 
 pub returns : goal.returns
