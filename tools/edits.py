@@ -8,7 +8,8 @@ usage: python3 tools/edits.py            at the top of the repository: writes ea
 An edit of LANDED is turned by its spelling alone: names by the map of the two texts' declared names, operators with a hole (_+_), projections
 written tight, marks of field names. Where the text does not stand exactly once, the whole line that holds it in LANDED is taken. An edit of which
 a pair does not come over that way is printed, and its file left as it stands, for the hand; --check prints as 'by hand:' each edit that is not
-LANDED's respelled.
+LANDED's respelled. A pair of LANDED for a proof file is left out: those files are gone, and such a pair only kept the proof following; pairs
+for today's proof files are written by hand, and --check looks only whether their old text stands.
 """
 import difflib
 import glob
@@ -172,6 +173,7 @@ class Spelling:
         text = re.sub(r"«(\w+)»", r"\1", text)
         text = re.sub(r"(?<![\w'])_(\S+?)_(?![\w'])", r"◌\1◌", text)
         text = text.replace("′", "'")
+        text = re.sub(r"(?<!use )\b(?:Prim\.Native\.Nat|mathlib\.Core\.(?:Bool|Path|List))\.(?!\{)", "Rattle.std.specs.Prelude.", text)
         text = re.sub(r"Rattle·(\w+)(?:·specs)?\.specs\.", r"Rattle.\1.specs.", text)
         return tight(text)
 
@@ -247,6 +249,7 @@ def main():
     for p in edits:
         crate = p.split("/")[1]
         head, pairs = read(shown(p))
+        pairs = [x for x in pairs if not x[0].startswith("proofs/")]
         out, bad = turned(spelling, crate, pairs)
         if not os.path.exists(p):
             print(f"gone: {p}")
@@ -266,7 +269,7 @@ def main():
                 here[path] = here[path].replace(old, new, 1)
             if read(today)[0] != head:
                 print(f"by hand: {p}: other words above")
-            if mine == out and not bad:
+            if [x for x in mine if not x[0].startswith("proofs/")] == out and not bad:
                 same += 1
             else:
                 print(f"by hand: {p}")
@@ -275,7 +278,8 @@ def main():
             print(f"left: {p}: {b}")
         wrong += bool(bad)
         same += not bad
-        text = written(head, out)
+        kept = [x for x in read(today)[1] if x[0].startswith("proofs/") and os.path.exists(f"crates/{crate}/{x[0]}") and not x[0].endswith("/Proof.antt")]
+        text = written(head, out + kept)
         if text != today and not bad:
             with open(p, "w", encoding="utf-8") as f:
                 f.write(text)
