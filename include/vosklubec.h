@@ -1,4 +1,4 @@
-/* The proved target behind ATAPI registers, for C on x86-64: link target/staticlib/libregisters.a (`rt staticlib registers`).
+/* The proved target behind ATAPI registers, for C on x86-64: link crates/registers_c/out/libregisters_c.a (`rt lib` in crates/registers_c).
  *
  * A board holds one register record and one drive state. At each access of the host it calls vosklubec_interrupt; between accesses it
  * calls the tray's functions. Every function answers every argument, as its promise says; the promises are proved of the Rattle code,

@@ -1,5 +1,6 @@
 -- `changer::row_push` meets its contract: where there is room the slot stands at the end, else nothing changes.
-use Rattle.std.proofs.Common.{sym}
+use mathlib.Core.Path.{sym}
+use borrow.Author.Rules.{rules}
 use borrow.Author.Tests.{lt-ltb, le-ltb}
 use Rattle.ground.specs.Tests.{when, unless}
 use Rattle.changer.specs.RowLaws.{row_push}
