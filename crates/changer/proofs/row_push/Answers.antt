@@ -1,6 +1,5 @@
 -- `changer::row_push` meets its contract: where there is room the slot stands at the end, else nothing changes.
-use mathlib.Core.Path.{sym}
-use borrow.Author.Rules.{rules}
+use Rattle.std.proofs.Common.{sym}
 use borrow.Author.Tests.{lt-ltb, le-ltb}
 use Rattle.ground.specs.Tests.{when, unless}
 use Rattle.changer.specs.RowLaws.{row_push}

@@ -14,8 +14,8 @@ use Rattle.changer.proofs.status.put_slots.Goals as goal
 pub loop-j-init : goal.loop-j-init
 loop-j-init c = (omega arith, c.count_of-end.ensures, rw slot_tables-none (laid_none _), refl)
 
-pub overflow-sub-put-slot : goal.overflow-sub-put-slot
-overflow-sub-put-slot c = laid-within c.loop-j.invariant.2
+pub slice_bounds-put_slot-start : goal.slice_bounds-put_slot-start
+slice_bounds-put_slot-start c = laid-within c.loop-j.invariant.2
 
 pub overflow_add-at : goal.overflow_add-at
 overflow_add-at c =

@@ -9,7 +9,7 @@ use Rattle.taskfile.proofs.run.is_run.Goals as goal
 
 pub returns-then-f : goal.returns-then-f
 unfolding is_run
-returns-then-f c = and_on _ _ (sym c.is_limit.ensures ∙ c.if-is_limit.true) (and_on _ _ (lt-ltb _ _ c.if-f.true) (rw (c.type_size.ensures, c.count_of.ensures)))
+returns-then-f c = and_on _ _ (sym c.is_limit.ensures ∙ c.if-is_limit.true) (and_on _ _ (lt-ltb _ _ c.if-f.true) (rw (c.size_of.ensures, c.count_of.ensures)))
 
 pub returns-then-is_limit : goal.returns-then-is_limit
 unfolding is_run
