@@ -1,5 +1,6 @@
 // Block address to M:S:F and back, exact both ways; refusal 8 outside the ranges of rule 6.
 #![tactic(auto)]
+
 ghost use Rattle.std.specs.Prelude.{◌≡◌};
 ghost use Rattle.address.specs.Address.{to_msf, to_block, is_msf, frames, address_of, shown_address, msf_meaning, block_meaning};
 

@@ -1,5 +1,6 @@
 // The attention unit: which attentions are pending, and the held sense.
 #![tactic(auto)]
+
 pub mod sense;
 
 ghost use Rattle.std.specs.Prelude.{◌≡◌};

@@ -1,11 +1,10 @@
 -- The table made of a sheet of bytes is one of bytes.
-use Rattle.std.specs.Prelude.{◌≡◌, List, [], ◌∷◌, ◌++◌, ℕ, zero, suc, ◌+◌, ◌-◌, ◌*◌, ◌/◌, ◌%◌, ◌≤◌, ◌<◌, eqb, length, get_or}
-use Rattle.std.proofs.Common.{sym, ap, ◌∙◌, arith, lt_of_not-le, get_or-append-add}
+use Rattle.std.specs.Prelude.{◌≡◌, List, [], ◌∷◌, ◌++◌, ℕ, zero, suc, ◌+◌, ◌-◌, ◌*◌, ◌<◌, eqb, length, get_or}
+use Rattle.std.proofs.Common.{ap, ◌∙◌, arith, lt_of_not-le, get_or-append-add}
 use Rattle.std.proofs.Math.Decide.{dec_le}
 use Rattle.std.proofs.Math.ListN.{get_or-append}
 use Rattle.ground.specs.Tests.{either}
 use Rattle.cue.specs.declared.entry.Track.{Track}
-use Rattle.cue.specs.declared.entry.Entry.{Entry}
 use Rattle.cue.specs.Sheet.{entry_size, entry_at, entries, begun, tracks_in, tracks_of, lead_out_of, no_track, first_of, last_from, last_of}
 use Rattle.cue.specs.Made.{descriptor, placed_row, rows_of, body_of, table_with, table_of}
 use Rattle.cue.specs.Held.{Bytes}

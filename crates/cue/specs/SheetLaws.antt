@@ -1,7 +1,7 @@
 -- The laws of a sheet: its tracks entry by entry, how they are numbered, and a described sheet's parts.
 use Rattle.std.specs.Prelude.{◌≡◌, true, false, List, [], ◌∷◌, ◌++◌, ℕ, ◌+◌, ◌-◌, ◌/◌, ◌≤◌, length}
 use Rattle.std.proofs.Common.{ap, arith, add-one, leb-true, eqb-true, ne_eqb}
-use Rattle.ground.specs.Tests.{◌and◌, and_head, and_tail}
+use Rattle.ground.specs.Tests.{and_head, and_tail}
 use Rattle.cue.specs.declared.entry.Track.{Track}
 use Rattle.cue.specs.declared.entry.Entry.{Entry}
 use Rattle.cue.specs.Sheet.{entry_at, entries, is_lead_in, is_lead_out, begun, tracks_in, tracks_of, first_of, last_from, last_of, is_framed, has_adr, every_adr, follows_from, follows, is_numbered, is_described}

@@ -3,7 +3,7 @@ use Rattle.std.specs.Prelude.{◌≡◌, refl, Bool, true, false, List, ℕ, ◌
 use Rattle.std.proofs.Common.{sym, ap, ◌∙◌, arith, lt_of_not-le, eq-eqb, ne_eqb, lt-ltb, le-ltb}
 use Rattle.std.proofs.Math.Decide.{dec_le, ℕ_discrete}
 use Rattle.ground.specs.Tests.{when, unless}
-use Rattle.ground.specs.Memory.{Laid, fill_none, laid_fits}
+use Rattle.ground.specs.Memory.{Laid, fill_none}
 use Rattle.table.specs.Layout.{bound}
 use Rattle.disc.specs.Rules.{fault, is_fit}
 use Rattle.disc.specs.RulesLaws.{fault-first}

@@ -1,5 +1,6 @@
 // A cue sheet of one session turned into a disc table.
 #![tactic(auto)]
+
 mod entry;
 mod made;
 mod sheet;

@@ -1,5 +1,6 @@
 // The deck: tray, disc, lock, play record, mode page and media event, and what the tray's moving and power-on do to them.
 #![tactic(auto)]
+
 ghost use Rattle.std.specs.Prelude.{◌≡◌};
 ghost use Rattle.deck.specs.Deck.{is_event, event_moved, opening, closed_play, closing, restarted, with_disc, with_lock, with_play, with_page, with_event, is_loaded};
 

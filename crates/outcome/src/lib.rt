@@ -1,5 +1,6 @@
 // What a packet hands back: a refusal, CHECK CONDITION or GOOD.
 #![tactic(auto)]
+
 ghost use Rattle.std.specs.Prelude.{◌≡◌};
 ghost use Rattle.gate.specs.Unit.{attention_sense, told};
 ghost use Rattle.outcome.specs.Outcome.{refused, checked, granted, finished};

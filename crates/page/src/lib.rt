@@ -1,5 +1,6 @@
 // Mode page 01h: its recovery byte and retry count.
 #![tactic(auto)]
+
 ghost use Rattle.std.specs.Prelude.{◌≡◌};
 ghost use Rattle.page.specs.Page.{defaults, among, is_setting};
 

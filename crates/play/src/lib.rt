@@ -1,5 +1,6 @@
 // The play record: its status, position and end.
 #![tactic(auto)]
+
 ghost use Rattle.std.specs.Prelude.{◌≡◌, ◌+◌, ltb};
 ghost use Rattle.play.specs.Play.{no_play, with_status, is_status, is_play, moved_on};
 

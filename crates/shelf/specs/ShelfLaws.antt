@@ -10,7 +10,7 @@ use Rattle.disc.specs.RulesLaws.{fault-first}
 use Rattle.shelf.specs.Count.{one_if}
 use Rattle.shelf.specs.Content.{last_out}
 use Rattle.shelf.specs.ContentLaws.{blocks_three}
-use Rattle.shelf.specs.Totals.{sum, if_fit, of_table, totals_of, most, within, bounded, Within}
+use Rattle.shelf.specs.Totals.{sum, if_fit, of_table, totals_of, within, bounded, Within}
 use Rattle.shelf.specs.TotalsLaws.{within_parts, parts_within, bounded_is, bounded-over}
 use Rattle.shelf.specs.Stream.{table_length, tables, shelf, counted, passed}
 use Rattle.shelf.specs.Shelved.{concat, lead_outs, go_on, pieces}

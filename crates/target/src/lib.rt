@@ -1,5 +1,6 @@
 // The target: packets met by the drive, its lent table, its parameter list and its response memory.
 #![tactic(auto)]
+
 mod get_event;
 mod mode_sense;
 pub mod packet;

@@ -2,7 +2,6 @@
 use mathlib.Core.Path.{sym, ap, ◌∙◌}
 use Rattle.address.specs.Address.{block_meaning}
 use Rattle.address.specs.Laws.{to_block_accepts, to_block-refuses}
-use borrow.Author.Rules.{rules}
 use Rattle.address.proofs.is_msf.Goals as goal
 
 pub returns-in-At : goal.returns-in-At

@@ -4,7 +4,6 @@ use mathlib.Core.List.{List, [], ◌∷◌}
 use Prim.Native.Nat.{ℕ}
 use Rattle.ground.specs.Tests.{when, unless}
 use Rattle.address.specs.Address.{MsfAnswer, msf_meaning, shown_address}
-use borrow.Author.Rules.{rules}
 use Rattle.address.proofs.shown_address.Goals as goal
 
 fields : MsfAnswer → List ℕ

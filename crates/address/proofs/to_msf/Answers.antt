@@ -1,7 +1,6 @@
 -- `address::to_msf` meets its contract: the one test picks the law, in the range or over it.
 use mathlib.Core.Path.{sym}
 use Rattle.address.specs.Laws.{to_msf-at, to_msf-refused}
-use borrow.Author.Rules.{rules}
 use Rattle.address.proofs.to_msf.Goals as goal
 
 pub returns-then-address-gt-LAST : goal.returns-then-address-gt-LAST

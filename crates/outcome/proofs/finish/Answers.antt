@@ -2,7 +2,6 @@
 use mathlib.Core.Path.{sym, ap, ◌∙◌}
 use Rattle.attention.specs.declared.sense.Sense.{Sense}
 use Rattle.outcome.specs.Outcome.{checked, finished}
-use borrow.Author.Rules.{rules}
 use Rattle.outcome.proofs.finish.Goals as goal
 
 pub returns-in-Fails : goal.returns-in-Fails

@@ -3,7 +3,6 @@ use mathlib.Core.Path.{ap₂, ◌∙◌}
 use Rattle.attention.specs.declared.sense.Sense.{Sense}
 use Rattle.attention.specs.declared.Unit.{Unit}
 use Rattle.outcome.specs.Outcome.{checked}
-use borrow.Author.Rules.{rules}
 use Rattle.outcome.proofs.tell.Goals as goal
 
 pub returns : goal.returns

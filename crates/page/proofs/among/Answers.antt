@@ -1,10 +1,6 @@
 -- `page::among` meets its contract: what the bytes not yet seen decide is what the whole row decides.
-use mathlib.Core.Path.{◌≡◌, refl, sym, ◌∙◌}
-use Prim.Native.Nat.{◌≤◌, ◌-◌}
+use mathlib.Core.Path.{refl, sym, ◌∙◌}
 use native.Mathlib.Omega.{arith}
-use borrow.Author.Rules.{rules}
-use lib.ListN.{length, drop}
-use Rattle.page.specs.Page.{among}
 use Rattle.page.specs.PageLaws.{among-here, among_on, among_none}
 use Rattle.page.proofs.among.Goals as goal
 

@@ -1,11 +1,8 @@
 -- `attention::sense::is_known` meets its contract: what the rows not yet seen decide is what the whole table decides.
-use mathlib.Core.Path.{◌≡◌, refl, sym, ap, ◌∙◌}
-use Prim.Native.Nat.{◌≤◌, ◌-◌}
+use mathlib.Core.Path.{refl, sym, ap, ◌∙◌}
 use native.Mathlib.Omega.{arith}
-use borrow.Author.Rules.{rules}
-use lib.ListN.{drop}
 use Rattle.attention.specs.declared.sense.Sense.{Sense}
-use Rattle.attention.specs.Sense.{senses, same_sense, among, is_known}
+use Rattle.attention.specs.Sense.{same_sense, is_known}
 use Rattle.attention.specs.SenseLaws.{among-here, among_on, among_none}
 use Rattle.attention.proofs.sense.is_known.Goals as goal
 

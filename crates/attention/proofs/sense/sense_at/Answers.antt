@@ -2,7 +2,6 @@
 use mathlib.Core.Path.{refl}
 use Rattle.attention.specs.Sense.{sense_at}
 use Rattle.attention.specs.SenseLaws.{sense_at-past}
-use borrow.Author.Rules.{rules}
 use Rattle.attention.proofs.sense.sense_at.Goals as goal
 
 pub returns-then-i-lt13 : goal.returns-then-i-lt13

@@ -5,7 +5,6 @@ use Rattle.play.specs.Play.{with_status}
 use Rattle.deck.specs.Deck.{with_play}
 use Rattle.command.specs.Done.{done, done_of}
 use Rattle.audio.specs.AudioLaws.{is_over-completed, is_over-none, is_over_not, pause_resume-over, pause_resume-goes}
-use borrow.Author.Rules.{rules}
 use Rattle.audio.proofs.audio.pause_resume.Goals as goal
 
 pub returns-then-m-eq-COMPLETED : goal.returns-then-m-eq-COMPLETED

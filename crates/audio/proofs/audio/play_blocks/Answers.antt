@@ -4,7 +4,6 @@ use native.Mathlib.Omega.{arith}
 use Rattle.deck.specs.declared.Deck.{Deck}
 use Rattle.command.specs.Done.{done, done_of}
 use Rattle.blocks.specs.RangeLaws.{in_range-end, ranged-out, ranged-mode, ranged-goes}
-use borrow.Author.Rules.{rules}
 use Rattle.audio.proofs.audio.play_blocks.Goals as goal
 
 pub started-requires : goal.started-requires

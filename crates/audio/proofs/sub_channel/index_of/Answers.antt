@@ -3,7 +3,6 @@ use mathlib.Core.Path.{sym, ap, ◌∙◌}
 use Rattle.ground.specs.Tests.{when, unless}
 use Rattle.table.specs.Layout.{is_track}
 use Rattle.audio.specs.SubChannel.{index_of}
-use borrow.Author.Rules.{rules}
 use Rattle.audio.proofs.sub_channel.index_of.Goals as goal
 
 pub returns-then-is_track : goal.returns-then-is_track

@@ -5,7 +5,6 @@ use Rattle.address.specs.Address.{shown_address}
 use Rattle.address.specs.Laws.{shown_address-length}
 use Rattle.audio.specs.SubChannel.{relative, shown_relative}
 use Rattle.audio.specs.SubChannelLaws.{shown_relative-length}
-use borrow.Author.Rules.{rules}
 use Rattle.audio.proofs.sub_channel.position_bytes.Goals as goal
 
 pub returns : goal.returns

@@ -5,7 +5,6 @@ use native.Mathlib.Omega.{arith}
 use Rattle.ground.specs.Tests.{when, unless}
 use Rattle.table.specs.Layout.{is_track}
 use Rattle.audio.specs.SubChannel.{relative}
-use borrow.Author.Rules.{rules}
 use Rattle.audio.proofs.sub_channel.relative.Goals as goal
 
 pub returns-then-u-b : goal.returns-then-u-b

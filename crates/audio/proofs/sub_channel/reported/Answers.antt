@@ -3,7 +3,6 @@ use mathlib.Core.Path.{sym, ◌∙◌}
 use borrow.Author.Tests.{eq-eqb, ne_eqb}
 use Rattle.ground.specs.Tests.{when, unless}
 use Rattle.audio.specs.SubChannel.{reported}
-use borrow.Author.Rules.{rules}
 use Rattle.audio.proofs.sub_channel.reported.Goals as goal
 
 pub returns-then-r-eq-COMPLETED : goal.returns-then-r-eq-COMPLETED

@@ -2,7 +2,6 @@
 use mathlib.Core.Path.{sym, ◌∙◌}
 use Rattle.ground.specs.Tests.{when, unless}
 use Rattle.audio.specs.SubChannel.{shown_relative}
-use borrow.Author.Rules.{rules}
 use Rattle.audio.proofs.sub_channel.shown_relative.Goals as goal
 
 pub returns-then-msf : goal.returns-then-msf

@@ -6,7 +6,6 @@ use Rattle.deck.specs.declared.Deck.{Deck}
 use Rattle.gate.specs.Gate.{goes}
 use Rattle.command.specs.Done.{done_of}
 use Rattle.blocks.specs.RangeLaws.{ranged-out, ranged-mode, ranged-goes}
-use borrow.Author.Rules.{rules}
 use Rattle.blocks.proofs.blocks.read_blocks.Goals as goal
 
 pub returns-then-all : goal.returns-then-all

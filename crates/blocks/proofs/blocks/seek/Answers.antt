@@ -4,7 +4,6 @@ use Rattle.ground.specs.Tests.{when, unless}
 use Rattle.deck.specs.declared.Deck.{Deck}
 use Rattle.command.specs.Done.{done, done_of}
 use Rattle.blocks.specs.Blocks.{seek}
-use borrow.Author.Rules.{rules}
 use Rattle.blocks.proofs.blocks.seek.Goals as goal
 
 pub returns-then-over : goal.returns-then-over

@@ -1,7 +1,6 @@
 -- `blocks::range::in_range` meets its contract: an address that is over decides, else the count does: n ≤ L - a says a + n ≤ L.
 use mathlib.Core.Path.{sym, ◌∙◌}
 use Rattle.blocks.specs.RangeLaws.{in_range-over, in_range-within, in_range-counts}
-use borrow.Author.Rules.{rules}
 use Rattle.blocks.proofs.range.in_range.Goals as goal
 
 pub returns-then-over : goal.returns-then-over

@@ -2,7 +2,6 @@
 use mathlib.Core.Path.{ap, ◌∙◌}
 use Rattle.command.specs.Class.{command_of}
 use Rattle.command.specs.ClassLaws.{command_of_class}
-use borrow.Author.Rules.{rules}
 use Rattle.command.proofs.decode.decode.Goals as goal
 
 pub returns : goal.returns

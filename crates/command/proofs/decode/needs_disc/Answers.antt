@@ -2,7 +2,6 @@
 use mathlib.Core.Path.{sym, ap, ◌∙◌}
 use Rattle.command.specs.declared.decode.Command.{Command}
 use Rattle.command.specs.Command.{needing}
-use borrow.Author.Rules.{rules}
 use Rattle.command.proofs.decode.needs_disc.Goals as goal
 
 pub returns-in-StartStop : goal.returns-in-StartStop

@@ -1,7 +1,6 @@
 -- `command::decode::starting` meets its contract: LoEj decides first, then Start.
 use mathlib.Core.Path.{sym, ◌∙◌}
 use Rattle.ground.specs.Tests.{◌and◌}
-use borrow.Author.Rules.{rules}
 use Rattle.command.proofs.decode.starting.Goals as goal
 
 pub returns-then-bit1 : goal.returns-then-bit1

@@ -1,5 +1,4 @@
 -- `command::field::bit1` meets its contract: the wide number is the byte.
-use borrow.Author.Rules.{rules}
 use Rattle.command.proofs.field.bit1.Goals as goal
 
 pub returns : goal.returns

@@ -4,7 +4,6 @@ use Rattle.ground.specs.Tests.{when, unless}
 use Rattle.deck.specs.declared.Shifted.{Shifted}
 use Rattle.command.specs.Done.{done_of}
 use Rattle.command.specs.Tray.{moving, eject}
-use borrow.Author.Rules.{rules}
 use Rattle.command.proofs.tray.eject.Goals as goal
 
 pub returns-then-m : goal.returns-then-m

@@ -3,7 +3,6 @@ use mathlib.Core.Path.{ap, ◌∙◌}
 use Rattle.deck.specs.declared.Deck.{Deck}
 use Rattle.deck.specs.Deck.{with_lock}
 use Rattle.command.specs.Done.{done, done_of}
-use borrow.Author.Rules.{rules}
 use Rattle.command.proofs.tray.prevent.Goals as goal
 
 pub returns : goal.returns

@@ -3,7 +3,6 @@ use mathlib.Core.Path.{sym, ap, ◌∙◌}
 use Rattle.ground.specs.Tests.{when, unless}
 use Rattle.command.specs.Done.{done_of}
 use Rattle.command.specs.Tray.{start_stop}
-use borrow.Author.Rules.{rules}
 use Rattle.command.proofs.tray.start_stop.Goals as goal
 
 pub returns-then-bit0 : goal.returns-then-bit0

@@ -1,6 +1,5 @@
 -- `cue::made::put_entry` meets its contract: index 1 lays the track's descriptor, another nothing.
 use borrow.Author.Tests.{eq-eqb, ne_eqb}
-use borrow.Author.Rules.{rules}
 use Rattle.ground.specs.Memory.{laid_none}
 use Rattle.ground.specs.Tests.{when, unless}
 use Rattle.cue.specs.MadeLaws.{shown_entry}

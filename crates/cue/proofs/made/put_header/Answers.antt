@@ -1,5 +1,4 @@
 -- `cue::made::put_header` meets its contract: the four bytes copied are the header's, the length's two first.
-use borrow.Author.Rules.{rules}
 use Rattle.cue.proofs.made.put_header.Goals as goal
 
 pub returns : goal.returns

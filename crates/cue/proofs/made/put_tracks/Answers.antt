@@ -2,11 +2,9 @@
 -- that begins where they ended (`laid_more`, `rows_of-entry`).
 use mathlib.Core.Path.{◌≡◌, refl, sym, ap, ◌∙◌}
 use mathlib.Core.List.{◌++◌}
-use Prim.Native.Nat.{ℕ, ◌≤◌, ◌-◌, ◌+◌, ◌/◌}
+use Prim.Native.Nat.{ℕ, ◌-◌, ◌+◌}
 use native.Mathlib.Omega.{arith}
-use borrow.Author.Rules.{rules}
-use lib.ListN.{length}
-use Rattle.ground.specs.Memory.{Laid, laid_none, laid-within, laid_more, laid-length}
+use Rattle.ground.specs.Memory.{laid_none, laid-within, laid_more, laid-length}
 use Rattle.cue.specs.Sheet.{entries, entry_at, tracks_in}
 use Rattle.cue.specs.Made.{rows_of}
 use Rattle.cue.specs.MadeLaws.{shown_entry, rows_of-none, rows_of-entry}

@@ -1,12 +1,8 @@
 -- `cue::sheet::every_adr` meets its contract: the entries gone over have ADR 1, and the first that has another decides.
 use mathlib.Core.Path.{◌≡◌, refl, sym, ap, ◌∙◌}
-use mathlib.Core.Bool.{true}
-use Prim.Native.Nat.{◌≤◌, ◌-◌, ◌/◌}
 use native.Mathlib.Omega.{arith}
-use borrow.Author.Rules.{rules}
-use lib.ListN.{length}
-use Rattle.ground.specs.Tests.{every, every-none, every_more, every-breaks}
-use Rattle.cue.specs.Sheet.{entry_at, entries, has_adr, every_adr}
+use Rattle.ground.specs.Tests.{every-none, every_more, every-breaks}
+use Rattle.cue.specs.Sheet.{entries, has_adr, every_adr}
 use Rattle.cue.proofs.sheet.every_adr.Goals as goal
 
 pub loop-i-init : goal.loop-i-init

@@ -1,7 +1,6 @@
 -- `cue::sheet::is_framed` meets its contract: two entries at least, and then the first and the last are asked.
 use mathlib.Core.Path.{sym, ◌∙◌}
 use borrow.Author.Tests.{le-leb, lt-leb}
-use borrow.Author.Rules.{rules}
 use Rattle.ground.specs.Tests.{and_on, and_off, and_late}
 use Rattle.cue.specs.Sheet.{is_framed}
 use Rattle.cue.proofs.sheet.is_framed.Goals as goal

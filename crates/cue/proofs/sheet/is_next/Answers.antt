@@ -1,5 +1,4 @@
 -- `cue::sheet::is_next` meets its contract: where the numbers followed so far, the two bytes are compared as wide numbers.
-use borrow.Author.Rules.{rules}
 use Rattle.ground.specs.Tests.{and_on, and_off}
 use Rattle.cue.specs.SpanLaws.{is_next}
 use Rattle.cue.proofs.sheet.is_next.Goals as goal

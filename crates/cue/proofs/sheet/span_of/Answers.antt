@@ -1,9 +1,7 @@
 -- `cue::sheet::span_of` meets its contract: what is kept of the entries gone over is their tracks' (`span_of-entry`).
 use mathlib.Core.Path.{◌≡◌, refl, sym, ap, ◌∙◌}
-use Prim.Native.Nat.{ℕ, ◌≤◌, ◌-◌, ◌+◌, ◌/◌}
+use Prim.Native.Nat.{ℕ, ◌-◌, ◌+◌}
 use native.Mathlib.Omega.{arith}
-use borrow.Author.Rules.{rules}
-use lib.ListN.{length}
 use Rattle.cue.specs.declared.sheet.Span.{Span}
 use Rattle.cue.specs.Sheet.{entries, entry_at, tracks_in}
 use Rattle.cue.specs.SpanLaws.{with_entry, span_of, span_of-none, span_of-entry}

@@ -1,7 +1,6 @@
 -- `cue::sheet::with_entry` meets its contract: index 1 adds a track, another leaves the span.
 use mathlib.Core.Path.{sym, ◌∙◌}
 use borrow.Author.Tests.{eq-eqb, ne_eqb}
-use borrow.Author.Rules.{rules}
 use Rattle.ground.specs.Tests.{when, unless}
 use Rattle.cue.specs.SpanLaws.{with_entry}
 use Rattle.cue.proofs.sheet.with_entry.Goals as goal

@@ -1,6 +1,5 @@
 -- `cue::sheet::with_track` meets its contract: the first track begins the span, a later one is its last.
 use mathlib.Core.Path.{sym}
-use borrow.Author.Rules.{rules}
 use Rattle.ground.specs.Tests.{when, unless}
 use Rattle.cue.specs.SpanLaws.{with_track}
 use Rattle.cue.proofs.sheet.with_track.Goals as goal

@@ -1,6 +1,5 @@
 -- `cue::write::hand_out` meets its contract: a table without a broken rule is copied, any other is refused.
 use mathlib.Core.Path.{sym, ◌∙◌}
-use borrow.Author.Rules.{rules}
 use Rattle.cue.specs.WriteLaws.{hand_out_fit, hand_out-unfit}
 use Rattle.cue.proofs.write.hand_out.Goals as goal
 

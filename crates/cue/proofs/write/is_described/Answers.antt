@@ -1,6 +1,5 @@
 -- `cue::write::is_described` meets its contract: each way out is one part of the definition.
 use mathlib.Core.Path.{sym, ap, ◌∙◌}
-use borrow.Author.Rules.{rules}
 use Rattle.ground.specs.Tests.{and_on, and_off, and_late}
 use Rattle.cue.specs.Sheet.{is_described}
 use Rattle.cue.specs.SpanLaws.{is_run, is_run-numbered}

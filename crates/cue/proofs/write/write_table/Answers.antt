@@ -1,5 +1,4 @@
 -- `cue::write::write_table` meets its contract: 14 is tested first and 12 next, as in the definition.
-use borrow.Author.Rules.{rules}
 use lib.ListN.{length}
 use Rattle.cue.specs.WriteLaws.{turned-refuse, answer-no_room, answer-whole, answer-not_whole}
 use Rattle.cue.proofs.write.write_table.Goals as goal

@@ -1,7 +1,6 @@
 -- `cue::write::write_whole` meets its contract: a described sheet has two entries, so its last is there; any other is refused.
 use mathlib.Core.Path.{sym, ap, ◌∙◌}
 use native.Mathlib.Omega.{arith}
-use borrow.Author.Rules.{rules}
 use Rattle.cue.specs.SheetLaws.{is_described_parts}
 use Rattle.cue.specs.SpanLaws.{is_run, is_run-numbered}
 use Rattle.cue.specs.WriteLaws.{turned-refuse, whole_answer-described, whole_answer_not}

@@ -1,7 +1,6 @@
 -- `deck::Deck::closed_play` meets its contract: the disc decides.
 use mathlib.Core.Path.{sym, ◌∙◌}
 use Rattle.ground.specs.Tests.{when, unless}
-use borrow.Author.Rules.{rules}
 use Rattle.deck.proofs.Deck.closed_play.Goals as goal
 
 pub returns-then-self : goal.returns-then-self

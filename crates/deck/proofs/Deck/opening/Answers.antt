@@ -1,5 +1,4 @@
 -- `deck::Deck::opening` meets its contract: nothing is played, and the event is what `event_moved` gives.
-use borrow.Author.Rules.{rules}
 use Rattle.deck.proofs.Deck.opening.Goals as goal
 
 pub returns : goal.returns

@@ -1,5 +1,4 @@
 -- `deck::Deck::restarted` meets its contract: nothing is played, the page has its default values, and there is no event.
-use borrow.Author.Rules.{rules}
 use Rattle.deck.proofs.Deck.restarted.Goals as goal
 
 pub returns : goal.returns

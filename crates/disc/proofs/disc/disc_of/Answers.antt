@@ -1,5 +1,4 @@
 -- `disc::disc::disc_of` meets its contract: the last session is the one it is lent, whose first four descriptors are there.
-use borrow.Author.Rules.{rules}
 use Rattle.disc.proofs.disc.disc_of.Goals as goal
 
 pub returns : goal.returns

@@ -2,7 +2,6 @@
 use mathlib.Core.Path.{sym, ◌∙◌}
 use Rattle.disc.specs.RulesLaws.{is_fit_true, fit-fault}
 use Rattle.disc.specs.DiscLaws.{reading_fit, reading-unfit}
-use borrow.Author.Rules.{rules}
 use Rattle.disc.proofs.disc.fault.Goals as goal
 
 pub returns-in-Fit : goal.returns-in-Fit

@@ -1,13 +1,13 @@
 -- `disc::disc::walk` meets its contract: each turn passes one session more, the first that fails decides, and the rules are asked from there on.
 use mathlib.Core.Path.{sym, ap, ◌∙◌}
-use Prim.Native.Nat.{◌+◌, ◌-◌, ◌≤◌}
+use Prim.Native.Nat.{◌≤◌}
 use native.Mathlib.Omega.{arith}
 use borrow.Author.Tests.{eq-eqb, ne_eqb}
 use lib.ListN.{length}
 use Rattle.ground.specs.Memory.{rest_all}
 use Rattle.table.specs.Row.{frames_of}
 use Rattle.sessions.specs.SessionLaws.{IsSession, size_least}
-use Rattle.disc.specs.WalkSteps.{Walking, walking-none, walking-session, walking-next, walking-breaks, walking-done, walking-last, trod-whole, rows_reading_fit, rows_reading-unfit}
+use Rattle.disc.specs.WalkSteps.{walking-none, walking-session, walking-next, walking-breaks, walking-done, walking-last, trod-whole, rows_reading_fit, rows_reading-unfit}
 use borrow.Author.Rules.{rules}
 use Rattle.disc.proofs.disc.walk.Goals as goal
 use Rattle.disc.proofs.disc.walk.Goals.{Else-end-eq0}

@@ -14,7 +14,6 @@ use Rattle.disc.specs.Rules.{is_fit}
 use Rattle.disc.specs.RulesLaws.{is_fit_true}
 use Rattle.disc.specs.DiscLaws.{reading_fit, reading-unfit}
 use Rattle.disc.specs.PartLaws.{part_refused_not, part_refused_10, part_refused_4}
-use borrow.Author.Rules.{rules}
 use Rattle.disc.proofs.part.session_refusal.Goals as goal
 
 -- a disc was read: the table is fit, and it has as many sessions as the disc

@@ -1,7 +1,6 @@
 -- `disc::rows::row_from` meets its contract: the eleven bytes lent are the descriptor's.
 use mathlib.Core.Path.{◌∙◌}
 use Rattle.table.specs.RowLaws.{row_of_part}
-use borrow.Author.Rules.{rules}
 use Rattle.disc.proofs.rows.row_from.Goals as goal
 
 pub returns : goal.returns

@@ -1,15 +1,11 @@
 -- `disc::rules::rises` meets its contract: each turn compares two starts, the first pair that falls decides, and then the last start and the lead-out.
-use mathlib.Core.Path.{◌≡◌, sym, ap, ◌∙◌}
-use mathlib.Core.Bool.{true}
-use Prim.Native.Nat.{◌+◌, ◌-◌, ◌≤◌}
+use mathlib.Core.Path.{sym, ap, ◌∙◌}
 use native.Mathlib.Omega.{arith}
 use native.Mathlib.Nat.{le_antisymm}
 use borrow.Author.Tests.{lt-ltb, le-ltb}
-use lib.Dec.{ltb}
-use Rattle.ground.specs.Tests.{every, and_on, and_off, every-none, every_more, every-breaks}
+use Rattle.ground.specs.Tests.{and_on, and_off, every-none, every_more, every-breaks}
 use Rattle.table.specs.Row.{start_of}
-use Rattle.disc.specs.Rules.{track_start, rises}
-use borrow.Author.Rules.{rules}
+use Rattle.disc.specs.Rules.{rises}
 use Rattle.disc.proofs.rules.rises.Goals as goal
 
 pub loop-i-init : goal.loop-i-init

@@ -2,7 +2,6 @@
 use borrow.Author.Tests.{le-leb, lt-leb, eq-eqb, ne_eqb}
 use Rattle.ground.specs.Tests.{and_on, and_off, and_late}
 use Rattle.disc.specs.Rules.{rule1}
-use borrow.Author.Rules.{rules}
 use Rattle.disc.proofs.rules.rule1.Goals as goal
 
 pub returns-then-n-lt-HEADER : goal.returns-then-n-lt-HEADER

@@ -3,7 +3,6 @@ use mathlib.Core.Path.{sym, ◌∙◌}
 use borrow.Author.Tests.{le-leb, lt-leb, eq-eqb, ne_eqb}
 use Rattle.ground.specs.Tests.{and_on, and_off, and_late}
 use Rattle.disc.specs.Rules.{rule2}
-use borrow.Author.Rules.{rules}
 use Rattle.disc.proofs.rules.rule2.Goals as goal
 
 pub returns-then-s-ge1 : goal.returns-then-s-ge1

@@ -1,11 +1,9 @@
 -- `disc::rules::rule4` meets its contract: each turn reads one session more that stands in its place, and the first that does not decides.
 use mathlib.Core.Path.{sym, ◌∙◌}
-use Prim.Native.Nat.{◌+◌, ◌-◌}
 use native.Mathlib.Omega.{arith}
-use lib.ListN.{drop}
 use Rattle.ground.specs.Memory.{rest_all}
-use Rattle.sessions.specs.SessionLaws.{is_session_parts, size-within, Told, read_session-told, read_session_told_not}
-use Rattle.disc.specs.WalkSteps.{Reached, reached-next, reached-not, reached-off, reached_end}
+use Rattle.sessions.specs.SessionLaws.{is_session_parts, size-within, read_session-told, read_session_told_not}
+use Rattle.disc.specs.WalkSteps.{reached-next, reached-not, reached-off, reached_end}
 use borrow.Author.Rules.{rules}
 use Rattle.disc.proofs.rules.rule4.Goals as goal
 

@@ -1,17 +1,13 @@
 -- `disc::rules::rule7` meets its contract: each turn tests one session more, and the first that fails decides.
-use mathlib.Core.Path.{◌≡◌, sym, ap, ◌∙◌}
-use mathlib.Core.Bool.{Bool}
+use mathlib.Core.Path.{sym, ap, ◌∙◌}
 use mathlib.Core.List.{List}
-use Prim.Native.Nat.{ℕ, ◌+◌, ◌-◌, ◌≤◌}
+use Prim.Native.Nat.{ℕ}
 use native.Mathlib.Omega.{arith}
-use lib.ListN.{length, take, drop}
 use Rattle.ground.specs.Memory.{rest_all}
-use Rattle.ground.specs.Tests.{◌and◌}
 use Rattle.table.specs.Row.{start_of, address_at}
-use Rattle.sessions.specs.Session.{tracks, size}
-use Rattle.sessions.specs.SessionLaws.{IsSession, size_least, size-within, placed_at, in_order-places}
-use Rattle.disc.specs.Rules.{track_start, rises, begins_after}
-use Rattle.disc.specs.RulesLaws.{Risen, risen-next, risen-breaks, risen_end}
+use Rattle.sessions.specs.Session.{size}
+use Rattle.sessions.specs.SessionLaws.{size_least, size-within, placed_at, in_order-places}
+use Rattle.disc.specs.RulesLaws.{risen-next, risen-breaks, risen_end}
 use borrow.Author.Rules.{rules}
 use Rattle.disc.proofs.rules.rule7.Goals as goal
 

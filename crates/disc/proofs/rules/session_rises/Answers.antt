@@ -1,7 +1,6 @@
 -- `disc::rules::session_rises` meets its contract: the two tests are the definition's, in its order.
 use mathlib.Core.Path.{sym, ◌∙◌}
 use Rattle.ground.specs.Tests.{and_on, and_off}
-use borrow.Author.Rules.{rules}
 use Rattle.disc.proofs.rules.session_rises.Goals as goal
 
 pub returns-then-rises : goal.returns-then-rises

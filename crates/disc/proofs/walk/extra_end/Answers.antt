@@ -6,7 +6,6 @@ use Rattle.ground.specs.Tests.{when, unless}
 use Rattle.table.specs.declared.row.Row.{Row}
 use Rattle.disc.specs.Walk.{extra_end}
 use Rattle.disc.specs.WalkSteps.{extra_end-past}
-use borrow.Author.Rules.{rules}
 use Rattle.disc.proofs.walk.extra_end.Goals as goal
 
 pub returns-then-extra_kept : goal.returns-then-extra_kept

@@ -6,7 +6,6 @@ use Rattle.ground.specs.Tests.{when, unless}
 use Rattle.table.specs.Layout.{C0}
 use Rattle.disc.specs.Walk.{extra_end, extras_end}
 use Rattle.disc.specs.WalkSteps.{extras_end-past}
-use borrow.Author.Rules.{rules}
 use Rattle.disc.proofs.walk.extras_end.Goals as goal
 
 pub returns-then-d-at : goal.returns-then-d-at

@@ -2,7 +2,6 @@
 use mathlib.Core.Path.{sym, ◌∙◌}
 use Rattle.ground.specs.Tests.{and_on, and_off, and_late}
 use Rattle.disc.specs.Walk.{heads_kept}
-use borrow.Author.Rules.{rules}
 use Rattle.disc.proofs.walk.heads_kept.Goals as goal
 
 pub returns-then-a1_kept : goal.returns-then-a1_kept

@@ -5,7 +5,6 @@ use native.Mathlib.Omega.{arith}
 use Rattle.sessions.specs.SessionLaws.{size-heads}
 use Rattle.disc.specs.WalkLaws.{session_kept-heads, session_kept-tracks, session_kept-sound}
 use Rattle.disc.specs.WalkSteps.{tracks_end-none, session_end_not, session_end_on}
-use borrow.Author.Rules.{rules}
 use Rattle.disc.proofs.walk.session_end.Goals as goal
 
 pub returns-then-d : goal.returns-then-d

@@ -1,12 +1,12 @@
 -- `disc::walk::tracks_end` meets its contract: each turn passes one track more, the first that fails decides, and then the lead-out.
 use mathlib.Core.Path.{refl, sym, ◌∙◌}
 use mathlib.Core.Bool.{true, false}
-use Prim.Native.Nat.{◌+◌, ◌-◌, ◌≤◌}
+use Prim.Native.Nat.{◌+◌, ◌≤◌}
 use native.Mathlib.Omega.{arith}
 use lib.ListN.{length}
 use Rattle.ground.specs.Tests.{when, unless}
 use Rattle.table.specs.Layout.{row}
-use Rattle.disc.specs.WalkSteps.{Climbed, climbed-none, climbed-next, climbed-off, climbed-out, climbed-short, climbed-end}
+use Rattle.disc.specs.WalkSteps.{climbed-none, climbed-next, climbed-off, climbed-out, climbed-short, climbed-end}
 use borrow.Author.Rules.{rules}
 use Rattle.disc.proofs.walk.tracks_end.Goals as goal
 use Rattle.disc.proofs.walk.tracks_end.Goals.{Else-d-at}

@@ -2,7 +2,6 @@
 use mathlib.Core.Path.{sym, ◌∙◌}
 use native.Mathlib.Omega.{arith}
 use Rattle.event.specs.EventAnswerLaws.{cleared-media, cleared-short, cleared-other}
-use borrow.Author.Rules.{rules}
 use Rattle.event.proofs.event_answer.cleared.Goals as goal
 
 pub returns-then-limit-lt-CLEARING : goal.returns-then-limit-lt-CLEARING

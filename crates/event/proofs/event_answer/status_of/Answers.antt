@@ -3,7 +3,6 @@ use mathlib.Core.Path.{sym, ◌∙◌}
 use borrow.Author.Tests.{eq-eqb, ne_eqb}
 use Rattle.ground.specs.Tests.{when, unless}
 use Rattle.event.specs.EventAnswer.{status_of}
-use borrow.Author.Rules.{rules}
 use Rattle.event.proofs.event_answer.status_of.Goals as goal
 
 pub returns-then-class-ne-MEDIA : goal.returns-then-class-ne-MEDIA

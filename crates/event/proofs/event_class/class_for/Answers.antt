@@ -1,7 +1,6 @@
 -- `event::event_class::class_for` meets its contract: each way out is one law of the definition.
 use mathlib.Core.Path.{sym, ◌∙◌}
 use Rattle.event.specs.EventClassLaws.{class_for-all, class_for-having}
-use borrow.Author.Rules.{rules}
 use Rattle.event.proofs.event_class.class_for.Goals as goal
 
 pub returns-then-having-eq0 : goal.returns-then-having-eq0

@@ -1,7 +1,6 @@
 -- `gate::fault::sense_of` meets its contract: each arm cites the row that the definition names for its fault.
 use mathlib.Core.Path.{sym, ap, ◌∙◌}
 use Rattle.gate.specs.Fault.{sense_of}
-use borrow.Author.Rules.{rules}
 use Rattle.gate.proofs.fault.sense_of.Goals as goal
 
 pub returns-in-NoMediumClosed : goal.returns-in-NoMediumClosed

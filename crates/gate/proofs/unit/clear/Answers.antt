@@ -2,7 +2,6 @@
 use mathlib.Core.Path.{ap, ◌∙◌}
 use Rattle.attention.specs.declared.sense.Sense.{Sense}
 use Rattle.gate.specs.Unit.{hold}
-use borrow.Author.Rules.{rules}
 use Rattle.gate.proofs.unit.clear.Goals as goal
 
 pub returns : goal.returns

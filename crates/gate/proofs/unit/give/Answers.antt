@@ -5,7 +5,6 @@ use Rattle.ground.specs.Tests.{when, unless}
 use Rattle.attention.specs.Sense.{no_sense, same_sense}
 use Rattle.gate.specs.declared.unit.Pending.{Pending}
 use Rattle.gate.specs.Unit.{clear, attention_sense, told, give}
-use borrow.Author.Rules.{rules}
 use Rattle.gate.proofs.unit.give.Goals as goal
 
 pub returns-then-same : goal.returns-then-same

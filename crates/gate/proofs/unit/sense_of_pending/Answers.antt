@@ -1,7 +1,6 @@
 -- `gate::unit::sense_of_pending` meets its contract: each arm cites the row of its attention.
 use mathlib.Core.Path.{sym, ap, ◌∙◌}
 use Rattle.gate.specs.Unit.{attention_sense}
-use borrow.Author.Rules.{rules}
 use Rattle.gate.proofs.unit.sense_of_pending.Goals as goal
 
 pub returns-in-Power : goal.returns-in-Power

@@ -2,7 +2,6 @@
 use mathlib.Core.Path.{sym, ap}
 use Rattle.gate.specs.declared.unit.Pending.{Pending}
 use Rattle.gate.specs.Unit.{told}
-use borrow.Author.Rules.{rules}
 use Rattle.gate.proofs.unit.told.Goals as goal
 
 pub returns-in-Power : goal.returns-in-Power

@@ -1,11 +1,10 @@
 -- `ground::memory::copy_front` meets its contract: after i turns the first i bytes are laid, each turn stores the next one
 -- (`laid_next`), and the loop ends where the memory is full (`laid_full`) or the bytes are at their end (`laid_end`).
-use mathlib.Core.Path.{◌≡◌, refl}
-use Prim.Native.Nat.{◌≤◌, ◌-◌}
+use mathlib.Core.Path.{refl}
 use native.Mathlib.Omega.{arith}
-use lib.ListN.{length, take, length-set}
+use lib.ListN.{length-set}
 use borrow.Author.Rules.{rules}
-use Rattle.ground.specs.Memory.{Laid, laid_none, laid_next, laid_full, laid_end}
+use Rattle.ground.specs.Memory.{laid_none, laid_next, laid_full, laid_end}
 use Rattle.ground.proofs.memory.copy_front.Goals as goal
 
 pub loop-i-init : goal.loop-i-init

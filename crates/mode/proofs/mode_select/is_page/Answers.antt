@@ -2,7 +2,6 @@
 use borrow.Author.Tests.{eq-eqb, ne_eqb}
 use Rattle.ground.specs.Tests.{and_on, and_off, and_late}
 use Rattle.mode.specs.ModeSelect.{is_page}
-use borrow.Author.Rules.{rules}
 use Rattle.mode.proofs.mode_select.is_page.Goals as goal
 
 pub returns-then-len-eq6 : goal.returns-then-len-eq6

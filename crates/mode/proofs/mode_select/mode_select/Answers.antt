@@ -2,7 +2,6 @@
 use mathlib.Core.Path.{sym, ap, ◌∙◌}
 use Rattle.command.specs.Done.{done_of}
 use Rattle.mode.specs.ModeSelectLaws.{mode_select-differs, mode_select-other, mode_select-none, mode_select-page}
-use borrow.Author.Rules.{rules}
 use Rattle.mode.proofs.mode_select.mode_select.Goals as goal
 
 pub returns-then-n-eq0 : goal.returns-then-n-eq0

@@ -3,7 +3,6 @@ use mathlib.Core.Path.{sym, ap, ◌∙◌}
 use Rattle.deck.specs.declared.Deck.{Deck}
 use Rattle.command.specs.Done.{done, done_of}
 use Rattle.mode.specs.ModeSelectLaws.{selected-sets, selected-bad}
-use borrow.Author.Rules.{rules}
 use Rattle.mode.proofs.mode_select.selected.Goals as goal
 
 pub returns-then-is_page : goal.returns-then-is_page

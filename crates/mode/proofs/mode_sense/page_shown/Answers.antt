@@ -1,7 +1,6 @@
 -- `mode::mode_sense::page_shown` meets its contract: page and control are the byte's, and each way out is one law of the definition.
 use mathlib.Core.Path.{sym}
 use Rattle.mode.specs.ModeSenseLaws.{page_shown-other, page_shown-saved, page_shown-values}
-use borrow.Author.Rules.{rules}
 use Rattle.mode.proofs.mode_sense.page_shown.Goals as goal
 
 pub returns-then-control-eq-SAVED : goal.returns-then-control-eq-SAVED

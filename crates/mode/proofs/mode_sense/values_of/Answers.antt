@@ -1,7 +1,6 @@
 -- `mode::mode_sense::values_of` meets its contract: each way out is one law of the definition.
 use mathlib.Core.Path.{sym, ◌∙◌}
 use Rattle.mode.specs.ModeSenseLaws.{values_of-changeable, values_of-default, values_of-current}
-use borrow.Author.Rules.{rules}
 use Rattle.mode.proofs.mode_sense.values_of.Goals as goal
 
 pub returns-then-control-eq-CHANGEABLE : goal.returns-then-control-eq-CHANGEABLE

@@ -3,7 +3,6 @@ use mathlib.Core.Path.{refl, sym, ◌∙◌}
 use borrow.Author.Tests.{le-leb, lt-leb}
 use Rattle.ground.specs.Tests.{and_on, and_off, and_late}
 use Rattle.play.specs.Play.{is_play}
-use borrow.Author.Rules.{rules}
 use Rattle.play.proofs.Play.is_play.Goals as goal
 
 pub returns-then-self : goal.returns-then-self

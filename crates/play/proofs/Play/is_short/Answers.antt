@@ -4,7 +4,6 @@ use Prim.Native.Nat.{◌+◌}
 use native.Mathlib.Omega.{arith}
 use borrow.Author.Tests.{le-ltb}
 use Rattle.play.specs.PlayLaws.{ltb-after}
-use borrow.Author.Rules.{rules}
 use Rattle.play.proofs.Play.is_short.Goals as goal
 
 pub returns-then-self : goal.returns-then-self

@@ -1,9 +1,7 @@
 -- `play::Play::moved_on` meets its contract: each way out is one law of moving on.
 use mathlib.Core.Path.{sym, ◌∙◌}
-use Prim.Native.Nat.{◌+◌}
 use borrow.Author.Tests.{ltb-true, ltb-false}
 use Rattle.play.specs.PlayLaws.{moved_on-other, moved_on-on, moved_on-ends}
-use borrow.Author.Rules.{rules}
 use Rattle.play.proofs.Play.moved_on.Goals as goal
 
 pub returns-then-is_short : goal.returns-then-is_short

@@ -1,5 +1,5 @@
 -- A turn moves one digit from those still to write to those written (`digits_step`).
-use Rattle.std.proofs.Common.{refl, ap, ◌∙◌, List, ℕ, ◌%◌, ◌++◌, ◌-◌, append-nil, length-set, arith, le_refl}
+use Rattle.std.proofs.Common.{refl, ap, ◌∙◌, List, ℕ, ◌%◌, ◌++◌, append-nil, length-set, arith, le_refl}
 use Rattle.std.proofs.Math.Seq.{slice_empty}
 use Rattle.print.specs.Digits.{last_digits}
 use Rattle.print.proofs.Powers.{digits_step, digit_code}

@@ -7,7 +7,6 @@ use Rattle.ground.specs.Tests.{and_on, and_off, and_late}
 use Rattle.table.specs.declared.row.Row.{Row}
 use Rattle.table.specs.Row.{names}
 use Rattle.sessions.specs.Session.{listed}
-use borrow.Author.Rules.{rules}
 use Rattle.sessions.proofs.session.listed.Goals as goal
 
 -- what a test of a descriptor told, whose POINT was widened

@@ -1,10 +1,8 @@
 -- `sessions::session::lists_tracks` meets its contract: each turn tests the next descriptor, and the first that fails decides.
-use mathlib.Core.Path.{◌≡◌, sym, ◌∙◌}
+use mathlib.Core.Path.{◌≡◌}
 use mathlib.Core.Bool.{true}
 use Prim.Native.Nat.{◌≤◌, ◌+◌, ◌-◌}
-use native.Mathlib.Omega.{arith}
-use native.Mathlib.Nat.{le_antisymm}
-use Rattle.ground.specs.Tests.{every, every-none, every_more, every-breaks}
+use Rattle.ground.specs.Tests.{every}
 use Rattle.table.specs.Row.{row_at, names}
 use Rattle.sessions.proofs.session.lists_tracks.Given as goal
 

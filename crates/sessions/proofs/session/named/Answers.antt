@@ -3,7 +3,6 @@ use mathlib.Core.Path.{sym, ◌∙◌}
 use borrow.Author.Tests.{eq-eqb, ne_eqb}
 use Rattle.ground.specs.Tests.{and_on, and_off}
 use Rattle.table.specs.Row.{names}
-use borrow.Author.Rules.{rules}
 use Rattle.sessions.proofs.session.named.Goals as goal
 
 pub returns-then-wide-k : goal.returns-then-wide-k

@@ -1,15 +1,10 @@
 -- `sessions::session::numbered` meets its contract: each turn tests the next descriptor, and the first that fails decides.
-use mathlib.Core.Path.{◌≡◌, sym, ◌∙◌}
-use mathlib.Core.Bool.{true}
-use Prim.Native.Nat.{◌≤◌, ◌+◌, ◌-◌}
+use mathlib.Core.Path.{sym, ◌∙◌}
 use native.Mathlib.Omega.{arith}
 use native.Mathlib.Nat.{le_antisymm}
-use Rattle.ground.specs.Tests.{every, every-none, every_more, every-breaks}
+use Rattle.ground.specs.Tests.{every-none, every_more, every-breaks}
 use borrow.Author.Tests.{eq-eqb, ne_eqb}
-use lib.Dec.{eqb}
-use Rattle.table.specs.Layout.{session_at}
 use Rattle.sessions.specs.Session.{numbered}
-use borrow.Author.Rules.{rules}
 use Rattle.sessions.proofs.session.numbered.Goals as goal
 
 pub loop-i-init : goal.loop-i-init

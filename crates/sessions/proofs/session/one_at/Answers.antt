@@ -3,7 +3,6 @@ use mathlib.Core.Path.{sym, ◌∙◌}
 use native.Mathlib.Omega.{arith}
 use lib.Seq.{get_or-drop}
 use Rattle.sessions.specs.SessionLaws.{one_is, one_not}
-use borrow.Author.Rules.{rules}
 use Rattle.sessions.proofs.session.one_at.Goals as goal
 
 pub returns-then-byte_at-wide : goal.returns-then-byte_at-wide

@@ -8,7 +8,6 @@ use Rattle.ground.specs.Number.{Byte}
 use Rattle.table.specs.Layout.{row}
 use Rattle.sessions.specs.Session.{first, last, tracks, b0s, c0s, size, listed, numbered}
 use Rattle.sessions.specs.SessionLaws.{size-heads, size_extras, read_session_is, read_session_not}
-use borrow.Author.Rules.{rules}
 use Rattle.sessions.proofs.session.read_session.Goals as goal
 
 -- what the test of the descriptors told, whose first and last track were widened

@@ -3,7 +3,6 @@ use mathlib.Core.Path.{ap}
 use native.Mathlib.Omega.{arith}
 use Prim.Native.Nat.{ℕ, ◌+◌}
 use Rattle.sessions.specs.SessionLaws.{size-drop}
-use borrow.Author.Rules.{rules}
 use Rattle.sessions.proofs.session.size_at.Goals as goal
 
 pub returns : goal.returns

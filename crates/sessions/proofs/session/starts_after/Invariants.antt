@@ -1,10 +1,7 @@
 -- `sessions::session::starts_after` meets its contract: each turn passes one session more.
 use mathlib.Core.Path.{◌≡◌}
 use Prim.Native.Nat.{◌≤◌, ◌*◌, ◌-◌}
-use native.Mathlib.Omega.{arith}
-use native.Mathlib.Nat.{le_antisymm}
 use Rattle.sessions.specs.Session.{starts}
-use Rattle.sessions.specs.SessionLaws.{starts_none, starts-next}
 use Rattle.sessions.proofs.session.starts_after.Given as goal
 
 abbrev pub invariant-loop-k : goal.invariant-loop-k

@@ -1,7 +1,6 @@
 -- `sessions::session::tracks_at` meets its contract: the two bytes read are the session's first and last track.
 use native.Mathlib.Omega.{arith}
 use Rattle.sessions.specs.SessionLaws.{tracks-drop}
-use borrow.Author.Rules.{rules}
 use Rattle.sessions.proofs.session.tracks_at.Goals as goal
 
 pub returns-then-l-f : goal.returns-then-l-f

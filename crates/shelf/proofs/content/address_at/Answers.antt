@@ -4,7 +4,6 @@ use Prim.Native.Nat.{◌*◌}
 use Rattle.table.specs.Layout.{row}
 use Rattle.table.specs.Row.{start_of}
 use Rattle.table.specs.RowLaws.{row_of_part}
-use borrow.Author.Rules.{rules}
 use Rattle.shelf.proofs.content.address_at.Goals as goal
 
 pub returns : goal.returns

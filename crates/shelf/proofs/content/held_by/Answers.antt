@@ -2,16 +2,15 @@
 -- come to the blocks counted one by one (`summed-all`).
 use mathlib.Core.Path.{◌≡◌, refl}
 use mathlib.Core.List.{List}
-use Prim.Native.Nat.{ℕ, ◌+◌, ◌-◌}
+use Prim.Native.Nat.{ℕ, ◌-◌}
 use native.Mathlib.Omega.{arith}
 use lib.ListN.{length, take, drop, length-drop}
 use Rattle.ground.specs.Memory.{rest_all}
 use Rattle.table.specs.Layout.{descriptors}
 use Rattle.sessions.specs.Session.{size}
-use Rattle.sessions.specs.SessionLaws.{IsSession, size_least}
+use Rattle.sessions.specs.SessionLaws.{size_least}
 use Rattle.disc.specs.RulesLaws.{fit_sized, fit-numbered}
-use Rattle.shelf.specs.ContentLaws.{Summed, summed-none, summed-most, summed-here, summed-rises, summed-begins, summed-next, summed-all}
-use borrow.Author.Rules.{rules}
+use Rattle.shelf.specs.ContentLaws.{summed-none, summed-most, summed-here, summed-rises, summed-begins, summed-next, summed-all}
 use Rattle.shelf.proofs.content.held_by.Goals as goal
 
 -- the rest of the descriptors, as it is lent

@@ -3,7 +3,6 @@ use mathlib.Core.Path.{sym, ◌∙◌}
 use native.Mathlib.Omega.{arith}
 use Rattle.disc.specs.Rules.{track_start}
 use Rattle.shelf.specs.LengthsLaws.{run_past-on, run_past-begins, run_past-ends, run_past-off, blocks_to_on}
-use borrow.Author.Rules.{rules}
 use Rattle.shelf.proofs.content.pass.Goals as goal
 
 pub returns-then-r : goal.returns-then-r

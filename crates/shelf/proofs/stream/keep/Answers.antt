@@ -1,6 +1,5 @@
 -- `shelf::stream::keep` meets its contract: what is left is moved to the front, or stands there (`keep-moved`, `keep-none`).
 use Rattle.shelf.specs.StreamLaws.{keep-none, keep-moved}
-use borrow.Author.Rules.{rules}
 use Rattle.shelf.proofs.stream.keep.Goals as goal
 
 pub returns-then-used-eq0 : goal.returns-then-used-eq0

@@ -1,13 +1,12 @@
 -- `shelf::stream::keep_rest` meets its contract: after i turns the first i bytes are laid in front, and the next one still stands where it
 -- stood (`moved-next`).
-use mathlib.Core.Path.{◌≡◌, refl, ap, ◌∙◌}
+use mathlib.Core.Path.{refl, ap, ◌∙◌}
 use mathlib.Core.Logic.{inl, inr}
-use Prim.Native.Nat.{ℕ, ◌+◌, ◌-◌}
+use Prim.Native.Nat.{ℕ, ◌-◌}
 use native.Mathlib.Omega.{arith}
-use lib.ListN.{length, take, drop, get_or, length-take, length-drop, length-set}
-use Rattle.ground.specs.Memory.{Laid, laid_none, laid_next, laid_end}
+use lib.ListN.{drop, get_or, length-take, length-drop, length-set}
+use Rattle.ground.specs.Memory.{laid_none, laid_next, laid_end}
 use Rattle.shelf.specs.StreamLaws.{moved-next, moved_length}
-use borrow.Author.Rules.{rules}
 use Rattle.shelf.proofs.stream.keep_rest.Goals as goal
 
 pub loop-j-init : goal.loop-j-init

@@ -3,7 +3,6 @@ use mathlib.Core.Path.{◌≡◌, sym, ◌∙◌}
 use native.Mathlib.Omega.{arith}
 use lib.ListN.{length, take, length-take}
 use Rattle.shelf.specs.StreamLaws.{passed_used, took_of, taken_short, took-over}
-use borrow.Author.Rules.{rules}
 use Rattle.shelf.proofs.stream.take_in.Goals as goal
 
 pub slice_bounds-count_whole-end-2 : goal.slice_bounds-count_whole-end-2

@@ -4,7 +4,6 @@ use Prim.Native.Nat.{◌+◌}
 use native.Mathlib.Omega.{arith}
 use Rattle.shelf.specs.Stream.{table_length}
 use Rattle.shelf.specs.StreamLaws.{whole_length-whole, whole_length-cut}
-use borrow.Author.Rules.{rules}
 use Rattle.shelf.proofs.stream.whole_length.Goals as goal
 use Rattle.shelf.proofs.stream.whole_length.Goals.{After-word16-n}
 

@@ -6,9 +6,8 @@ use Prim.Native.Nat.{ℕ, ◌+◌, ◌-◌, ◌≤◌}
 use native.Mathlib.Omega.{arith}
 use lib.ListN.{length, drop, length-drop}
 use Rattle.ground.specs.Memory.{rest_all}
-use Rattle.shelf.specs.Totals.{nothing}
 use Rattle.shelf.specs.Stream.{table_length}
-use Rattle.shelf.specs.StreamLaws.{whole_length_some, whole_length-none, Passing, passing-none, passing-next, passing-over, passing-end}
+use Rattle.shelf.specs.StreamLaws.{whole_length_some, whole_length-none, passing-none, passing-next, passing-over, passing-end}
 use borrow.Author.Rules.{rules}
 use Rattle.shelf.proofs.stream.wholes_of.Goals as goal
 

@@ -1,13 +1,9 @@
 -- `shelf::stream::wholes_of` meets its contract: each turn counts one whole table more (`passing-next`), and the first that is not whole ends
 -- it (`passing-end`).
-use mathlib.Core.Path.{◌≡◌, sym, ◌∙◌}
-use Prim.Native.Nat.{◌+◌, ◌-◌, ◌≤◌}
-use native.Mathlib.Omega.{arith}
-use lib.ListN.{length, drop, length-drop}
-use Rattle.ground.specs.Memory.{rest_all}
+use Prim.Native.Nat.{◌-◌}
+use lib.ListN.{length}
 use Rattle.shelf.specs.Totals.{nothing}
-use Rattle.shelf.specs.Stream.{table_length}
-use Rattle.shelf.specs.StreamLaws.{whole_length_some, whole_length-none, Passing, passing-none, passing-next, passing-over, passing-end}
+use Rattle.shelf.specs.StreamLaws.{Passing}
 use Rattle.shelf.proofs.stream.wholes_of.Given as goal
 
 abbrev pub invariant-loop-at : goal.invariant-loop-at

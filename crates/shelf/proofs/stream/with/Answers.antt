@@ -4,7 +4,6 @@ use Rattle.shelf.specs.TotalsLaws.{bounded-told, bounded-told-over}
 use Rattle.shelf.specs.StreamLaws.{passed_to_on, passed_to-over}
 use Rattle.shelf.specs.declared.totals.Totals.{Totals}
 use Rattle.shelf.specs.declared.stream.Passed.TheVariants.{On}
-use borrow.Author.Rules.{rules}
 use Rattle.shelf.proofs.stream.with.Goals as goal
 
 pub returns-in-Is : goal.returns-in-Is

@@ -1,7 +1,6 @@
 -- `shelf::stream::with_rest` meets its contract: nothing left changes nothing, and else it is one table more.
 use mathlib.Core.Path.{sym, ◌∙◌}
 use Rattle.shelf.specs.StreamLaws.{with_rest-none, with_rest_some}
-use borrow.Author.Rules.{rules}
 use Rattle.shelf.proofs.stream.with_rest.Goals as goal
 
 pub returns-then-rest-eq0 : goal.returns-then-rest-eq0

@@ -2,7 +2,6 @@
 use mathlib.Core.Path.{sym, ap, ◌∙◌}
 use Rattle.shelf.specs.TotalsLaws.{within_parts, bounded_is, bounded-over}
 use Rattle.shelf.specs.declared.totals.Counted.TheVariants.{Is}
-use borrow.Author.Rules.{rules}
 use Rattle.shelf.proofs.totals.add.Goals as goal
 
 pub returns-then-is_within : goal.returns-then-is_within

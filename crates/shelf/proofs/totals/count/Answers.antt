@@ -2,7 +2,6 @@
 use mathlib.Core.Path.{ap, ◌∙◌}
 use Rattle.shelf.specs.Totals.{sum, bounded}
 use Rattle.shelf.specs.declared.totals.Totals.{Totals}
-use borrow.Author.Rules.{rules}
 use Rattle.shelf.proofs.totals.count.Goals as goal
 
 pub returns : goal.returns

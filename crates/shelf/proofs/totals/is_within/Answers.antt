@@ -1,5 +1,4 @@
 -- `shelf::totals::is_within` meets its contract: the tests are joined from the last to the first.
-use borrow.Author.Rules.{rules}
 use Rattle.shelf.specs.Totals.{within}
 use Rattle.shelf.proofs.totals.is_within.Goals as goal
 

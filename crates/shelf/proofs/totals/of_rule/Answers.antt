@@ -1,5 +1,4 @@
 -- `shelf::totals::of_rule` meets its contract: each of the tests is the definition's.
-use borrow.Author.Rules.{rules}
 use Rattle.shelf.proofs.totals.of_rule.Goals as goal
 
 pub returns : goal.returns

@@ -2,7 +2,6 @@
 use mathlib.Core.Path.{sym, ap, ◌∙◌}
 use Rattle.disc.specs.DiscLaws.{reading_fit, reading-unfit}
 use Rattle.shelf.specs.TotalsLaws.{of_rule, of_table-unfit}
-use borrow.Author.Rules.{rules}
 use Rattle.shelf.proofs.totals.of_table.Goals as goal
 
 pub of_fit-requires : goal.of_fit-requires

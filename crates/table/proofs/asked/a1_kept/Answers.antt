@@ -2,7 +2,6 @@
 use mathlib.Core.Path.{sym, ◌∙◌}
 use Rattle.ground.specs.Tests.{and_on, and_off}
 use Rattle.table.specs.Asked.{a1_kept}
-use borrow.Author.Rules.{rules}
 use Rattle.table.proofs.asked.a1_kept.Goals as goal
 
 pub returns-then-kept : goal.returns-then-kept

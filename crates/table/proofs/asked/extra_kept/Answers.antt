@@ -2,7 +2,6 @@
 use borrow.Author.Tests.{eq-eqb, ne_eqb}
 use Rattle.ground.specs.Tests.{and_on, and_off}
 use Rattle.table.specs.Asked.{extra_kept}
-use borrow.Author.Rules.{rules}
 use Rattle.table.proofs.asked.extra_kept.Goals as goal
 
 pub returns-then-r-k : goal.returns-then-r-k

@@ -2,7 +2,6 @@
 use borrow.Author.Tests.{le-leb, lt-leb}
 use Rattle.ground.specs.Tests.{and_on, and_off}
 use Rattle.table.specs.Asked.{holds}
-use borrow.Author.Rules.{rules}
 use Rattle.table.proofs.asked.holds.Goals as goal
 
 pub returns-then-r-gt99 : goal.returns-then-r-gt99

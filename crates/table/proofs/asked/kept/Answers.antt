@@ -4,7 +4,6 @@ use borrow.Author.Tests.{eq-eqb, ne_eqb}
 use Rattle.ground.specs.Tests.{and_on, and_off, and_late, and_both}
 use Rattle.table.specs.Row.{names}
 use Rattle.table.specs.Asked.{kept}
-use borrow.Author.Rules.{rules}
 use Rattle.table.proofs.asked.kept.Goals as goal
 
 pub returns-then-r-p : goal.returns-then-r-p

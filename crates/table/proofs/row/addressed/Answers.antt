@@ -4,7 +4,6 @@ use borrow.Author.Tests.{eq-eqb, ne_eqb}
 use Rattle.ground.specs.Tests.{◌or◌, if◌then◌else◌}
 use Rattle.table.specs.Layout.{is_track}
 use Rattle.table.specs.Row.{addressed}
-use borrow.Author.Rules.{rules}
 use Rattle.table.proofs.row.addressed.Goals as goal
 
 pub returns-then-r-eq-A2 : goal.returns-then-r-eq-A2

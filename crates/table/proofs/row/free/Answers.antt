@@ -3,7 +3,6 @@ use mathlib.Core.Path.{refl}
 use borrow.Author.Tests.{eq-eqb, ne_eqb}
 use Rattle.ground.specs.Tests.{and_on, and_off}
 use Rattle.table.specs.Row.{free}
-use borrow.Author.Rules.{rules}
 use Rattle.table.proofs.row.free.Goals as goal
 
 pub returns-then-wide-eq5 : goal.returns-then-wide-eq5

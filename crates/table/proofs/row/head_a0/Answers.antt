@@ -4,7 +4,6 @@ use borrow.Author.Tests.{eq-eqb, ne_eqb}
 use Rattle.ground.specs.Tests.{and_on, and_off, and_late}
 use Rattle.table.specs.Row.{head_a0}
 use Rattle.table.specs.RowLaws.{types-most, types_not}
-use borrow.Author.Rules.{rules}
 use Rattle.table.proofs.row.head_a0.Goals as goal
 
 pub returns-then-wide-eq0 : goal.returns-then-wide-eq0

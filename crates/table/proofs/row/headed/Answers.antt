@@ -3,7 +3,6 @@ use mathlib.Core.Path.{sym, ◌∙◌}
 use borrow.Author.Tests.{eq-eqb, ne_eqb}
 use Rattle.ground.specs.Tests.{when, unless}
 use Rattle.table.specs.Row.{headed}
-use borrow.Author.Rules.{rules}
 use Rattle.table.proofs.row.headed.Goals as goal
 
 pub returns-then-r-eq-A0 : goal.returns-then-r-eq-A0

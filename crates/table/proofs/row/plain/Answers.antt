@@ -4,7 +4,6 @@ use mathlib.Core.Bool.{not}
 use Rattle.ground.specs.Tests.{when, unless}
 use Rattle.table.specs.Row.{plain}
 use Rattle.table.specs.RowLaws.{plain_unless}
-use borrow.Author.Rules.{rules}
 use Rattle.table.proofs.row.plain.Goals as goal
 
 pub returns-then-simple : goal.returns-then-simple

@@ -3,7 +3,6 @@ use mathlib.Core.Path.{sym, ◌∙◌}
 use borrow.Author.Tests.{eq-eqb, ne_eqb}
 use Rattle.ground.specs.Tests.{when, unless}
 use Rattle.table.specs.Row.{row_of}
-use borrow.Author.Rules.{rules}
 use Rattle.table.proofs.row.row_of.Goals as goal
 
 pub returns-then-b-eq-ROW : goal.returns-then-b-eq-ROW

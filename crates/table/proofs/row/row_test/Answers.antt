@@ -3,7 +3,6 @@ use mathlib.Core.Path.{sym, ◌∙◌}
 use borrow.Author.Tests.{eq-eqb, ne_eqb}
 use Rattle.ground.specs.Tests.{when, unless}
 use Rattle.table.specs.Row.{row_test}
-use borrow.Author.Rules.{rules}
 use Rattle.table.proofs.row.row_test.Goals as goal
 
 pub returns-then-n-eq3 : goal.returns-then-n-eq3

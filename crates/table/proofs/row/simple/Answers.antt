@@ -3,7 +3,6 @@ use mathlib.Core.Path.{refl}
 use borrow.Author.Tests.{eq-eqb, ne_eqb}
 use Rattle.ground.specs.Tests.{and_on, and_off, and_late}
 use Rattle.table.specs.Row.{simple}
-use borrow.Author.Rules.{rules}
 use Rattle.table.proofs.row.simple.Goals as goal
 
 pub returns-then-r-eq0 : goal.returns-then-r-eq0

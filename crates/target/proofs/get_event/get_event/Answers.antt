@@ -1,7 +1,6 @@
 -- `target::get_event::get_event` meets its contract: the two forms of the answer are those that the class picks, and each is laid, cut to the
 -- allocation length.
 use Rattle.event.specs.EventAnswerLaws.{event_bytes-none, event_bytes-class}
-use borrow.Author.Rules.{rules}
 use Rattle.target.proofs.get_event.get_event.Goals as goal
 
 pub returns-then-class-eq-NO_CLASS : goal.returns-then-class-eq-NO_CLASS

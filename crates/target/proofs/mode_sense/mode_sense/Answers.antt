@@ -4,7 +4,6 @@ use Rattle.mode.specs.declared.mode_sense.Shown.{Shown}
 use Rattle.command.specs.Command.{length_in}
 use Rattle.mode.specs.ModeSense.{gives}
 use Rattle.target.specs.PerformLaws.{performed-fails}
-use borrow.Author.Rules.{rules}
 use Rattle.target.proofs.mode_sense.mode_sense.Goals as goal
 
 pub returns-in-Fails : goal.returns-in-Fails

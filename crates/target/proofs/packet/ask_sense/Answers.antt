@@ -1,7 +1,6 @@
 -- `target::packet::ask_sense` meets its contract: the 18 bytes show the triple that is given, and are laid, cut to the length.
 use native.Mathlib.Omega.{arith}
 use Rattle.target.specs.PacketLaws.{answered-good}
-use borrow.Author.Rules.{rules}
 use Rattle.target.proofs.packet.ask_sense.Goals as goal
 
 pub returns : goal.returns

@@ -9,7 +9,6 @@ use Rattle.gate.specs.Unit.{attention_sense, told}
 use Rattle.gate.specs.GateLaws.{gate-tells, gate-settles}
 use Rattle.outcome.specs.Outcome.{checked, finished}
 use Rattle.target.specs.PacketLaws.{answered-check, answered-settle}
-use borrow.Author.Rules.{rules}
 use Rattle.target.proofs.packet.gated.Goals as goal
 
 pub returns-in-Power : goal.returns-in-Power

@@ -7,7 +7,6 @@ use Rattle.disc.specs.DiscLaws.{reading_fit, reading-unfit}
 use Rattle.outcome.specs.Outcome.{refused}
 use Rattle.target.specs.FitFacts.{read_off}
 use Rattle.target.specs.PacketLaws.{answer-4, answer-steps, answered-refused}
-use borrow.Author.Rules.{rules}
 use Rattle.target.proofs.packet.meet.Goals as goal
 
 pub steps-requires : goal.steps-requires

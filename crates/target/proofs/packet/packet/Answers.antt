@@ -1,7 +1,6 @@
 -- `target::packet::packet` meets its contract: each test that stops it is the refusal that the definition gives there.
 use mathlib.Core.Path.{sym, ◌∙◌}
 use Rattle.target.specs.PacketLaws.{answer-1, answer-2, answer-3, answered-refused}
-use borrow.Author.Rules.{rules}
 use Rattle.target.proofs.packet.packet.Goals as goal
 
 pub returns-then-mem-lt-BOUND : goal.returns-then-mem-lt-BOUND

@@ -1,7 +1,6 @@
 -- `target::packet::steps` meets its contract: the command's kind picks the way that the definition takes.
 use mathlib.Core.Path.{sym, ap, ◌∙◌}
 use Rattle.command.specs.Command.{kind_of}
-use borrow.Author.Rules.{rules}
 use Rattle.target.proofs.packet.steps.Goals as goal
 
 pub returns-in-Asks : goal.returns-in-Asks

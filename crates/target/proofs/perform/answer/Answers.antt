@@ -1,6 +1,5 @@
 -- `target::perform::answer` meets its contract: a bad field decides, and what passes is laid, cut to the limit.
 use Rattle.target.specs.PerformLaws.{performed-bad, performed-answer}
-use borrow.Author.Rules.{rules}
 use Rattle.target.proofs.perform.answer.Goals as goal
 
 pub returns-then-bad : goal.returns-then-bad

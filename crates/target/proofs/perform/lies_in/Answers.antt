@@ -3,7 +3,6 @@ use mathlib.Core.Path.{sym, ap, ◌∙◌}
 use Rattle.ground.specs.Tests.{and_on, and_off}
 use Rattle.blocks.specs.Range.{in_range}
 use Rattle.target.specs.PerformLaws.{read_off_leads}
-use borrow.Author.Rules.{rules}
 use Rattle.target.proofs.perform.lies_in.Goals as goal
 
 pub returns-then-in_range : goal.returns-then-in_range

@@ -2,7 +2,6 @@
 use mathlib.Core.Path.{sym, ◌∙◌}
 use mathlib.Core.Bool.{true≢false}
 use Rattle.target.specs.PerformLaws.{performed-fails, perform_empty, perform-loaded, perform-free}
-use borrow.Author.Rules.{rules}
 use Rattle.target.proofs.perform.perform.Goals as goal
 
 pub work-requires : goal.work-requires

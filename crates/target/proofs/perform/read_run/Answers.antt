@@ -3,7 +3,6 @@ use mathlib.Core.Path.{ap, ◌∙◌}
 use Rattle.command.specs.Done.{done_of}
 use Rattle.blocks.specs.RangeLaws.{ranged-looked}
 use Rattle.target.specs.PerformLaws.{read_off_leads}
-use borrow.Author.Rules.{rules}
 use Rattle.target.proofs.perform.read_run.Goals as goal
 
 pub returns : goal.returns

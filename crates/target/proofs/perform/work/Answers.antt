@@ -4,7 +4,6 @@ use mathlib.Core.Path.{refl, ap}
 use Rattle.command.specs.declared.decode.Command.{Command}
 use Rattle.command.specs.Command.{needs_disc}
 use Rattle.target.specs.PerformLaws.{read_off_leads, performed-fails, performed_quiet, start_stop_quiet, seek_quiet, ranged_quiet, pause_resume_quiet, mode_select_quiet}
-use borrow.Author.Rules.{rules}
 use Rattle.target.proofs.perform.work.Goals as goal
 
 pub read_run-requires : goal.read_run-requires

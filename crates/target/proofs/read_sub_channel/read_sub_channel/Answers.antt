@@ -6,7 +6,6 @@ use Rattle.table.specs.Layout.{descriptors}
 use Rattle.tracks.specs.Track.{track_of}
 use Rattle.audio.specs.SubChannel.{sub_ask_in}
 use Rattle.audio.specs.SubChannelLaws.{position_bytes-length, sub_bytes-on, sub_bytes-off}
-use borrow.Author.Rules.{rules}
 use Rattle.target.proofs.read_sub_channel.read_sub_channel.Goals as goal
 
 pub answer-requires : goal.answer-requires

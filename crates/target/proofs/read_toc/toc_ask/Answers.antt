@@ -1,5 +1,4 @@
 -- `target::read_toc::toc_ask` meets its contract: each field is the packet's byte.
-use borrow.Author.Rules.{rules}
 use Rattle.target.proofs.read_toc.toc_ask.Goals as goal
 
 pub returns : goal.returns

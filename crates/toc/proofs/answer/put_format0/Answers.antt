@@ -7,7 +7,6 @@ use Rattle.ground.specs.Memory.{laid_more}
 use Rattle.table.specs.Layout.{rows}
 use Rattle.toc.specs.ShownLaws.{shown_count-within}
 use Rattle.toc.specs.AnswerLaws.{format0_laid}
-use borrow.Author.Rules.{rules}
 use Rattle.toc.proofs.answer.put_format0.Goals as goal
 use Rattle.toc.proofs.answer.put_format0.Goals.{After-shown_count-k}
 

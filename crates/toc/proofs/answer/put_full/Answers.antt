@@ -1,6 +1,5 @@
 -- `toc::answer::put_full` meets its contract: each format's writer lays that format's bytes.
 use Rattle.toc.specs.AnswerLaws.{toc_bytes_0, toc_bytes_1, toc_bytes_2}
-use borrow.Author.Rules.{rules}
 use Rattle.toc.proofs.answer.put_full.Goals as goal
 
 pub returns-then-ask-eq0 : goal.returns-then-ask-eq0

@@ -1,5 +1,4 @@
 -- `toc::answer::put_head` meets its contract: the four bytes copied are the header's, the length's two first.
-use borrow.Author.Rules.{rules}
 use Rattle.toc.proofs.answer.put_head.Goals as goal
 
 pub returns : goal.returns

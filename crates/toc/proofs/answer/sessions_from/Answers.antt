@@ -5,7 +5,6 @@ use lib.ListN.{length, drop}
 use Rattle.ground.specs.Memory.{rest_all}
 use Rattle.sessions.specs.Session.{starts}
 use Rattle.toc.specs.AnswerLaws.{drop-held}
-use borrow.Author.Rules.{rules}
 use Rattle.toc.proofs.answer.sessions_from.Goals as goal
 
 pub returns : goal.returns

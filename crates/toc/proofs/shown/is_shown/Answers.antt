@@ -3,7 +3,6 @@ use mathlib.Core.Path.{◌≡◌, refl, sym, ap, ◌∙◌}
 use Rattle.ground.specs.Tests.{and_on, and_off}
 use Rattle.table.specs.Layout.{point_at, is_track}
 use Rattle.toc.specs.Shown.{is_shown}
-use borrow.Author.Rules.{rules}
 use Rattle.toc.proofs.shown.is_shown.Goals as goal
 use Rattle.toc.proofs.shown.is_shown.Goals.{After-is_track}
 

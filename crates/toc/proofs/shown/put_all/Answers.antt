@@ -1,13 +1,10 @@
 -- `toc::shown::put_all` meets its contract: what is shown of the first j descriptors is laid, and the next one goes
 -- into the rest that begins where they ended (`laid_more`).
 use mathlib.Core.Path.{◌≡◌, refl}
-use Prim.Native.Nat.{◌≤◌, ◌-◌, ◌/◌}
 use native.Mathlib.Omega.{arith}
-use borrow.Author.Rules.{rules}
-use lib.ListN.{length}
-use Rattle.ground.specs.Memory.{Laid, laid_none, laid-within, laid_more, laid-length}
+use Rattle.ground.specs.Memory.{laid_none, laid-within, laid_more, laid-length}
 use Rattle.table.specs.Layout.{rows}
-use Rattle.toc.specs.ShownLaws.{listed, listed-none, listed_more}
+use Rattle.toc.specs.ShownLaws.{listed-none, listed_more}
 use Rattle.toc.proofs.shown.put_all.Goals as goal
 
 pub loop-j-init : goal.loop-j-init

@@ -2,7 +2,6 @@
 use Rattle.address.specs.Address.{shown_address}
 use Rattle.address.specs.Laws.{shown_address-length}
 use Rattle.ground.specs.Number.{four}
-use borrow.Author.Rules.{rules}
 use Rattle.toc.proofs.shown.put_described.Goals as goal
 
 pub returns : goal.returns

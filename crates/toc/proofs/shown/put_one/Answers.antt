@@ -1,6 +1,5 @@
 -- `toc::shown::put_one` meets its contract: each arm's writer lays what the definition shows.
 use Rattle.toc.specs.ShownLaws.{shown}
-use borrow.Author.Rules.{rules}
 use Rattle.toc.proofs.shown.put_one.Goals as goal
 
 pub returns-in-Tracks : goal.returns-in-Tracks

@@ -3,7 +3,6 @@ use mathlib.Core.Path.{◌≡◌}
 use Prim.Native.Nat.{◌+◌, ◌-◌, ◌*◌}
 use native.Mathlib.Omega.{arith}
 use Rattle.table.specs.Layout.{row}
-use borrow.Author.Rules.{rules}
 use Rattle.toc.proofs.shown.put_row.Goals as goal
 
 pub returns : goal.returns

@@ -2,7 +2,6 @@
 use mathlib.Core.Path.{sym, ◌∙◌}
 use Rattle.ground.specs.Memory.{laid_none}
 use Rattle.toc.specs.ShownLaws.{shown_track_is, shown_track_not}
-use borrow.Author.Rules.{rules}
 use Rattle.toc.proofs.shown.put_track.Goals as goal
 
 pub returns-then-is_shown : goal.returns-then-is_shown

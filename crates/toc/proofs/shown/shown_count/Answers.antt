@@ -1,11 +1,9 @@
 -- `toc::shown::shown_count` meets its contract: after j descriptors it has counted those of them that are shown.
 use mathlib.Core.Path.{◌≡◌, refl, sym, ap, ◌∙◌}
-use Prim.Native.Nat.{ℕ, ◌≤◌, ◌+◌, ◌-◌, ◌/◌}
+use Prim.Native.Nat.{ℕ, ◌+◌}
 use native.Mathlib.Omega.{arith}
-use lib.ListN.{length}
-use mathlib.Core.Logic.{⊎_elim}
 use Rattle.table.specs.Layout.{rows}
-use Rattle.toc.specs.ShownLaws.{shown_count, shown_count-none, shown_count_is, shown_count_not, shown_count-within}
+use Rattle.toc.specs.ShownLaws.{shown_count-none, shown_count_is, shown_count_not, shown_count-within}
 use Rattle.toc.proofs.shown.shown_count.Goals as goal
 use Rattle.toc.proofs.shown.shown_count.Goals.{then-is_shown, else-is_shown}
 
@@ -30,7 +28,7 @@ loop-j-preserved c =
       omega arith,
       refl,
       elim c.if-is_shown.branch [
-      | then-is_shown w ↦ w.k-is ∙ ap (λ (z : ℕ). z + 1) l.invariant.2 ∙ sym (shown_count_is _ _ _ (sym c.is_shown.ensures ∙ w.if-is_shown.true))
-      | else-is_shown w ↦ w.k-is ∙ l.invariant.2 ∙ sym (shown_count_not _ _ _ (sym c.is_shown.ensures ∙ w.if-is_shown.false))
+        | then-is_shown w ↦ w.k-is ∙ ap (λ (z : ℕ). z + 1) l.invariant.2 ∙ sym (shown_count_is _ _ _ (sym c.is_shown.ensures ∙ w.if-is_shown.true))
+        | else-is_shown w ↦ w.k-is ∙ l.invariant.2 ∙ sym (shown_count_not _ _ _ (sym c.is_shown.ensures ∙ w.if-is_shown.false))
       ],
     )

@@ -1,12 +1,7 @@
 -- `tracks::run::all_pass` meets its contract: every descriptor before j lets the run pass, and one that does not decides.
-use mathlib.Core.Path.{◌≡◌, sym, ◌∙◌}
-use mathlib.Core.Bool.{true}
-use Prim.Native.Nat.{◌+◌, ◌-◌, ◌≤◌}
+use mathlib.Core.Path.{sym, ◌∙◌}
 use native.Mathlib.Omega.{arith}
-use borrow.Author.Rules.{rules}
-use Rattle.ground.specs.Tests.{every, every-none, every_more, every-breaks, every-at, every-all}
-use Rattle.table.specs.Layout.{rows}
-use Rattle.tracks.specs.Track.{track_at, passes}
+use Rattle.ground.specs.Tests.{every-none, every_more, every-breaks, every-at, every-all}
 use Rattle.tracks.specs.RunLaws.{passes-read}
 use Rattle.tracks.proofs.run.all_pass.Goals as goal
 

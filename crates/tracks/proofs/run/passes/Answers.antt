@@ -3,7 +3,6 @@ use mathlib.Core.Path.{sym, ap, ◌∙◌}
 use native.Mathlib.Omega.{arith}
 use Rattle.table.specs.Layout.{is_track}
 use Rattle.tracks.specs.RunLaws.{passes-before, passes-past, passes_track, passes_other}
-use borrow.Author.Rules.{rules}
 use Rattle.tracks.proofs.run.passes.Goals as goal
 
 pub returns-then-c-a : goal.returns-then-c-a

@@ -2,7 +2,6 @@
 use mathlib.Core.Path.{sym, ◌∙◌}
 use Rattle.tracks.specs.Track.{in_mode}
 use Rattle.tracks.specs.RunLaws.{run_none, run_off, run_on}
-use borrow.Author.Rules.{rules}
 use Rattle.tracks.proofs.run.run_is.Goals as goal
 
 pub returns-then-n-eq0 : goal.returns-then-n-eq0

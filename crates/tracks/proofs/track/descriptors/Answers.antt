@@ -3,7 +3,6 @@ use mathlib.Core.Path.{sym}
 use native.Mathlib.Omega.{arith}
 use lib.ListN.{drop_of_length-le}
 use Rattle.ground.specs.Memory.{rest_all}
-use borrow.Author.Rules.{rules}
 use Rattle.tracks.proofs.track.descriptors.Goals as goal
 
 pub returns-then-t-lt-HEADER : goal.returns-then-t-lt-HEADER

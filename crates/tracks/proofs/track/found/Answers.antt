@@ -1,10 +1,7 @@
 -- `tracks::track::found` meets its contract: after j descriptors it holds what the definition finds and the lead-out that stands there.
-use mathlib.Core.Path.{◌≡◌, sym, ap, ◌∙◌}
-use Prim.Native.Nat.{◌-◌, ◌≤◌}
+use mathlib.Core.Path.{sym, ap, ◌∙◌}
 use native.Mathlib.Omega.{arith}
-use borrow.Author.Rules.{rules}
-use Rattle.table.specs.Layout.{rows}
-use Rattle.tracks.specs.Track.{track_with, out_at, next_out, found}
+use Rattle.tracks.specs.Track.{track_with, next_out, found}
 use Rattle.tracks.specs.TrackLaws.{out_at-none, out_at-next, found_none, found-next}
 use Rattle.tracks.proofs.track.found.Goals as goal
 

@@ -3,7 +3,6 @@ use mathlib.Core.Path.{sym, ap, ◌∙◌}
 use mathlib.Core.Bool.{not}
 use Rattle.tracks.specs.declared.track.Mode.{Mode}
 use Rattle.tracks.specs.Track.{flagged}
-use borrow.Author.Rules.{rules}
 use Rattle.tracks.proofs.track.is_flagged.Goals as goal
 
 pub returns-in-Data : goal.returns-in-Data

@@ -3,7 +3,6 @@ use mathlib.Core.Path.{sym, ap, ◌∙◌}
 use Rattle.ground.specs.Tests.{and_on, and_off}
 use Rattle.table.specs.Layout.{is_track}
 use Rattle.tracks.specs.Track.{is_mode}
-use borrow.Author.Rules.{rules}
 use Rattle.tracks.proofs.track.is_mode.Goals as goal
 
 pub returns-then-is_track : goal.returns-then-is_track

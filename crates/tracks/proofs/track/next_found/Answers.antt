@@ -1,7 +1,6 @@
 -- `tracks::track::next_found` meets its contract: the test picks the law, the descriptor or what was found before.
 use mathlib.Core.Path.{sym, ◌∙◌}
 use Rattle.tracks.specs.TrackLaws.{next_found-here, next_found_on}
-use borrow.Author.Rules.{rules}
 use Rattle.tracks.proofs.track.next_found.Goals as goal
 
 pub returns-then-wanted : goal.returns-then-wanted

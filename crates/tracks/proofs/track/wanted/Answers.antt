@@ -2,7 +2,6 @@
 use mathlib.Core.Path.{sym, ap, ◌∙◌}
 use Rattle.table.specs.Layout.{is_track}
 use Rattle.tracks.specs.TrackLaws.{wanted_not, wanted_block, wanted_number}
-use borrow.Author.Rules.{rules}
 use Rattle.tracks.proofs.track.wanted.Goals as goal
 
 pub returns-in-Block : goal.returns-in-Block

@@ -2,7 +2,6 @@
 use mathlib.Core.Path.{sym, ap, ◌∙◌}
 use Rattle.drive.specs.State.{locked, shift, with_deck, moves, refuse}
 use Rattle.drive.specs.StateLaws.{button-closes, button-locked, button-opens, button-unknown}
-use borrow.Author.Rules.{rules}
 use Rattle.drive.proofs.state.Drive.button.Goals as goal
 
 pub returns-then-self : goal.returns-then-self

@@ -2,7 +2,6 @@
 use mathlib.Core.Path.{sym, ◌∙◌}
 use Rattle.ground.specs.Tests.{and_on, and_off, and_late}
 use Rattle.drive.specs.State.{is_known_state}
-use borrow.Author.Rules.{rules}
 use Rattle.drive.proofs.state.Drive.is_known_state.Goals as goal
 
 pub returns-then-is_setting : goal.returns-then-is_setting

@@ -2,7 +2,6 @@
 use mathlib.Core.Path.{sym, ap, ◌∙◌}
 use Rattle.drive.specs.State.{with_deck, moves}
 use Rattle.drive.specs.StateLaws.{lay-full, lay-lays, lay-closed, lay-unknown}
-use borrow.Author.Rules.{rules}
 use Rattle.drive.proofs.state.Drive.lay.Goals as goal
 
 pub returns-then-self-2 : goal.returns-then-self-2

@@ -2,7 +2,6 @@
 use mathlib.Core.Path.{sym, ap, ◌∙◌}
 use Rattle.drive.specs.State.{with_deck, moves}
 use Rattle.drive.specs.StateLaws.{lift-lifts, lift-empty, lift-closed, lift-unknown}
-use borrow.Author.Rules.{rules}
 use Rattle.drive.proofs.state.Drive.lift.Goals as goal
 
 pub returns-then-self-2 : goal.returns-then-self-2

@@ -3,7 +3,6 @@ use mathlib.Core.Path.{sym, ap, ◌∙◌}
 use Rattle.deck.specs.Deck.{with_play}
 use Rattle.drive.specs.State.{with_deck, moves}
 use Rattle.drive.specs.StateLaws.{move_on-moves, move_on-unknown}
-use borrow.Author.Rules.{rules}
 use Rattle.drive.proofs.state.Drive.move_on.Goals as goal
 
 pub returns-then-is_known_state : goal.returns-then-is_known_state

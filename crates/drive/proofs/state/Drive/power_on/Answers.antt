@@ -2,7 +2,6 @@
 use mathlib.Core.Path.{sym, ap, ◌∙◌}
 use Rattle.drive.specs.State.{power_on_with}
 use Rattle.drive.specs.StateLaws.{power_on-with}
-use borrow.Author.Rules.{rules}
 use Rattle.drive.proofs.state.Drive.power_on.Goals as goal
 
 pub returns : goal.returns
