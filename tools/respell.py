@@ -18,7 +18,7 @@ CAMEL = re.compile(r"[a-z0-9][A-Z]")
 DECL = re.compile(r"^(\s*)((?:unfoldable |abbrev |pub |axiom )*)([^\s:(){}]+)((?: ?\{[^}]*\}| ?\([^)]*\))*) :(?: |$)")
 HEAD = re.compile(r"^\s*(?:pub |unfoldable )*(record|data) ([^\s:(){}]+)")
 # a word of its own, where the plain one is the name of a field or of a lemma
-CHOSEN = {"audioBlocks": "audio_blocks_in", "dataBlocks": "data_blocks_in", "leadFlags": "flags_of_lead", "ofData": "data_of", "ofNone": "of_no_track", "targetEvents": "events_of_target", "wholeLength": "length_of_whole"}
+CHOSEN = {"leadOut": "session_lead_out", "audioBlocks": "audio_blocks_in", "dataBlocks": "data_blocks_in", "leadFlags": "flags_of_lead", "ofData": "data_of", "ofNone": "of_no_track", "targetEvents": "events_of_target", "wholeLength": "length_of_whole"}
 # words of std that lemmas are about
 STD = set("length append take drop set get_or add mul sub div mod min max map sum concat reverse replicate eq lt le suc zero nat_le nat_lt nat_eq".split())
 

@@ -27,6 +27,6 @@ abbrev pub resumed : Bool → ℕ
 resumed resume = if resume then playing else paused
 
 -- ".. and changes nothing where it already holds": the status is set again
-unfoldable pub pauseResume : Bool → Deck → Result Deck
-pauseResume resume m =
+unfoldable pub pause_resume : Bool → Deck → Result Deck
+pause_resume resume m =
     if is_over m.play.status then fails BadField else done (with_play m (with_status m.play (resumed resume)))

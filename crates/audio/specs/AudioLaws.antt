@@ -8,7 +8,7 @@ use Rattle.deck.specs.Deck.{with_play}
 use Rattle.gate.specs.declared.fault.Fault.TheVariants.{BadField}
 use Rattle.gate.specs.Gate.{fails}
 use Rattle.command.specs.Done.{done}
-use Rattle.audio.specs.Audio.{started, is_over, resumed, pauseResume}
+use Rattle.audio.specs.Audio.{started, is_over, resumed, pause_resume}
 
 module _ (a n : ℕ) (m : Deck) where
   pub started_none : n ≡ 0 → started a n m ≡ m
@@ -32,10 +32,10 @@ unfolding is_over
 is_over_not s h k = or_else _ _ (ne_eqb _ _ h) ∙ ne_eqb _ _ k
 
 module _ (resume : Bool) (m : Deck) where
-  pub pause_resume-over : is_over m.play.status ≡ true → pauseResume resume m ≡ fails BadField
-  unfolding pauseResume
+  pub pause_resume-over : is_over m.play.status ≡ true → pause_resume resume m ≡ fails BadField
+  unfolding pause_resume
   pause_resume-over h = when _ _ _ h
 
-  pub pause_resume-goes : is_over m.play.status ≡ false → pauseResume resume m ≡ done (with_play m (with_status m.play (resumed resume)))
-  unfolding pauseResume
+  pub pause_resume-goes : is_over m.play.status ≡ false → pause_resume resume m ≡ done (with_play m (with_status m.play (resumed resume)))
+  unfolding pause_resume
   pause_resume-goes h = unless _ _ _ h

@@ -19,8 +19,8 @@ abbrev pub sub_ask : ℕ → ℕ → ℕ → SubAsk
 sub_ask b1 b2 b3 = record { msf = bit1 b1; sub_q = bit6 b2; format = b3 }
 
 -- what the packet asks for
-abbrev pub subAskIn : List ℕ → SubAsk
-subAskIn p = sub_ask (byte p 1) (byte p 2) (byte p 3)
+abbrev pub sub_ask_in : List ℕ → SubAsk
+sub_ask_in p = sub_ask (byte p 1) (byte p 2) (byte p 3)
 
 -- "with SubQ 1 another format is 05/24/00"
 unfoldable pub sub_bad : SubAsk → Bool
@@ -58,5 +58,5 @@ unfoldable pub reported : Play → Play
 reported r = if eqb r.status completed then with_status r none else r
 
 -- the answer tells the record as it was; after any GOOD 42h, of SubQ 0 or length 0 too, 13h has turned, and position and end stay
-abbrev pub readSubChannel : SubAsk → Track → ℕ → Deck → Result Deck
-readSubChannel ask u limit m = answering (sub_bad ask) (with_play m (reported m.play)) (sub_bytes ask u m.play) limit
+abbrev pub read_sub_channel : SubAsk → Track → ℕ → Deck → Result Deck
+read_sub_channel ask u limit m = answering (sub_bad ask) (with_play m (reported m.play)) (sub_bytes ask u m.play) limit

@@ -15,23 +15,23 @@ pub shown_relative-length : (msf : Bool) (n : ℕ) → length (shown_relative ms
 unfolding shown_relative
 shown_relative-length msf n = either (λ (l : List ℕ). length l ≡ 4) msf (λ h. refl) (λ h. refl)
 
-pub positionBytes-length : (msf : Bool) (u : Track) (r : Play) → length (position_bytes msf u r) ≡ 16
-positionBytes-length msf u r =
+pub position_bytes-length : (msf : Bool) (u : Track) (r : Play) → length (position_bytes msf u r) ≡ 16
+position_bytes-length msf u r =
     let a = shown_address-length msf r.position in
     let b = shown_relative-length msf (relative u r.position) in
     let c = length-append (shown_address msf r.position) (shown_relative msf (relative u r.position)) in
     omega arith
 
 module _ (ask : SubAsk) (u : Track) (r : Play) where
-  pub subBytes-on : ask.sub_q ≡ true → sub_bytes ask u r ≡ position_bytes ask.msf u r
+  pub sub_bytes-on : ask.sub_q ≡ true → sub_bytes ask u r ≡ position_bytes ask.msf u r
   unfolding sub_bytes
-  subBytes-on h = when _ _ _ h
+  sub_bytes-on h = when _ _ _ h
 
-  pub subBytes-off : ask.sub_q ≡ false → sub_bytes ask u r ≡ status_bytes r
+  pub sub_bytes-off : ask.sub_q ≡ false → sub_bytes ask u r ≡ status_bytes r
   unfolding sub_bytes
-  subBytes-off h = unless _ _ _ h
+  sub_bytes-off h = unless _ _ _ h
 
   pub sub_bytes-length : length (sub_bytes ask u r) ≤ 16
   unfolding sub_bytes
   sub_bytes-length =
-      either (λ (l : List ℕ). length l ≤ 16) ask.sub_q (λ h. let e = positionBytes-length ask.msf u r in omega arith) (λ h. omega arith)
+      either (λ (l : List ℕ). length l ≤ 16) ask.sub_q (λ h. let e = position_bytes-length ask.msf u r in omega arith) (λ h. omega arith)

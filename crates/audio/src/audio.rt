@@ -1,7 +1,7 @@
 // PLAY AUDIO(10) and PAUSE/RESUME; l is the last lead-out.
 ghost use Rattle.std.specs.Prelude.{◌≡◌, ◌+◌, ◌<◌};
 ghost use Rattle.command.specs.Done.{done_of};
-ghost use Rattle.audio.specs.Audio.{started, play, resumed, pauseResume};
+ghost use Rattle.audio.specs.Audio.{started, play, resumed, pause_resume};
 
 use blocks::range::in_range;
 use command::done::{Done, done_with};
@@ -49,7 +49,7 @@ fn resumed(resume: bool) -> u8
 
 // PAUSE/RESUME: what is playing or paused becomes what is asked for.
 pub fn pause_resume(resume: bool, m: Deck) -> Done
-    ensures { result ≡ done_of (pauseResume resume m) }
+    ensures { result ≡ done_of (pause_resume resume m) }
 {
     if m.play.status == COMPLETED {
         return Done::Fails(Fault::BadField);

@@ -15,8 +15,8 @@ abbrev pub capacity : ℕ → List ℕ
 capacity l = bytes32 (l - 1) ++ bytes32 2048
 
 -- ".. no allocation length": the whole answer
-abbrev pub readCapacity : ℕ → Deck → Result Deck
-readCapacity l m = answering false m (capacity l) 8
+abbrev pub read_capacity : ℕ → Deck → Result Deck
+read_capacity l m = answering false m (capacity l) 8
 
 -- K2: "A GOOD READ or SEEK sets 15h", the status alone
 abbrev pub stopped : Deck → Deck

@@ -4,15 +4,15 @@ use Rattle.ground.specs.Tests.{◌and◌, ◌or◌, if◌then◌else◌}
 use Rattle.ground.specs.Memory.{fill}
 use Rattle.attention.specs.declared.Unit.{Unit}
 use Rattle.deck.specs.declared.Deck.{Deck}
-use Rattle.deck.specs.Deck.{isLoaded}
-use Rattle.drive.specs.State.{isKnownState, unknownState}
+use Rattle.deck.specs.Deck.{is_loaded}
+use Rattle.drive.specs.State.{is_known_state, unknown_state}
 use Rattle.table.specs.Layout.{bound}
-use Rattle.disc.specs.Rules.{isFit}
-use Rattle.disc.specs.Part.{unfit, ruleWith}
+use Rattle.disc.specs.Rules.{is_fit}
+use Rattle.disc.specs.Part.{unfit, rule_with}
 use Rattle.gate.specs.declared.fault.Fault.TheVariants.{BadField}
 use Rattle.gate.specs.Gate.{Result, fails, Reply, refuse, gate}
 use Rattle.command.specs.Command.{code_of, decode, lo_ej}
-use Rattle.target.specs.Packet.{notTwelve, shortMemory}
+use Rattle.target.specs.Packet.{not_twelve, short_memory}
 use Rattle.target.specs.Packet as drive
 use Rattle.changer.specs.declared.Slot.{Slot}
 use Rattle.changer.specs.declared.Changer.{Changer}
@@ -67,19 +67,19 @@ steps u m p t l =
     else carried m (drive.steps (decode (code_of p)) u m.deck p t l)
 
 -- "Refusals: 11, after 3": 1, 2, 3, 11 and then 4, where a disc is in the drive; n is the length of the response memory
-unfoldable pub refusalOf : Changer → List Slot → List ℕ → List ℕ → ℕ → ℕ
-refusalOf c s p t n =
-    if not (eqb (length p) 12) then notTwelve
-    else (if not (isKnownState c.drive) then unknownState
-    else (if ltb n bound then shortMemory
+unfoldable pub refusal_of : Changer → List Slot → List ℕ → List ℕ → ℕ → ℕ
+refusal_of c s p t n =
+    if not (eqb (length p) 12) then not_twelve
+    else (if not (is_known_state c.drive) then unknown_state
+    else (if ltb n bound then short_memory
     else (if not (is_in_order c s) then out_of_order
-    else (if isLoaded c.drive.deck and not (isFit t) then unfit else 0))))
+    else (if is_loaded c.drive.deck and not (is_fit t) then unfit else 0))))
 
 -- the answer to the packet p with the slots s, the table t, the parameter list l and a response memory of n bytes
 unfoldable pub answer : Changer → List Slot → List ℕ → List ℕ → List ℕ → ℕ → Reply Mechanism
 answer c s p t l n =
-    if eqb (refusalOf c s p t n) 0 then steps c.drive.unit (mechanism_of c s) p t l
-    else refuse (refusalOf c s p t n) (ruleWith (refusalOf c s p t n) t) c.drive.unit (mechanism_of c s)
+    if eqb (refusal_of c s p t n) 0 then steps c.drive.unit (mechanism_of c s) p t l
+    else refuse (refusal_of c s p t n) (rule_with (refusal_of c s p t n) t) c.drive.unit (mechanism_of c s)
 
 -- ---- what is handed back of an answer
 
@@ -91,8 +91,8 @@ state_of a = record { drive = record { unit = a.unit; deck = a.deck.deck }; home
 abbrev pub bytes_of : Reply Mechanism → List ℕ
 bytes_of a = take a.limit a.full
 
-abbrev pub outcomeOf : Reply Mechanism → Outcome
-outcomeOf a = record {
+abbrev pub outcome_of : Reply Mechanism → Outcome
+outcome_of a = record {
   number = a.number;
   rule = a.rule;
   status = a.status;
@@ -104,13 +104,13 @@ outcomeOf a = record {
 
 -- the outcome r, the memory m' and the slots s' are what the answer says, of the memory m
 pub record Answered (a : Reply Mechanism) (m : List ℕ) (r : Outcome) (m' : List ℕ) (s' : List Slot) : Type 0 where
-  pub outcome : r ≡ outcomeOf a
+  pub outcome : r ≡ outcome_of a
   pub memory : m' ≡ fill m (bytes_of a)
   pub slots : s' ≡ a.deck.slots
 
 -- where the slots are the first n of s: the outcome and the memory m' are what the answer says, of the memory m, and so are the first slots;
 -- the others stay as they were
 pub record AnsweredOn (c : Changer) (s : List Slot) (n : ℕ) (p t l m : List ℕ) (r : Lent) (m' : List ℕ) : Type 0 where
-  pub outcome : r.outcome ≡ outcomeOf (answer c (take n s) p t l (length m))
+  pub outcome : r.outcome ≡ outcome_of (answer c (take n s) p t l (length m))
   pub memory : m' ≡ fill m (bytes_of (answer c (take n s) p t l (length m)))
   pub slots : r.slots ≡ (answer c (take n s) p t l (length m)).deck.slots ++ drop n s

@@ -6,20 +6,20 @@ use Rattle.std.proofs.Math.Bool.{true, false, not}
 use Rattle.std.proofs.lemmas.Bool.{false≢true, lt-leb}
 use Rattle.std.proofs.Math.Decide.{dec_le}
 use native.Mathlib.Omega.{arith}
-use Rattle.ground.specs.Tests.{◌and◌, ◌or◌, if◌then◌else◌, when, unless, and_head, and_tail, and_both, and-off, and-late, or_else}
+use Rattle.ground.specs.Tests.{◌and◌, ◌or◌, if◌then◌else◌, when, unless, and_head, and_tail, and_both, and_off, and_late, or_else}
 use Rattle.ground.specs.Memory.{fill, fill_none}
 use Rattle.attention.specs.declared.Unit.{Unit}
 use Rattle.deck.specs.declared.Deck.{Deck}
-use Rattle.deck.specs.Deck.{isLoaded}
-use Rattle.drive.specs.State.{isKnownState, unknownState}
+use Rattle.deck.specs.Deck.{is_loaded}
+use Rattle.drive.specs.State.{is_known_state, unknown_state}
 use Rattle.table.specs.Layout.{bound}
-use Rattle.disc.specs.Rules.{fault, isFit}
-use Rattle.disc.specs.Part.{unfit, ruleWith}
-use Rattle.disc.specs.PartLaws.{ruleWith-none, ruleWith-fault}
+use Rattle.disc.specs.Rules.{fault, is_fit}
+use Rattle.disc.specs.Part.{unfit, rule_with}
+use Rattle.disc.specs.PartLaws.{rule_with-none, rule_with-fault}
 use Rattle.gate.specs.declared.fault.Fault.TheVariants.{BadField}
 use Rattle.gate.specs.declared.unit.Pending.{Pending}
 use Rattle.gate.specs.declared.unit.Pending.TheVariants.{Nothing}
-use Rattle.gate.specs.Unit.{clear, pending_of, attentionSense, told}
+use Rattle.gate.specs.Unit.{clear, pending_of, attention_sense, told}
 use Rattle.gate.specs.Gate.{Result, fails, goes, Reply, refuse, settle, gate}
 use Rattle.gate.specs.GateLaws.{gate-tells, gate-settles}
 use Rattle.command.specs.Command.{code_of}
@@ -28,7 +28,7 @@ use Rattle.outcome.specs.declared.Outcome.{Outcome as Driven}
 use Rattle.outcome.specs.Outcome as drive
 use Rattle.outcome.specs.Outcome.{checked, finished}
 use Rattle.target.specs.Perform.{written}
-use Rattle.target.specs.Packet.{notTwelve, shortMemory}
+use Rattle.target.specs.Packet.{not_twelve, short_memory}
 use Rattle.target.specs.Packet as target
 use Rattle.target.specs.PacketLaws.{answer-4, answer-steps}
 use Rattle.changer.specs.declared.Slot.{Slot}
@@ -44,12 +44,12 @@ use Rattle.changer.specs.Status.{status_length, mechanism_status}
 use Rattle.changer.specs.MechanismLaws.{deck_of, after, Homed, ActedOn}
 use Rattle.changer.specs.Changer.{out_of_order, has_home, is_in_order}
 use Rattle.changer.specs.RowLaws.{room, settled, Within, staying, within-staying, settled_still}
-use Rattle.changer.specs.ChangerPacket.{mechanism_of, is_own, own, carried, steps, refusalOf, answer, outcomeOf, bytes_of, Answered, AnsweredOn}
+use Rattle.changer.specs.ChangerPacket.{mechanism_of, is_own, own, carried, steps, refusal_of, answer, outcome_of, bytes_of, Answered, AnsweredOn}
 
 -- what is handed back and the memory are what the answer says, and what becomes of the slots s makes them the answer's; where it is refused
 -- nothing becomes of them
 pub record AnsweredBy (a : Reply Mechanism) (s : List Slot) (m : List ℕ) (d : Met) (m' : List ℕ) : Type 0 where
-  pub outcome : d.outcome ≡ outcomeOf a
+  pub outcome : d.outcome ≡ outcome_of a
   pub memory : m' ≡ fill m (bytes_of a)
   pub slots : settled s d.moves ≡ a.deck.slots
   pub within : Within d.moves (length s)
@@ -58,7 +58,7 @@ pub record AnsweredBy (a : Reply Mechanism) (s : List Slot) (m : List ℕ) (d : 
 -- none of 1, 2, 3 and 11
 pub record Passed (c : Changer) (s : List Slot) (p : List ℕ) (n : ℕ) : Type 0 where
   pub twelve : length p ≡ 12
-  pub known : isKnownState c.drive ≡ true
+  pub known : is_known_state c.drive ≡ true
   pub room : bound ≤ n
   pub order : is_in_order c s ≡ true
 
@@ -115,7 +115,7 @@ answered_by-carried m {a} x = record {
 
 -- an attention is told
 pub answered_by-tells : (a : Pending) (u : Unit) (m : Mechanism) (r : Result Mechanism) {o : Driven} (b : List ℕ)
-    → pending_of u ≡ a → (a ≡ Nothing → ⊥) → o ≡ checked (attentionSense a) (told a u) m.deck
+    → pending_of u ≡ a → (a ≡ Nothing → ⊥) → o ≡ checked (attention_sense a) (told a u) m.deck
     → AnsweredBy (gate u m r) m.slots b (outcome_with o m.home staying) b
 answered_by-tells a u m r b e n x = rw (gate-tells a u m r e n) (record {
   outcome = ap (λ (o : Driven). (outcome_with o m.home staying).outcome) x;
@@ -128,7 +128,7 @@ answered_by-tells a u m r b e n x = rw (gate-tells a u m r e n) (record {
 -- what is performed is settled
 module _ (u : Unit) (m : Mechanism) where
   settled-outcome : (r : Result Mechanism) (x : Moves)
-      → (outcome_with (finished u (clear u) m.deck (done_of (deck_of r))) (after m r).home x).outcome ≡ outcomeOf (settle u m r)
+      → (outcome_with (finished u (clear u) m.deck (done_of (deck_of r))) (after m r).home x).outcome ≡ outcome_of (settle u m r)
   settled-outcome (fails f) x = refl
   settled-outcome (goes next loading full limit start count) x = refl
 
@@ -168,35 +168,35 @@ module _ (c : Changer) (s : List Slot) (p t l : List ℕ) (n : ℕ) where
   Refused k r = answer c s p t l n ≡ refuse k r c.drive.unit (mechanism_of c s)
 
   -- by k with the rule r beside it, and with none
-  refused-by : (k : ℕ) {r : ℕ} → refusalOf c s p t n ≡ k → (k ≡ 0 → ⊥) → r ≡ ruleWith k t → Refused k r
+  refused-by : (k : ℕ) {r : ℕ} → refusal_of c s p t n ≡ k → (k ≡ 0 → ⊥) → r ≡ rule_with k t → Refused k r
   unfolding answer
   refused-by k e z h =
       unless _ _ _ (ne_eqb _ 0 (λ w. z (sym e ∙ w)))
-      ∙ ap (λ (x : ℕ). refuse x (ruleWith x t) c.drive.unit (mechanism_of c s)) e
+      ∙ ap (λ (x : ℕ). refuse x (rule_with x t) c.drive.unit (mechanism_of c s)) e
       ∙ ap (λ (x : ℕ). refuse k x c.drive.unit (mechanism_of c s)) (sym h)
 
-  refused-plainly : (k : ℕ) → refusalOf c s p t n ≡ k → (k ≡ 0 → ⊥) → (k ≡ unfit → ⊥) → Refused k 0
-  refused-plainly k e z w = refused-by k e z (ruleWith-none k t w)
+  refused-plainly : (k : ℕ) → refusal_of c s p t n ≡ k → (k ≡ 0 → ⊥) → (k ≡ unfit → ⊥) → Refused k 0
+  refused-plainly k e z w = refused-by k e z (rule_with-none k t w)
 
-  pub changer-1 : (length p ≡ 12 → ⊥) → Refused notTwelve 0
-  unfolding refusalOf
-  changer-1 h = refused-plainly notTwelve (when _ _ _ (ap not (ne_eqb _ _ h))) (λ z. omega arith) (λ z. omega arith)
+  pub changer-1 : (length p ≡ 12 → ⊥) → Refused not_twelve 0
+  unfolding refusal_of
+  changer-1 h = refused-plainly not_twelve (when _ _ _ (ap not (ne_eqb _ _ h))) (λ z. omega arith) (λ z. omega arith)
 
   module _ (a : length p ≡ 12) where
-    pub changer-2 : isKnownState c.drive ≡ false → Refused unknownState 0
-    unfolding refusalOf
+    pub changer-2 : is_known_state c.drive ≡ false → Refused unknown_state 0
+    unfolding refusal_of
     changer-2 h =
-        refused-plainly unknownState (unless _ _ _ (ap not (eq-eqb _ _ a)) ∙ when _ _ _ (ap not h)) (λ z. omega arith) (λ z. omega arith)
+        refused-plainly unknown_state (unless _ _ _ (ap not (eq-eqb _ _ a)) ∙ when _ _ _ (ap not h)) (λ z. omega arith) (λ z. omega arith)
 
-    module _ (b : isKnownState c.drive ≡ true) where
-      pub changer-3 : n < bound → Refused shortMemory 0
-      unfolding refusalOf
+    module _ (b : is_known_state c.drive ≡ true) where
+      pub changer-3 : n < bound → Refused short_memory 0
+      unfolding refusal_of
       changer-3 h =
-          refused-plainly shortMemory (unless _ _ _ (ap not (eq-eqb _ _ a)) ∙ unless _ _ _ (ap not b) ∙ when _ _ _ (lt-ltb _ _ h))
+          refused-plainly short_memory (unless _ _ _ (ap not (eq-eqb _ _ a)) ∙ unless _ _ _ (ap not b) ∙ when _ _ _ (lt-ltb _ _ h))
           (λ z. omega arith) (λ z. omega arith)
 
       pub changer-11 : bound ≤ n → is_in_order c s ≡ false → Refused out_of_order 0
-      unfolding refusalOf
+      unfolding refusal_of
       changer-11 h k =
           refused-plainly out_of_order
           (unless _ _ _ (ap not (eq-eqb _ _ a)) ∙ unless _ _ _ (ap not b) ∙ unless _ _ _ (le-ltb _ _ h) ∙ when _ _ _ (ap not k))
@@ -204,27 +204,27 @@ module _ (c : Changer) (s : List Slot) (p t l : List ℕ) (n : ℕ) where
 
   -- past 1, 2, 3 and 11
   module _ (x : Passed c s p n) where
-    refusal_of-passed : refusalOf c s p t n ≡ (if isLoaded c.drive.deck and not (isFit t) then unfit else 0)
-    unfolding refusalOf
+    refusal_of-passed : refusal_of c s p t n ≡ (if is_loaded c.drive.deck and not (is_fit t) then unfit else 0)
+    unfolding refusal_of
     refusal_of-passed =
         unless _ _ _ (ap not (eq-eqb _ _ x.twelve))
         ∙ unless _ _ _ (ap not x.known)
         ∙ unless _ _ _ (le-ltb _ _ x.room)
         ∙ unless _ _ _ (ap not x.order)
 
-    pub changer-4 : isLoaded c.drive.deck ≡ true → isFit t ≡ false → Refused unfit (fault t)
-    changer-4 h k = refused-by unfit (refusal_of-passed ∙ when _ _ _ (and_both _ _ h (ap not k))) (λ z. omega arith) (ruleWith-fault t)
+    pub changer-4 : is_loaded c.drive.deck ≡ true → is_fit t ≡ false → Refused unfit (fault t)
+    changer-4 h k = refused-by unfit (refusal_of-passed ∙ when _ _ _ (and_both _ _ h (ap not k))) (λ z. omega arith) (rule_with-fault t)
 
     -- none of them: the steps
-    pub changer-steps : (isLoaded c.drive.deck ≡ true → isFit t ≡ true) → answer c s p t l n ≡ steps c.drive.unit (mechanism_of c s) p t l
+    pub changer-steps : (is_loaded c.drive.deck ≡ true → is_fit t ≡ true) → answer c s p t l n ≡ steps c.drive.unit (mechanism_of c s) p t l
     unfolding answer
-    changer-steps f = when _ _ _ (eq-eqb _ _ (refusal_of-passed ∙ unless _ _ _ (fits (isLoaded c.drive.deck) refl)))
+    changer-steps f = when _ _ _ (eq-eqb _ _ (refusal_of-passed ∙ unless _ _ _ (fits (is_loaded c.drive.deck) refl)))
       where
-        fits : (b : Bool) → isLoaded c.drive.deck ≡ b → isLoaded c.drive.deck and not (isFit t) ≡ false
-        fits true e = sym (and-late _ _ (sym (ap not (f e))))
-        fits false e = sym (and-off _ _ e)
+        fits : (b : Bool) → is_loaded c.drive.deck ≡ b → is_loaded c.drive.deck and not (is_fit t) ≡ false
+        fits true e = sym (and_late _ _ (sym (ap not (f e))))
+        fits false e = sym (and_off _ _ e)
 
-    pub changer-own : is_own p ≡ true → (isLoaded c.drive.deck ≡ true → isFit t ≡ true)
+    pub changer-own : is_own p ≡ true → (is_loaded c.drive.deck ≡ true → is_fit t ≡ true)
         → answer c s p t l n ≡ gate c.drive.unit (mechanism_of c s) (own p (mechanism_of c s))
     unfolding steps
     changer-own h f = changer-steps f ∙ when _ _ _ h
@@ -232,18 +232,18 @@ module _ (c : Changer) (s : List Slot) (p t l : List ℕ) (n : ℕ) where
     -- any other packet is the drive's
     pub changer-carried : is_own p ≡ false → answer c s p t l n ≡ carried (mechanism_of c s) (target.answer c.drive p t l n)
     unfolding steps
-    changer-carried h = by-disc (isLoaded c.drive.deck) refl
+    changer-carried h = by-disc (is_loaded c.drive.deck) refl
       where
         -- the table is fit, or not looked at
-        by-steps : (isLoaded c.drive.deck ≡ true → isFit t ≡ true) → answer c s p t l n ≡ carried (mechanism_of c s) (target.answer c.drive p t l n)
+        by-steps : (is_loaded c.drive.deck ≡ true → is_fit t ≡ true) → answer c s p t l n ≡ carried (mechanism_of c s) (target.answer c.drive p t l n)
         by-steps f = changer-steps f ∙ unless _ _ _ h ∙ ap (carried (mechanism_of c s)) (sym (answer-steps c.drive p t l n x.twelve x.known x.room f))
 
-        by-fit : isLoaded c.drive.deck ≡ true → (b : Bool) → isFit t ≡ b → answer c s p t l n ≡ carried (mechanism_of c s) (target.answer c.drive p t l n)
+        by-fit : is_loaded c.drive.deck ≡ true → (b : Bool) → is_fit t ≡ b → answer c s p t l n ≡ carried (mechanism_of c s) (target.answer c.drive p t l n)
         by-fit e true g = by-steps (λ i. g)
         by-fit e false g = changer-4 e g ∙ ap (carried (mechanism_of c s)) (sym (answer-4 c.drive p t l n x.twelve x.known x.room e g))
 
-        by-disc : (b : Bool) → isLoaded c.drive.deck ≡ b → answer c s p t l n ≡ carried (mechanism_of c s) (target.answer c.drive p t l n)
-        by-disc true e = by-fit e (isFit t) refl
+        by-disc : (b : Bool) → is_loaded c.drive.deck ≡ b → answer c s p t l n ≡ carried (mechanism_of c s) (target.answer c.drive p t l n)
+        by-disc true e = by-fit e (is_fit t) refl
         by-disc false e = by-steps (λ i. absurd (false≢true (sym e ∙ i)))
 
 -- ---- refusal 11
@@ -258,29 +258,29 @@ in_order_homed c s h d =
 -- more than 31 slots
 pub in_order_many : (c : Changer) (s : List Slot) → most < length s → is_in_order c s ≡ false
 unfolding is_in_order
-in_order_many c s h = sym (and-late _ _ (and-off _ _ (lt-leb _ _ h)))
+in_order_many c s h = sym (and_late _ _ (and_off _ _ (lt-leb _ _ h)))
 
 -- ---- the slots that are lent
 
 -- the first 32 decide the refusal as all of them do
 module _ (c : Changer) (p t l : List ℕ) (n : ℕ) where
   refusal_of-many : (s : List Slot) → most < length s
-      → refusalOf c s p t n ≡ (if not (eqb (length p) 12) then notTwelve else (if not (isKnownState c.drive) then unknownState else (if ltb n bound then shortMemory else out_of_order)))
-  unfolding refusalOf
-  refusal_of-many s h = rw (in_order_many c s h, when {A = ℕ} true out_of_order (if isLoaded c.drive.deck and not (isFit t) then unfit else 0) refl) refl
+      → refusal_of c s p t n ≡ (if not (eqb (length p) 12) then not_twelve else (if not (is_known_state c.drive) then unknown_state else (if ltb n bound then short_memory else out_of_order)))
+  unfolding refusal_of
+  refusal_of-many s h = rw (in_order_many c s h, when {A = ℕ} true out_of_order (if is_loaded c.drive.deck and not (is_fit t) then unfit else 0) refl) refl
 
-  refusal_of-refused : (s : List Slot) → most < length s → refusalOf c s p t n ≡ 0 → ⊥
+  refusal_of-refused : (s : List Slot) → most < length s → refusal_of c s p t n ≡ 0 → ⊥
   unfolding if◌then◌else◌
-  refusal_of-refused s h e = go (not (eqb (length p) 12)) (not (isKnownState c.drive)) (ltb n bound) (sym (refusal_of-many s h) ∙ e)
+  refusal_of-refused s h e = go (not (eqb (length p) 12)) (not (is_known_state c.drive)) (ltb n bound) (sym (refusal_of-many s h) ∙ e)
     where
-      go : (x y z : Bool) → (if x then notTwelve else (if y then unknownState else (if z then shortMemory else out_of_order))) ≡ 0 → ⊥
+      go : (x y z : Bool) → (if x then not_twelve else (if y then unknown_state else (if z then short_memory else out_of_order))) ≡ 0 → ⊥
       go true y z w = omega arith
       go false true z w = omega arith
       go false false true w = omega arith
       go false false false w = omega arith
 
   refused-many : (s : List Slot) → most < length s
-      → answer c s p t l n ≡ refuse (refusalOf c s p t n) (ruleWith (refusalOf c s p t n) t) c.drive.unit (mechanism_of c s)
+      → answer c s p t l n ≡ refuse (refusal_of c s p t n) (rule_with (refusal_of c s p t n) t) c.drive.unit (mechanism_of c s)
   unfolding answer
   refused-many s h = unless _ _ _ (ne_eqb _ 0 (refusal_of-refused s h))
 
@@ -305,19 +305,19 @@ module _ (c : Changer) (ys : List Slot) (p t l m : List ℕ) where
 
       -- the refusal k, of the slots that are lent
       told : ℕ → Reply Mechanism
-      told k = refuse k (ruleWith k t) c.drive.unit (mechanism_of c ys)
+      told k = refuse k (rule_with k t) c.drive.unit (mechanism_of c ys)
 
       many : room < length ys → Answered (answer c ys p t l (length m)) m d.outcome m' s'
       many g =
           let n = length m in
           let f : most < length (take room ys) = let w = length-take room ys in omega arith in
           let g' : most < length ys = omega arith in
-          let k : refusalOf c (take room ys) p t n ≡ refusalOf c ys p t n = refusal_of-many c p t l n (take room ys) f ∙ sym (refusal_of-many c p t l n ys g') in
+          let k : refusal_of c (take room ys) p t n ≡ refusal_of c ys p t n = refusal_of-many c p t l n (take room ys) f ∙ sym (refusal_of-many c p t l n ys g') in
           let a = refused-many c p t l n (take room ys) f in
           let b = refused-many c p t l n ys g' in
           let z : d.moves.any ≡ false = x.still (λ w. refusal_of-refused c p t l n (take room ys) f (sym (ap (λ (r : Reply Mechanism). r.number) a) ∙ w)) in
           record {
-            outcome = x.outcome ∙ ap outcomeOf a ∙ ap (λ (j : ℕ). outcomeOf (told j)) k ∙ sym (ap outcomeOf b);
+            outcome = x.outcome ∙ ap outcome_of a ∙ ap (λ (j : ℕ). outcome_of (told j)) k ∙ sym (ap outcome_of b);
             memory = x.memory ∙ ap (λ (r : Reply Mechanism). fill m (bytes_of r)) a ∙ sym (ap (λ (r : Reply Mechanism). fill m (bytes_of r)) b);
             slots = e ∙ settled_still ys d.moves z ∙ sym (ap (λ (r : Reply Mechanism). r.deck.slots) b);
           }
@@ -349,7 +349,7 @@ answered_on_smaller c s n b p t l m h x =
     let e = take-smaller s n b h in
     let told : List Slot → Reply Mechanism = λ z. answer c z p t l (length m) in
     record {
-      outcome = x.outcome ∙ ap (λ (z : List Slot). outcomeOf (told z)) e;
+      outcome = x.outcome ∙ ap (λ (z : List Slot). outcome_of (told z)) e;
       memory = x.memory ∙ ap (λ (z : List Slot). fill m (bytes_of (told z))) e;
       slots = x.slots ∙ ap (λ (z : List Slot). (told z).deck.slots ++ drop (min n b) s) e ∙ ap (λ (z : List Slot). (told (take n s)).deck.slots ++ z) (drop-smaller s n b h);
     }

@@ -13,7 +13,7 @@ use Rattle.command.specs.declared.done.Done.TheVariants.{Fails, Goes}
 use Rattle.command.specs.Done.{done, done_of}
 use Rattle.command.specs.Tray.{moving as shifted}
 use Rattle.target.specs.Perform.{written}
-use Rattle.target.specs.PerformLaws.{Quiet, performed-quiet, performed_goes}
+use Rattle.target.specs.PerformLaws.{Quiet, performed_quiet, performed_goes}
 use Rattle.changer.specs.declared.Slot.{Slot}
 use Rattle.changer.specs.declared.Row.{Row}
 use Rattle.changer.specs.declared.load.Act.{Act}
@@ -180,7 +180,7 @@ load_unload_quiet lo start i m =
     either Q _ (λ a. refl) (λ a. either Q _ (λ b. refl) (λ b. either Q _ (λ d. refl) (λ d. either Q _ (λ e. either Q _ (λ f. refl) (λ f. refl)) (λ e. refl))))
 
 pub acted_on_quiet : {r : Result Mechanism} {m : Mechanism} {a : Act} (b : List ℕ) → Quiet (deck_of r) → Acted r m a → ActedOn r m b a b
-acted_on_quiet {r} b q x = record { acted = x; memory = (performed-quiet {r = deck_of r} b q refl).memory }
+acted_on_quiet {r} b q x = record { acted = x; memory = (performed_quiet {r = deck_of r} b q refl).memory }
 
 -- MECHANISM STATUS leaves its answer, cut
 pub acted_on_status : (m : Mechanism) (full : List ℕ) {limit n : ℕ} {b b' : List ℕ} → length full ≤ length b → Laid b (take limit full) n b'

@@ -5,7 +5,7 @@ use Rattle.std.specs.Prelude.{◌≡◌, refl, Bool, true, List, [], ◌∷◌, 
 use Rattle.std.proofs.Common.{ap, ◌∙◌, true≢false, le-leb}
 use Rattle.ground.specs.Tests.{either, and_both}
 use Rattle.drive.specs.declared.state.Moved.{Moved}
-use Rattle.drive.specs.State.{isKnownState, move_on}
+use Rattle.drive.specs.State.{is_known_state, move_on}
 use Rattle.claims.specs.Call.{Form, by_default, without_change}
 use Rattle.claims.specs.History.{None, end, but}
 use Rattle.claims.specs.Carried.{next_on}
@@ -30,7 +30,7 @@ run_keeps P f (c ∷ calls) b h = run_keeps P f calls (after c b) (f c b h)
 -- ---- refusal 2
 
 abbrev Known : Board → Type 0
-Known b = isKnownState b.state.drive ≡ true
+Known b = is_known_state b.state.drive ≡ true
 
 power_known : (f : Form) (b : Board) → Known (after (powering f) b)
 power_known by_default b = (changer_known_power b.state).0
@@ -41,7 +41,7 @@ call_known (powering f) b h = power_known f b
 call_known (moving_on k) b h = changer_known_move k b.state h
 call_known (packet p t l m s) b h = changer_known-next b.state b.memory.slots p t l (length b.memory.response) h
 
-pub changer_known_always : (f : Form) (b : Board) (calls : List Call) → isKnownState (final_on b (powering f ∷ calls)).state.drive ≡ true
+pub changer_known_always : (f : Form) (b : Board) (calls : List Call) → is_known_state (final_on b (powering f ∷ calls)).state.drive ≡ true
 changer_known_always f b calls = run_keeps Known call_known calls (after (powering f) b) (power_known f b)
 
 -- ---- refusal 11
@@ -70,16 +70,16 @@ discs_on b = discs b.state b.memory.slots
 
 move-disc : (k : ℕ) (c : Changer) → (moves_on k c).state.drive.deck.disc_in ≡ c.drive.deck.disc_in
 unfolding moves_on move_on
-move-disc k c = either (λ (r : Moved). r.state.deck.disc_in ≡ c.drive.deck.disc_in) (isKnownState c.drive) (λ h. refl) (λ h. refl)
+move-disc k c = either (λ (r : Moved). r.state.deck.disc_in ≡ c.drive.deck.disc_in) (is_known_state c.drive) (λ h. refl) (λ h. refl)
 
 -- over any calls but power-on, which takes an empty drive
-pub changer-discs_always : (b : Board) (calls : List Call) → None is_powering calls →
+pub changer_discs_always : (b : Board) (calls : List Call) → None is_powering calls →
     let e : Board = final_on b calls in
     discs e.state e.memory.slots ≡ discs b.state b.memory.slots
-changer-discs_always b [] end = refl
-changer-discs_always b (powering f ∷ calls) (but h n) = absurd (true≢false h)
-changer-discs_always b (moving_on k ∷ calls) (but h n) =
-    changer-discs_always (after (moving_on k) b) calls n ∙ ap (λ (d : Bool). discs_in b.memory.slots + one d) (move-disc k b.state)
-changer-discs_always b (packet p t l m s ∷ calls) (but h n) =
-    changer-discs_always (after (packet p t l m s) b) calls n
+changer_discs_always b [] end = refl
+changer_discs_always b (powering f ∷ calls) (but h n) = absurd (true≢false h)
+changer_discs_always b (moving_on k ∷ calls) (but h n) =
+    changer_discs_always (after (moving_on k) b) calls n ∙ ap (λ (d : Bool). discs_in b.memory.slots + one d) (move-disc k b.state)
+changer_discs_always b (packet p t l m s ∷ calls) (but h n) =
+    changer_discs_always (after (packet p t l m s) b) calls n
     ∙ changer-discs b.state b.memory.slots p t l (length b.memory.response)

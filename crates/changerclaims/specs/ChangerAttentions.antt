@@ -86,21 +86,21 @@ AgreeCarried handed common c cs ds =
     → (e.answer ≡ f.answer) × (e.new ≡ f.new)
 
 -- up to that answer the runs agree even where the parameter lists differ: of any two lists, with one table or two fit ones
-pub changer-two-runs_lists : (handed : Changer) (common : List Call) (c : Call) → is_cause (event c (final handed common)) ≡ true
+pub changer_two_runs_lists : (handed : Changer) (common : List Call) (c : Call) → is_cause (event c (final handed common)) ≡ true
     → {cs ds : List Call} → Pairwise Alike cs ds → AgreeUpTo handed common c cs ds
-changer-two-runs_lists handed common c h p i e f = runs changer handed common c (cause_attends c (final handed common) h) p i
+changer_two_runs_lists handed common c h p i e f = runs changer handed common c (cause_attends c (final handed common) h) p i
 
-pub changer-two-runs_lists-carried : (handed : Board) (common : List Call) (c : Call)
+pub changer_two_runs_lists-carried : (handed : Board) (common : List Call) (c : Call)
     → is_cause (event (lend (final_on handed common).memory c) (final_on handed common).state) ≡ true
     → {cs ds : List Call} → Pairwise Alike cs ds → AgreeCarried handed common c cs ds
-changer-two-runs_lists-carried handed common c h p i e f =
+changer_two_runs_lists-carried handed common c h p i e f =
     runs-carried changer lend left lend_alike left_alike handed common c
     (cause_attends (lend (final_on handed common).memory c) (final_on handed common).state h) p i
 
 -- and the second run has an event at each place where the first has one
-pub changer-two-runs_long : (handed : Changer) (common : List Call) (c : Call) {cs ds : List Call} → Pairwise Alike cs ds
+pub changer_two_runs_long : (handed : Changer) (common : List Call) (c : Call) {cs ds : List Call} → Pairwise Alike cs ds
     → length (history handed (common ++ c ∷ cs)) ≡ length (history handed (common ++ c ∷ ds))
-changer-two-runs_long handed common c p = runs_long answer next handed common c p
+changer_two_runs_long handed common c p = runs_long answer next handed common c p
 
 -- K4: "share the lent parameter list"; K11: "Demand 3's runs share the slot records"
 sharing_alike : (c e : Call) → Sharing c e → Alike c e
@@ -114,9 +114,9 @@ shared = pairwise_map sharing_alike
 -- calls in common, then c, a power-on in either form or a loading, then calls that are alike, one by one, but for the fit tables lent
 pub changer-two-runs : (handed : Changer) (common : List Call) (c : Call) → is_cause (event c (final handed common)) ≡ true
     → {cs ds : List Call} → Pairwise Sharing cs ds → AgreeUpTo handed common c cs ds
-changer-two-runs handed common c h p = changer-two-runs_lists handed common c h (shared p)
+changer-two-runs handed common c h p = changer_two_runs_lists handed common c h (shared p)
 
 pub changer-two-runs-carried : (handed : Board) (common : List Call) (c : Call)
     → is_cause (event (lend (final_on handed common).memory c) (final_on handed common).state) ≡ true
     → {cs ds : List Call} → Pairwise Sharing cs ds → AgreeCarried handed common c cs ds
-changer-two-runs-carried handed common c h p = changer-two-runs_lists-carried handed common c h (shared p)
+changer-two-runs-carried handed common c h p = changer_two_runs_lists-carried handed common c h (shared p)

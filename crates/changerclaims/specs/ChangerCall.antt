@@ -1,7 +1,7 @@
 -- The calls on the changer, and what an event tells: all of it read off calls, answers, deck, home and slots, never off the attentions.
 use Rattle.std.specs.Prelude.{ℕ, ◌≡◌, Bool, true, false, not, List, [], length, eqb}
 use Rattle.ground.specs.Tests.{◌and◌, ◌or◌}
-use Rattle.disc.specs.Rules.{isFit}
+use Rattle.disc.specs.Rules.{is_fit}
 use Rattle.gate.specs.Gate.{Reply}
 use Rattle.event.specs.EventAnswer.{is_clearing}
 use Rattle.changer.specs.declared.Slot.{Slot}
@@ -160,13 +160,13 @@ replaces e = (is_loading e or is_returning e) or clears e
 pub data Alike : Call → Call → Type 0 where
   same : (c : Call) → Alike c c
   lists : (p t m : List ℕ) (s : List Slot) {k l : List ℕ} → Alike (packet p t k m s) (packet p t l m s)
-  tables : (p m : List ℕ) (s : List Slot) {t u k l : List ℕ} → isFit t ≡ true → isFit u ≡ true → Alike (packet p t k m s) (packet p u l m s)
+  tables : (p m : List ℕ) (s : List Slot) {t u k l : List ℕ} → is_fit t ≡ true → is_fit u ≡ true → Alike (packet p t k m s) (packet p u l m s)
 
 -- "Demand 3's runs share the slot records", and K4: "share the lent parameter list": the same call, or the same packet with the same list, memory
 -- and slots and two fit tables
 pub data Sharing : Call → Call → Type 0 where
   itself : (c : Call) → Sharing c c
-  fitting : (p l m : List ℕ) (s : List Slot) {t u : List ℕ} → isFit t ≡ true → isFit u ≡ true → Sharing (packet p t l m s) (packet p u l m s)
+  fitting : (p l m : List ℕ) (s : List Slot) {t u : List ℕ} → is_fit t ≡ true → is_fit u ≡ true → Sharing (packet p t l m s) (packet p u l m s)
 
 -- what a caller lends from call to call: the response memory, and "The slot records .. in memory that the caller lends"
 pub record Lent : Type 0 where

@@ -4,13 +4,13 @@ use Rattle.std.proofs.Math.Path.{sym}
 use Rattle.std.proofs.Common.{ap, ◌∙◌, subst, subst₂, true≢false, ⊎_elim, eqb-true, eq-eqb, ne_eqb, ltb-true, get_or-set_same, get_or-set_other}
 use Rattle.std.proofs.lemmas.Bool.{false≢true, not-false}
 use Rattle.std.proofs.Math.Decide.{ℕ_discrete}
-use Rattle.ground.specs.Tests.{◌and◌, ◌or◌, if◌then◌else◌, when, either, and_head, and_both, and-off, and-late, or_right}
+use Rattle.ground.specs.Tests.{◌and◌, ◌or◌, if◌then◌else◌, when, either, and_head, and_both, and_off, and_late, or_right}
 use Rattle.attention.specs.declared.Unit.{Unit}
 use Rattle.deck.specs.declared.Deck.{Deck}
 use Rattle.drive.specs.declared.state.Drive.{Drive}
 use Rattle.drive.specs.StateLaws.{power_on-with, power_on_without_change-with}
-use Rattle.disc.specs.Rules.{fault, isFit}
-use Rattle.disc.specs.Part.{unfit, ruleWith}
+use Rattle.disc.specs.Rules.{fault, is_fit}
+use Rattle.disc.specs.Part.{unfit, rule_with}
 use Rattle.gate.specs.declared.fault.Fault.{Fault}
 use Rattle.gate.specs.declared.fault.Fault.TheVariants.{BadField}
 use Rattle.gate.specs.Gate.{Result, fails, goes, Reply}
@@ -23,7 +23,7 @@ use Rattle.changer.specs.Slot.{empty_slot, slot_at, put_back}
 use Rattle.changer.specs.Mechanism.{Mechanism, returned, takes, lo_unlo, starts, named_slot, load_unload}
 use Rattle.changer.specs.Status.{status_length, mechanism_status}
 use Rattle.changer.specs.Changer.{power_on, power_on_without_change, emptied, moves_on}
-use Rattle.changer.specs.ChangerPacket.{mechanism_of, is_load_unload, is_status, is_own, own, steps, refusalOf, state_of, answer as reply_to}
+use Rattle.changer.specs.ChangerPacket.{mechanism_of, is_load_unload, is_status, is_own, own, steps, refusal_of, state_of, answer as reply_to}
 use Rattle.claims.specs.Telling.{Attention, power, change, pending, is_good, answer_of, tells_to}
 use Rattle.claims.specs.UnitLaws.{Kind, asks, frees, orders, is_asking, is_done, next_of, loading_of, Honest, comes_to, comes_well, Turn, only, only_none, or-none, meets-turn, meets-says, orders-blocks, any-pending}
 use Rattle.claims.specs.PacketLaws.{Does, failing, keeping, closing-it, opening-it, clearing, is_traying, perform_does, Seen, asking, freeing, ordering, seen, kind_of, kind, steps_blind, packet_request, packet_orders}
@@ -39,7 +39,7 @@ use Rattle.changerclaims.specs.ChangerCall.{Call, powering, moving_on, packet, A
 -- ---- what a packet comes to: a Load of a slot that holds a disc is a loading, and nothing else is
 
 pub and_none : (b : Bool) → b and false ≡ false
-and_none b = sym (and-late b false refl)
+and_none b = sym (and_late b false refl)
 
 put_present : (s : List Slot) (h i : ℕ) → i < length s → (slot_at (put_back s h) i).present ≡ (slot_at s i).present or eqb i h
 put_present s h i l = elim (ℕ_discrete i h) [
@@ -77,8 +77,8 @@ load_unload_acts lo start i m =
     either A start
     (λ s. either A _
     (λ d. took (and_both _ _ (and_both lo start (not-false _ h) s) (sym held ∙ d)) refl (when true _ _ refl))
-    (λ d. gave (sym (and-late _ _ (sym d ∙ held))) refl))
-    (λ s. gave (sym (and-off _ _ (sym (and-late lo start (sym s))))) refl))))
+    (λ d. gave (sym (and_late _ _ (sym d ∙ held))) refl))
+    (λ s. gave (sym (and_off _ _ (sym (and_late lo start (sym s))))) refl))))
   where
     A : Result Mechanism → Type 0
     A = Acts ((lo and start) and holds i m) true m
@@ -184,13 +184,13 @@ module _ (p : List ℕ) (m : Mechanism) (t l : List ℕ) where
 -- ---- the lent table and the parameter list
 
 -- a fit table breaks no rule
-rule_with_fit : (n : ℕ) (t : List ℕ) → isFit t ≡ true → ruleWith n t ≡ 0
-unfolding ruleWith isFit
+rule_with_fit : (n : ℕ) (t : List ℕ) → is_fit t ≡ true → rule_with n t ≡ 0
+unfolding rule_with is_fit
 rule_with_fit n t f = either (λ (r : ℕ). r ≡ 0) (eqb n unfit) (λ h. eqb-true (fault t) 0 f) (λ h. refl)
 
 -- the refusals look at no more of a table than whether it is fit
-refusal_fit : (c : Changer) (s : List Slot) (p t u : List ℕ) (n : ℕ) → isFit t ≡ true → isFit u ≡ true → refusalOf c s p t n ≡ refusalOf c s p u n
-unfolding refusalOf
+refusal_fit : (c : Changer) (s : List Slot) (p t u : List ℕ) (n : ℕ) → is_fit t ≡ true → is_fit u ≡ true → refusal_of c s p t n ≡ refusal_of c s p u n
+unfolding refusal_of
 refusal_fit c s p t u n f g = rw (f, g)
 
 module _ (c : Changer) (s : List Slot) (p : List ℕ) (a : is_attending c ≡ true) where
@@ -200,10 +200,10 @@ module _ (c : Changer) (s : List Slot) (p : List ℕ) (a : is_attending c ≡ tr
   steps-unseen t u k l = rw (steps_blind (decode (code_of p)) c.drive.unit c.drive.deck p t u k l a)
 
   -- so two fit tables give one answer, with any two lists
-  packet_blind : (t u k l : List ℕ) (n : ℕ) → isFit t ≡ true → isFit u ≡ true → reply_to c s p t k n ≡ reply_to c s p u l n
+  packet_blind : (t u k l : List ℕ) (n : ℕ) → is_fit t ≡ true → is_fit u ≡ true → reply_to c s p t k n ≡ reply_to c s p u l n
   unfolding reply_to
   packet_blind t u k l n f g =
-      rw (rule_with_fit (refusalOf c s p t n) t f, rule_with_fit (refusalOf c s p u n) u g, refusal_fit c s p t u n f g, steps-unseen t u k l)
+      rw (rule_with_fit (refusal_of c s p t n) t f, rule_with_fit (refusal_of c s p u n) u g, refusal_fit c s p t u n f g, steps-unseen t u k l)
 
   -- and so do two lists with one table, fit or not
   packet_unlisted : (t k l : List ℕ) (n : ℕ) → reply_to c s p t k n ≡ reply_to c s p t l n
@@ -221,7 +221,7 @@ packet-turn k p t l m s c =
     let T : Bool → Reply Mechanism → Type 0 =
     λ a r. Turn k u (tells_to k a u (answer_of m r) r.unit) (taking p x and is_good (answer_of m r)) r.unit in
     subst₂ T (kind_request p x t l) (sym (reply-kind c s p t l (length m)))
-    (meets-turn (λ good n. taking p x and good) k m x (refusalOf c s p t (length m)) (rule_of c s p t (length m)) (kind_on p x t l) u
+    (meets-turn (λ good n. taking p x and good) k m x (refusal_of c s p t (length m)) (rule_of c s p t (length m)) (kind_on p x t l) u
     (packet_fair p x t l))
 
 -- every call but power-on
@@ -271,7 +271,7 @@ orders_blocked : (k : Attention) (c : Changer) (p t l m : List ℕ) (s : List Sl
     → kind_on p (mechanism_of c s) t l ≡ orders r → is_good (answer (packet p t l m s) c).given ≡ false
 orders_blocked k c p t l m s {r} h e =
     rw (reply-kind c s p t l (length m), e)
-    (orders-blocks (refusalOf c s p t (length m)) (rule_of c s p t (length m)) r c.drive.unit (mechanism_of c s) m
+    (orders-blocks (refusal_of c s p t (length m)) (rule_of c s p t (length m)) r c.drive.unit (mechanism_of c s) m
     (any-pending k c.drive.unit h))
 
 pub packet_blocked : (k : Attention) (c : Changer) (p t l m : List ℕ) (s : List Slot) → is_pending k c ≡ true → is_needing p ≡ true
@@ -347,7 +347,7 @@ loading-disc (packet p t l m s) c =
     let P : Bool → Mechanism → Type 0 = λ good n. taking p x and good ≡ is_load p and (good and n.deck.disc_in) in
     let S : Reply Mechanism → Type 0 = λ r. P (is_good (answer_of m r)) r.deck in
     subst S (sym (reply-kind c s p t l (length m)))
-    (meets-says P m (refusalOf c s p t (length m)) (rule_of c s p t (length m)) (kind_on p x t l) c.drive.unit x
+    (meets-says P m (refusal_of c s p t (length m)) (rule_of c s p t (length m)) (kind_on p x t l) c.drive.unit x
     (and_none (taking p x) ∙ sym (and_none (is_load p))) (λ z. packet-disc p x t l))
 
 -- a refused call is no cause and tells nothing

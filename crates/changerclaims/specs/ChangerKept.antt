@@ -20,7 +20,7 @@ use Rattle.changer.specs.Slot.{slot_at}
 use Rattle.changer.specs.Mechanism.{Mechanism, lo_unlo, starts, named_slot}
 use Rattle.changer.specs.Status.{status_bytes, status_length}
 use Rattle.changer.specs.Changer.{is_in_order}
-use Rattle.changer.specs.ChangerPacket.{mechanism_of, is_load_unload, is_status, is_tray, is_own, own, carried, answer, state_of, bytes_of, outcomeOf}
+use Rattle.changer.specs.ChangerPacket.{mechanism_of, is_load_unload, is_status, is_tray, is_own, own, carried, answer, state_of, bytes_of, outcome_of}
 use Rattle.changerclaims.specs.ChangerDiscs.{discs}
 use Rattle.changerclaims.specs.ChangerKeptLaws.{is_in_order_order, answer-discs, answer-others, answer-slots, answer-own, own-load, own-status, own-tray, load-own, status-own, tray-own, answer-drive}
 use Rattle.changerclaims.specs.ChangerLoadLaws.{is_granted, goes_well, answer_still, load_unload-bad, load_unload-locked, load_unload-free, settle-granted, present-full, present-home, load-took, load-home, load-empty, load-leaves, unload-leaves, left-gave, left-rests}
@@ -143,7 +143,7 @@ module _ (c : Changer) (s : List Slot) (p t l : List ℕ) (n : ℕ) where
     -- "CHECK CONDITION is status 02h, no bytes, start 0, count 0, the triple held as sense and .. nothing else changed", nor the slots
     abbrev Checks : Sense → Type 0
     Checks sense =
-        (outcomeOf (answer c s p t l n)
+        (outcome_of (answer c s p t l n)
         ≡ record {
           number = 0;
           rule = 0;
@@ -161,7 +161,7 @@ module _ (c : Changer) (s : List Slot) (p t l : List ℕ) (n : ℕ) where
     checks : (f : Fault) → is_own p ≡ true → own p (mechanism_of c s) ≡ fails f → Checks (sense_of f)
     checks f h e =
         let a = answer-own c s p t l n h unrefused quiet ∙ ap (settle c.drive.unit (mechanism_of c s)) e in
-        (ap outcomeOf a, ap (λ (r : Reply Mechanism). r.deck.slots) a)
+        (ap outcome_of a, ap (λ (r : Reply Mechanism). r.deck.slots) a)
 
     -- "its 1Bh with LoEj 1 is 05/24/00"; with LoEj 0 it is one of those below
     pub changer-tray : is_tray p ≡ true → Checks (triple 0x05 0x24 0x00)

@@ -16,7 +16,7 @@ use Rattle.command.specs.declared.decode.Command.{Command}
 use Rattle.command.specs.Command.{code_of, decode}
 use Rattle.target.specs.Perform.{perform}
 use Rattle.target.specs.Packet as drive
-use Rattle.disc.specs.Part.{ruleWith}
+use Rattle.disc.specs.Part.{rule_with}
 use Rattle.claims.specs.Telling.{any_pending}
 use Rattle.claims.specs.UnitLaws.{Kind, asks, frees, orders, reply, meets, next_of, comes_to, meets-keeps}
 use Rattle.claims.specs.PacketLaws.{Seen, asking, freeing, ordering, seen, kind_of, kind, Does, failing, keeping, closing-it, opening-it, clearing, is_traying, perform_does}
@@ -26,7 +26,7 @@ use Rattle.changer.specs.Slot.{slot, empty_slot, slot_at, put_back, take_out}
 use Rattle.changer.specs.Mechanism.{Mechanism, returned_deck, returned, taken_deck, takes, lo_unlo, starts, named_slot, load_unload}
 use Rattle.changer.specs.Status.{status_length, mechanism_status}
 use Rattle.changer.specs.Changer.{is_in_order}
-use Rattle.changer.specs.ChangerPacket.{mechanism_of, is_load_unload, is_status, is_tray, is_own, own, carried, steps, refusalOf, answer}
+use Rattle.changer.specs.ChangerPacket.{mechanism_of, is_load_unload, is_status, is_tray, is_own, own, carried, steps, refusal_of, answer}
 use Rattle.changerclaims.specs.ChangerKind.{with_deck, carried_kind, kind_on, rule_of, reply-kind, drive_tray}
 use Rattle.changerclaims.specs.ChangerRefusalLaws.{order-unrefused, answer-refusal}
 use Rattle.changerclaims.specs.ChangerDiscs.{one, discs_in}
@@ -125,14 +125,14 @@ module _ (P : Mechanism → Type 0) (m : Mechanism) where
 pub answer_ways : (P : Mechanism → Type 0) (c : Changer) (s : List Slot) (p t l : List ℕ) (n : ℕ) →
     let m : Mechanism = mechanism_of c s in
     P m
-    → (refusalOf c s p t n ≡ 0 → is_own p ≡ false → P (with_deck m (comes_to m.deck (kind p m.deck t l))))
-    → (refusalOf c s p t n ≡ 0 → is_load_unload p ≡ true → P (returned m))
-    → (refusalOf c s p t n ≡ 0 → is_load_unload p ≡ true → named_slot p < length s → (slot_at (returned m).slots (named_slot p)).present ≡ true
+    → (refusal_of c s p t n ≡ 0 → is_own p ≡ false → P (with_deck m (comes_to m.deck (kind p m.deck t l))))
+    → (refusal_of c s p t n ≡ 0 → is_load_unload p ≡ true → P (returned m))
+    → (refusal_of c s p t n ≡ 0 → is_load_unload p ≡ true → named_slot p < length s → (slot_at (returned m).slots (named_slot p)).present ≡ true
     → P (taken (named_slot p) (returned m)))
     → P (answer c s p t l n).deck
 answer_ways P c s p t l n a f g h =
     rw (reply-kind c s p t l n)
-    (meets-keeps P (refusalOf c s p t n) (rule_of c s p t n) (kind_on p (mechanism_of c s) t l) c.drive.unit (mechanism_of c s) a
+    (meets-keeps P (refusal_of c s p t n) (rule_of c s p t n) (kind_on p (mechanism_of c s) t l) c.drive.unit (mechanism_of c s) a
     (λ z. kind-ways P (mechanism_of c s) p t l (f z) (own-ways P (mechanism_of c s) p a (g z) (h z))))
 
 -- ---- the drive's own packets: the disc stays, and but for 1Bh with LoEj 1 the tray does
@@ -244,7 +244,7 @@ module _ (c : Changer) (s : List Slot) (p t l : List ℕ) (n : ℕ) where
 
   pub answer-discs : discs_of (answer c s p t l n).deck ≡ discs_of (mechanism_of c s)
   answer-discs =
-      let o : refusalOf c s p t n ≡ 0 → Order (mechanism_of c s) = λ z. is_in_order_order c s (order-unrefused c s p t n z) in
+      let o : refusal_of c s p t n ≡ 0 → Order (mechanism_of c s) = λ z. is_in_order_order c s (order-unrefused c s p t n z) in
       answer_ways (λ k. discs_of k ≡ discs_of (mechanism_of c s)) c s p t l n refl
       (λ z e. ap (λ (b : Bool). discs_in s + one b) (kind-disc p c.drive.deck t l))
       (λ z e. returned-discs (mechanism_of c s) (o z))
@@ -269,7 +269,7 @@ pub answer-own : (c : Changer) (s : List Slot) (p t l : List ℕ) (n : ℕ)
     → answer c s p t l n ≡ settle c.drive.unit (mechanism_of c s) (own p (mechanism_of c s))
 answer-own c s p t l n h z q =
     reply-kind c s p t l n
-    ∙ ap (λ (j : ℕ). meets j (ruleWith j t) (kind_on p (mechanism_of c s) t l) c.drive.unit (mechanism_of c s))
+    ∙ ap (λ (j : ℕ). meets j (rule_with j t) (kind_on p (mechanism_of c s) t l) c.drive.unit (mechanism_of c s))
     (sym (answer-refusal c s p t n l).0 ∙ z)
     ∙ ap (λ (k : Kind Mechanism). reply k c.drive.unit (mechanism_of c s)) (when _ _ _ h)
     ∙ gate-none c.drive.unit.power c.drive.unit.change c.drive.unit.sense (mechanism_of c s) (own p (mechanism_of c s)) q
@@ -307,20 +307,20 @@ module _ (p : List ℕ) where
 
 -- ---- the drive's own packets
 
-refusal-drive : (c : Changer) (s : List Slot) (p t : List ℕ) (n : ℕ) → is_in_order c s ≡ true → refusalOf c s p t n ≡ drive.refusalOf c.drive p t n
-unfolding refusalOf drive.refusalOf if◌then◌else◌
+refusal-drive : (c : Changer) (s : List Slot) (p t : List ℕ) (n : ℕ) → is_in_order c s ≡ true → refusal_of c s p t n ≡ drive.refusal_of c.drive p t n
+unfolding refusal_of drive.refusal_of if◌then◌else◌
 refusal-drive c s p t n h = rw h
 
 pub answer-drive : (c : Changer) (s : List Slot) (p t l : List ℕ) (n : ℕ) → is_in_order c s ≡ true → is_own p ≡ false
     → answer c s p t l n ≡ carried (mechanism_of c s) (drive.answer c.drive p t l n)
 unfolding answer drive.answer steps if◌then◌else◌
 answer-drive c s p t l n h e =
-    rw (refusal-drive c s p t n h) (by-test (eqb (drive.refusalOf c.drive p t n) 0) (drive.refusalOf c.drive p t n))
+    rw (refusal-drive c s p t n h) (by-test (eqb (drive.refusal_of c.drive p t n) 0) (drive.refusal_of c.drive p t n))
   where
     by-test : (b : Bool) (j : ℕ)
-        → (if b then steps c.drive.unit (mechanism_of c s) p t l else refuse j (ruleWith j t) c.drive.unit (mechanism_of c s))
+        → (if b then steps c.drive.unit (mechanism_of c s) p t l else refuse j (rule_with j t) c.drive.unit (mechanism_of c s))
         ≡ carried (mechanism_of c s)
         (if b then drive.steps (decode (code_of p)) c.drive.unit c.drive.deck p t l
-        else refuse j (ruleWith j t) c.drive.unit c.drive.deck)
+        else refuse j (rule_with j t) c.drive.unit c.drive.deck)
     by-test true j = unless _ _ _ e
     by-test false j = refl

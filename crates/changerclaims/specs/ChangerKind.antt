@@ -6,7 +6,7 @@ use Rattle.ground.specs.Tests.{◌and◌, ◌or◌, if◌then◌else◌}
 use Rattle.attention.specs.declared.sense.Sense.{Sense}
 use Rattle.attention.specs.declared.Unit.{Unit}
 use Rattle.deck.specs.declared.Deck.{Deck}
-use Rattle.disc.specs.Part.{ruleWith}
+use Rattle.disc.specs.Part.{rule_with}
 use Rattle.gate.specs.Unit.{pending_of}
 use Rattle.gate.specs.Gate.{Result, fails, goes, gate}
 use Rattle.command.specs.declared.decode.Command.TheVariants.{StartStop}
@@ -19,7 +19,7 @@ use Rattle.claims.specs.PacketLaws.{kind, steps_of-kind, is_traying}
 use Rattle.changer.specs.declared.Slot.{Slot}
 use Rattle.changer.specs.declared.Changer.{Changer}
 use Rattle.changer.specs.Mechanism.{Mechanism}
-use Rattle.changer.specs.ChangerPacket.{mechanism_of, is_load_unload, is_status, is_tray, is_own, own, carried, steps, refusalOf, answer}
+use Rattle.changer.specs.ChangerPacket.{mechanism_of, is_load_unload, is_status, is_tray, is_own, own, carried, steps, refusal_of, answer}
 
 -- ---- a packet that the drive answers, carried over
 
@@ -70,14 +70,14 @@ steps-kind u m p t l = go (is_own p)
 
 -- the rule beside a packet's number
 abbrev pub rule_of : Changer → List Slot → List ℕ → List ℕ → ℕ → ℕ
-rule_of c s p t n = ruleWith (refusalOf c s p t n) t
+rule_of c s p t n = rule_with (refusal_of c s p t n) t
 
 -- the answer is that of the packet's kind, or the refusal
 pub reply-kind : (c : Changer) (s : List Slot) (p t l : List ℕ) (n : ℕ)
-    → answer c s p t l n ≡ meets (refusalOf c s p t n) (rule_of c s p t n) (kind_on p (mechanism_of c s) t l) c.drive.unit (mechanism_of c s)
+    → answer c s p t l n ≡ meets (refusal_of c s p t n) (rule_of c s p t n) (kind_on p (mechanism_of c s) t l) c.drive.unit (mechanism_of c s)
 unfolding answer
 reply-kind c s p t l n =
-    meets_by (refusalOf c s p t n) (rule_of c s p t n) (kind_on p (mechanism_of c s) t l) c.drive.unit (mechanism_of c s)
+    meets_by (refusal_of c s p t n) (rule_of c s p t n) (kind_on p (mechanism_of c s) t l) c.drive.unit (mechanism_of c s)
     (steps-kind c.drive.unit (mechanism_of c s) p t l)
 
 -- ---- a packet of the drive's is neither A6h nor 1Bh with LoEj 1

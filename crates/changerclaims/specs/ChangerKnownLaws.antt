@@ -2,11 +2,11 @@
 use Rattle.std.specs.Prelude.{◌≡◌, refl, Bool, true, false, not, List, ℕ, ◌<◌, length, set, eqb, leb}
 use Rattle.std.proofs.Common.{sym, ap, ◌∙◌, arith, length-set, get_or-set_same}
 use Rattle.std.proofs.lemmas.Bool.{false≢true}
-use Rattle.ground.specs.Tests.{◌and◌, ◌or◌, either, and-late, and_with}
+use Rattle.ground.specs.Tests.{◌and◌, ◌or◌, either, and_late, and_with}
 use Rattle.deck.specs.declared.Deck.{Deck}
 use Rattle.drive.specs.declared.state.Moved.{Moved}
 use Rattle.drive.specs.State as drive
-use Rattle.drive.specs.State.{isKnownState, move_on}
+use Rattle.drive.specs.State.{is_known_state, move_on}
 use Rattle.drive.specs.StateLaws.{KnownDeck, is_known_state_sense, is_known_state_deck, known-is_known_state}
 use Rattle.command.specs.Command.{code_of, decode}
 use Rattle.claims.specs.PacketLaws.{seen}
@@ -18,7 +18,7 @@ use Rattle.changer.specs.declared.Changer.{Changer}
 use Rattle.changer.specs.Slot.{empty_slot, slot_at}
 use Rattle.changer.specs.Mechanism.{Mechanism, returned_deck, returned, taken_deck, named_slot}
 use Rattle.changer.specs.Changer.{is_in_order, emptied, power_on, power_on_without_change, moves_on}
-use Rattle.changer.specs.ChangerPacket.{mechanism_of, refusalOf, answer, state_of}
+use Rattle.changer.specs.ChangerPacket.{mechanism_of, refusal_of, answer, state_of}
 use Rattle.changerclaims.specs.ChangerKind.{with_deck, kind_on, rule_of, reply-kind}
 use Rattle.changerclaims.specs.ChangerRefusalLaws.{fit-unrefused, answer-ordered}
 use Rattle.changerclaims.specs.ChangerKeptLaws.{Order, is_in_order_order, order-is_in_order, taken, returned-ways, answer_ways, kind-disc, kind-tray}
@@ -37,12 +37,12 @@ module _ (c : Changer) (s : List Slot) (p t l : List ℕ) (n : ℕ) where
   abbrev here : Mechanism
   here = mechanism_of c s
 
-  pub answer-known : isKnownState c.drive ≡ true → isKnownState (state_of (answer c s p t l n)).drive ≡ true
+  pub answer-known : is_known_state c.drive ≡ true → is_known_state (state_of (answer c s p t l n)).drive ≡ true
   answer-known h =
       let k : KnownDeck c.drive.deck = is_known_state_deck c.drive h in
       known-is_known_state _
       (rw (reply-kind c s p t l n)
-      (meets-known (refusalOf c s p t n) (rule_of c s p t n) (kind_on p here t l) c.drive.unit here
+      (meets-known (refusal_of c s p t n) (rule_of c s p t n) (kind_on p here t l) c.drive.unit here
       (is_known_state_sense c.drive h)))
       (answer_ways (λ m. KnownDeck m.deck) c s p t l n k
       (λ z e. kind-known c.drive.deck k (seen (decode (code_of p))) p t l (λ i. fit-last t (second_holds _ _ (fit-unrefused c s p t n z) i)))
@@ -50,11 +50,11 @@ module _ (c : Changer) (s : List Slot) (p t l : List ℕ) (n : ℕ) where
       (λ z e i w. taken_known (named_slot p) (returned here) (returned_known here k)))
 
 -- the calls that are no packets
-pub power_known : (c : Changer) → (isKnownState (power_on c).drive ≡ true) × (isKnownState (power_on_without_change c).drive ≡ true)
+pub power_known : (c : Changer) → (is_known_state (power_on c).drive ≡ true) × (is_known_state (power_on_without_change c).drive ≡ true)
 unfolding power_on power_on_without_change
 power_known c = (power_state by_default (emptied c.drive), power_state without_change (emptied c.drive))
 
-pub moves_known : (k : ℕ) (c : Changer) → isKnownState c.drive ≡ true → isKnownState (moves_on k c).state.drive ≡ true
+pub moves_known : (k : ℕ) (c : Changer) → is_known_state c.drive ≡ true → is_known_state (moves_on k c).state.drive ≡ true
 unfolding moves_on
 moves_known k c h = call_state (moving_on k) c.drive h
 
@@ -116,16 +116,16 @@ moves_order k c s h =
     let m : Mechanism = mechanism_of c s in
     let o : Order m = is_in_order_order c s h in
     order-is_in_order _ _
-    (either (λ (r : Moved). Order (with_deck m r.state.deck)) (isKnownState c.drive) (λ z. with_deck_order m _ refl refl o) (λ z. o))
+    (either (λ (r : Moved). Order (with_deck m r.state.deck)) (is_known_state c.drive) (λ z. with_deck_order m _ refl refl o) (λ z. o))
 
 -- ---- and so 2 and 11 are not given
 
 module _ (c : Changer) (s : List Slot) (p t l : List ℕ) (n : ℕ) where
-  pub answer-not-2 : isKnownState c.drive ≡ true → eqb (answer c s p t l n).number 2 ≡ false
-  answer-not-2 h = (answer-ordered c s p t n l).two ∙ sym (and-late _ _ (sym (ap not h)))
+  pub answer-not-2 : is_known_state c.drive ≡ true → eqb (answer c s p t l n).number 2 ≡ false
+  answer-not-2 h = (answer-ordered c s p t n l).two ∙ sym (and_late _ _ (sym (ap not h)))
 
   pub answer-not-11 : is_in_order c s ≡ true → eqb (answer c s p t l n).number 11 ≡ false
-  answer-not-11 h = (answer-ordered c s p t n l).eleven ∙ sym (and-late _ _ (and-late _ _ (and-late _ _ (sym (ap not h)))))
+  answer-not-11 h = (answer-ordered c s p t n l).eleven ∙ sym (and_late _ _ (and_late _ _ (and_late _ _ (sym (ap not h)))))
 
 -- ---- after a power-on: an empty closed drive
 

@@ -23,7 +23,7 @@ use Rattle.changer.specs.declared.Slot.{Slot}
 use Rattle.changer.specs.declared.Changer.{Changer}
 use Rattle.changer.specs.Slot.{slot, empty_slot, slot_at, put_back}
 use Rattle.changer.specs.Mechanism.{Mechanism, returned, taken_deck, takes, loads, unloads, lo_unlo, starts, named_slot, load_unload}
-use Rattle.changer.specs.ChangerPacket.{mechanism_of, is_load_unload, refusalOf, answer, state_of}
+use Rattle.changer.specs.ChangerPacket.{mechanism_of, is_load_unload, refusal_of, answer, state_of}
 use Rattle.changerclaims.specs.ChangerKind.{kind_on, rule_of, reply-kind}
 use Rattle.changerclaims.specs.ChangerRefusalLaws.{order-unrefused}
 use Rattle.changerclaims.specs.ChangerKeptLaws.{Order, is_in_order_order, taken, returned-ways, returned-others, own-load, load-own}
@@ -75,7 +75,7 @@ module _ {M : Type 0} where
 pub answer_still : (c : Changer) (s : List Slot) (p t l : List ℕ) (n : ℕ) → is_granted (answer c s p t l n) ≡ false
     → (answer c s p t l n).deck ≡ mechanism_of c s
 answer_still c s p t l n =
-    rw (reply-kind c s p t l n) (meets-still (refusalOf c s p t n) _ (kind_on p (mechanism_of c s) t l) c.drive.unit (mechanism_of c s))
+    rw (reply-kind c s p t l n) (meets-still (refusal_of c s p t n) _ (kind_on p (mechanism_of c s) t l) c.drive.unit (mechanism_of c s))
 
 -- ---- A6h with GOOD
 
@@ -138,10 +138,10 @@ module _ (c : Changer) (s : List Slot) (p t l : List ℕ) (n : ℕ) (h : is_load
 
   -- what the packet comes to, refused or not
   met : answer c s p t l n
-      ≡ meets (refusalOf c s p t n) (rule_of c s p t n) (orders (load_unload (lo_unlo p) (starts p) (named_slot p) here)) unit here
+      ≡ meets (refusal_of c s p t n) (rule_of c s p t n) (orders (load_unload (lo_unlo p) (starts p) (named_slot p) here)) unit here
   met =
       reply-kind c s p t l n
-      ∙ ap (λ (k : Kind Mechanism). meets (refusalOf c s p t n) (rule_of c s p t n) k unit here) (kind_on-load p here t l h)
+      ∙ ap (λ (k : Kind Mechanism). meets (refusal_of c s p t n) (rule_of c s p t n) k unit here) (kind_on-load p here t l h)
 
   -- it is in order, the slot is there, and the answer is that of the Load or Unload
   load-granted :
@@ -149,7 +149,7 @@ module _ (c : Changer) (s : List Slot) (p t l : List ℕ) (n : ℕ) (h : is_load
       × (named_slot p < length s)
       × (answer c s p t l n ≡ settle unit here (if starts p then loads (named_slot p) here else unloads here))
   load-granted =
-      let w = meets-granted (refusalOf c s p t n) (rule_of c s p t n) _ unit here (ap is_granted (sym met) ∙ g) in
+      let w = meets-granted (refusal_of c s p t n) (rule_of c s p t n) _ unit here (ap is_granted (sym met) ∙ g) in
       let k = load_unload-granted (lo_unlo p) (starts p) (named_slot p) here w.2 in
       (is_in_order_order c s (order-unrefused c s p t n w.0), k.1, met ∙ w.1 ∙ ap (settle unit here) k.0)
 

@@ -8,16 +8,16 @@ use Rattle.attention.specs.Sense.{sense_at, same_sense, among, is_known}
 use Rattle.play.specs.Play.{is_status, is_play}
 use Rattle.page.specs.Page.{among as among_bytes, is_setting}
 use Rattle.attention.specs.Unit.{attend}
-use Rattle.drive.specs.State.{isKnownState, power_on as drive_power_on}
+use Rattle.drive.specs.State.{is_known_state, power_on as drive_power_on}
 use Rattle.table.specs.Layout.{bound, is_track, is_extra}
 use Rattle.table.specs.Row.{start_of, names, simple, free, plain, head_a0, head_a1, headed, addressed, row_test}
 use Rattle.sessions.specs.Session.{one, size, listed, numbered, is_session, starts, before, follows, in_place, in_order}
-use Rattle.disc.specs.Rules.{rule1, rule2, each_row, rises, out_before, begins_after, rising, rule7, first_broken, late_rules, row_rules, fault, isFit}
+use Rattle.disc.specs.Rules.{rule1, rule2, each_row, rises, out_before, begins_after, rising, rule7, first_broken, late_rules, row_rules, fault, is_fit}
 use Rattle.gate.specs.Unit.{pending_of}
 use Rattle.gate.specs.Gate.{Reply, gate}
 use Rattle.command.specs.Command.{decode}
 use Rattle.command.specs.Done.{answering}
-use Rattle.command.specs.Tray.{startStop}
+use Rattle.command.specs.Tray.{start_stop}
 use Rattle.event.specs.EventClass.{waiting, or_else, class_for}
 use Rattle.event.specs.EventAnswer.{media_status, event_of, status_of, event_bytes, cleared}
 use Rattle.target.specs.Perform.{perform}
@@ -29,7 +29,7 @@ use Rattle.changer.specs.Slot.{slot}
 use Rattle.changer.specs.Mechanism.{Mechanism, returned, takes, load_unload}
 use Rattle.changer.specs.Status.{flags_of, slot_tables, status_bytes}
 use Rattle.changer.specs.Changer.{is_in_order, power_on}
-use Rattle.changer.specs.ChangerPacket.{is_own, own, steps, refusalOf, answer, state_of, bytes_of}
+use Rattle.changer.specs.ChangerPacket.{is_own, own, steps, refusal_of, answer, state_of, bytes_of}
 
 -- power-on by default, or a packet with Table E, no parameter list and 6,538 bytes of response memory
 pub data Step : Type 0 where
@@ -200,5 +200,5 @@ abbrev pub handed : Changer
 handed = record { drive = loaded_e; home = 1 }
 
 pub changer_marked : all_stepped handed (disc ∷ none ∷ new_disc ∷ []) changer_marks ≡ true
-unfolding all_stepped same_slots slots_after after comes same_outcome same_bytes ◌and◌ ◌or◌ if◌then◌else◌ every is_msf sense_at same_sense among is_known is_status is_play among_bytes is_setting isKnownState drive_power_on attend is_track is_extra start_of names simple free plain head_a0 head_a1 headed addressed row_test one size listed numbered is_session starts before follows in_place in_order rule1 rule2 each_row rises out_before begins_after rising rule7 first_broken late_rules row_rules fault isFit pending_of gate decode answering startStop count_trailing_zeros waiting or_else class_for media_status event_of status_of event_bytes cleared perform returned takes load_unload flags_of slot_tables status_bytes is_in_order power_on is_own own steps refusalOf answer
+unfolding all_stepped same_slots slots_after after comes same_outcome same_bytes ◌and◌ ◌or◌ if◌then◌else◌ every is_msf sense_at same_sense among is_known is_status is_play among_bytes is_setting is_known_state drive_power_on attend is_track is_extra start_of names simple free plain head_a0 head_a1 headed addressed row_test one size listed numbered is_session starts before follows in_place in_order rule1 rule2 each_row rises out_before begins_after rising rule7 first_broken late_rules row_rules fault is_fit pending_of gate decode answering start_stop count_trailing_zeros waiting or_else class_for media_status event_of status_of event_bytes cleared perform returned takes load_unload flags_of slot_tables status_bytes is_in_order power_on is_own own steps refusal_of answer
 changer_marked = refl

@@ -9,12 +9,12 @@ use Rattle.std.proofs.lemmas.Bool.{lt-leb, not-true}
 use Rattle.std.proofs.Math.Dec.{eqb}
 use Rattle.ground.specs.Tests.{◌and◌, ◌or◌, if◌then◌else◌, when, and_head, and_tail, and_assoc}
 use Rattle.ground.specs.Memory.{fill, fill_none}
-use Rattle.deck.specs.Deck.{isLoaded}
-use Rattle.drive.specs.State.{isKnownState}
+use Rattle.deck.specs.Deck.{is_loaded}
+use Rattle.drive.specs.State.{is_known_state}
 use Rattle.drive.specs.StateLaws.{move_on-refused}
 use Rattle.table.specs.Layout.{bound}
-use Rattle.disc.specs.Rules.{fault, isFit}
-use Rattle.disc.specs.Part.{ruleWith}
+use Rattle.disc.specs.Rules.{fault, is_fit}
+use Rattle.disc.specs.Part.{rule_with}
 use Rattle.gate.specs.Gate.{Reply}
 use Rattle.claims.specs.UnitLaws.{Kind, meets}
 use Rattle.claims.specs.RefusalLaws.{Numbered, meets-numbered, Beside, rule_with-beside, TestedAlone, move-tested}
@@ -24,7 +24,7 @@ use Rattle.changer.specs.declared.Outcome.{Outcome}
 use Rattle.changer.specs.Slot.{slot_at}
 use Rattle.changer.specs.Mechanism.{Mechanism}
 use Rattle.changer.specs.Changer.{is_in_order, with_drive, moves_on}
-use Rattle.changer.specs.ChangerPacket.{mechanism_of, refusalOf, answer, outcomeOf, bytes_of, Answered}
+use Rattle.changer.specs.ChangerPacket.{mechanism_of, refusal_of, answer, outcome_of, bytes_of, Answered}
 use Rattle.changerclaims.specs.ChangerKind.{kind_on, rule_of, reply-kind}
 
 -- ---- the numbers, in the order of their tests
@@ -41,11 +41,11 @@ pub record Ordered (twelve known short order unfit : Bool) (n : ℕ) : Type 0 wh
 
 module _ (c : Changer) (s : List Slot) (p t : List ℕ) (n : ℕ) where
   pub refusal-ordered :
-      Ordered (eqb (length p) 12) (isKnownState c.drive) (ltb n bound) (is_in_order c s) (isLoaded c.drive.deck and not (isFit t))
-      (refusalOf c s p t n)
-  unfolding refusalOf if◌then◌else◌ ◌and◌ ◌or◌
+      Ordered (eqb (length p) 12) (is_known_state c.drive) (ltb n bound) (is_in_order c s) (is_loaded c.drive.deck and not (is_fit t))
+      (refusal_of c s p t n)
+  unfolding refusal_of if◌then◌else◌ ◌and◌ ◌or◌
   refusal-ordered =
-      by_tests (eqb (length p) 12) (isKnownState c.drive) (ltb n bound) (is_in_order c s) (isLoaded c.drive.deck and not (isFit t))
+      by_tests (eqb (length p) 12) (is_known_state c.drive) (ltb n bound) (is_in_order c s) (is_loaded c.drive.deck and not (is_fit t))
     where
       by_tests : (twelve known short order unfit : Bool)
           → Ordered twelve known short order unfit
@@ -64,39 +64,39 @@ module _ (c : Changer) (s : List Slot) (p t : List ℕ) (n : ℕ) where
           record { zero = refl; one = refl; two = refl; three = refl; eleven = refl; four = refl; most = refl }
 
   -- what is not refused is in order, and its disc's table is fit
-  pub order-unrefused : refusalOf c s p t n ≡ 0 → is_in_order c s ≡ true
+  pub order-unrefused : refusal_of c s p t n ≡ 0 → is_in_order c s ≡ true
   order-unrefused z =
       and_head _ _ (and_tail _ _ (and_tail _ _ (and_tail _ _ (sym refusal-ordered.zero ∙ eq-eqb _ _ z))))
 
-  pub fit-unrefused : refusalOf c s p t n ≡ 0 → isLoaded c.drive.deck and not (isFit t) ≡ false
+  pub fit-unrefused : refusal_of c s p t n ≡ 0 → is_loaded c.drive.deck and not (is_fit t) ≡ false
   fit-unrefused z =
       not-true _ (and_tail _ _ (and_tail _ _ (and_tail _ _ (and_tail _ _ (sym refusal-ordered.zero ∙ eq-eqb _ _ z)))))
 
   -- the packet's table is looked at
   abbrev pub looked : Bool
-  looked = eqb (length p) 12 and isKnownState c.drive and not (ltb n bound) and is_in_order c s and isLoaded c.drive.deck
+  looked = eqb (length p) 12 and is_known_state c.drive and not (ltb n bound) and is_in_order c s and is_loaded c.drive.deck
 
-  refusal-unfit : eqb (refusalOf c s p t n) 4 ≡ looked and not (isFit t)
+  refusal-unfit : eqb (refusal_of c s p t n) 4 ≡ looked and not (is_fit t)
   refusal-unfit = refusal-ordered.four ∙ sym (simp and_assoc)
 
   module _ (l : List ℕ) where
     -- the answer's number is that of the refusal, and the rule that beside it, with any list
-    pub answer-refusal : Numbered (refusalOf c s p t n) (rule_of c s p t n) (answer c s p t l n)
+    pub answer-refusal : Numbered (refusal_of c s p t n) (rule_of c s p t n) (answer c s p t l n)
     answer-refusal =
         rw (reply-kind c s p t l n)
-        (meets-numbered (refusalOf c s p t n) t (kind_on p (mechanism_of c s) t l) c.drive.unit (mechanism_of c s))
+        (meets-numbered (refusal_of c s p t n) t (kind_on p (mechanism_of c s) t l) c.drive.unit (mechanism_of c s))
 
     pub answer-ordered :
-        Ordered (eqb (length p) 12) (isKnownState c.drive) (ltb n bound) (is_in_order c s) (isLoaded c.drive.deck and not (isFit t))
+        Ordered (eqb (length p) 12) (is_known_state c.drive) (ltb n bound) (is_in_order c s) (is_loaded c.drive.deck and not (is_fit t))
         (answer c s p t l n).number
     answer-ordered = rw answer-refusal.0 refusal-ordered
 
     pub answer-beside : Beside (eqb (answer c s p t l n).number 4) (answer c s p t l n).rule
-    answer-beside = rw (answer-refusal.0, answer-refusal.1) (rule_with-beside (refusalOf c s p t n) t looked refusal-unfit)
+    answer-beside = rw (answer-refusal.0, answer-refusal.1) (rule_with-beside (refusal_of c s p t n) t looked refusal-unfit)
 
     -- with 4 it is the table's first broken rule
     pub answer-fault : eqb (answer c s p t l n).number 4 ≡ true → (answer c s p t l n).rule ≡ fault t
-    unfolding ruleWith
+    unfolding rule_with
     answer-fault h = answer-refusal.1 ∙ when _ _ _ (ap (λ (j : ℕ). eqb j 4) (sym answer-refusal.0) ∙ h)
 
 -- ---- 11
@@ -147,18 +147,18 @@ refused_by n rule c = record { number = n; rule = rule; status = 0; len = 0; sta
 abbrev Unchanged : Changer → List Slot → List ℕ → Reply Mechanism → Type 0
 Unchanged c s m r =
     (r.number ≡ 0 → ⊥)
-    → (outcomeOf r ≡ refused_by r.number r.rule c)
+    → (outcome_of r ≡ refused_by r.number r.rule c)
     × (r.deck.slots ≡ s)
     × (fill m (bytes_of r) ≡ m)
 
 meets_unchanged : (j : ℕ) (t : List ℕ) (k : Kind Mechanism) (c : Changer) (s : List Slot) (m : List ℕ)
-    → Unchanged c s m (meets j (ruleWith j t) k c.drive.unit (mechanism_of c s))
+    → Unchanged c s m (meets j (rule_with j t) k c.drive.unit (mechanism_of c s))
 meets_unchanged zero t k c s m n = absurd (n (meets-numbered 0 t k c.drive.unit (mechanism_of c s)).0)
 meets_unchanged (suc j) t k c s m n = (refl, refl, fill_none m)
 
 pub answer_unchanged : (c : Changer) (s : List Slot) (p t l m : List ℕ) (n : ℕ) → Unchanged c s m (answer c s p t l n)
 answer_unchanged c s p t l m n =
-    rw (reply-kind c s p t l n) (meets_unchanged (refusalOf c s p t n) t (kind_on p (mechanism_of c s) t l) c s m)
+    rw (reply-kind c s p t l n) (meets_unchanged (refusal_of c s p t n) t (kind_on p (mechanism_of c s) t l) c s m)
 
 -- of whatever meets the promise
 pub answered_unchanged : (c : Changer) (s : List Slot) (p t l m : List ℕ) {r : Outcome} {m' : List ℕ} {s' : List Slot}
@@ -172,7 +172,7 @@ answered_unchanged c s p t l m a n =
 
 -- ---- K2's outside call
 
-pub moves-tested : (c : Changer) (k : ℕ) → TestedAlone (isKnownState c.drive) (moves_on k c).number
+pub moves-tested : (c : Changer) (k : ℕ) → TestedAlone (is_known_state c.drive) (moves_on k c).number
 unfolding moves_on
 moves-tested c k = move-tested c.drive k
 

@@ -3,11 +3,11 @@
 use Rattle.std.specs.Prelude.{◌≡◌, refl, Bool, true, false, not, List, ℕ, length, eqb, ltb, leb}
 use Rattle.ground.specs.Tests.{◌and◌, ◌or◌}
 use Rattle.attention.specs.Sense.{triple, sense_at}
-use Rattle.deck.specs.Deck.{isLoaded}
+use Rattle.deck.specs.Deck.{is_loaded}
 use Rattle.drive.specs.State as drive
-use Rattle.drive.specs.State.{isKnownState}
+use Rattle.drive.specs.State.{is_known_state}
 use Rattle.table.specs.Layout.{bound}
-use Rattle.disc.specs.Rules.{fault, isFit}
+use Rattle.disc.specs.Rules.{fault, is_fit}
 use Rattle.changer.specs.declared.Slot.{Slot}
 use Rattle.changer.specs.declared.Changer.{Changer}
 use Rattle.changer.specs.declared.Outcome.{Outcome}
@@ -19,7 +19,7 @@ use Rattle.changerclaims.specs.ChangerRefusalLaws.{order_not, answer-ordered, an
 module _ (c : Changer) where
   -- 2 does not meet "the drive's" part of the state
   abbrev is_state : Bool
-  is_state = isKnownState c.drive
+  is_state = is_known_state c.drive
 
   -- ---- packets
 
@@ -50,7 +50,7 @@ module _ (c : Changer) where
 
       -- "loaded .. and the table is not fit"
       abbrev is_unfit : Bool
-      is_unfit = isLoaded c.drive.deck and not (isFit t)
+      is_unfit = is_loaded c.drive.deck and not (is_fit t)
 
       pub changer-refused-1 : gives 1 ≡ not is_twelve
       changer-refused-1 = (answer-ordered c s p t (length m) l).one

@@ -28,8 +28,8 @@ unique_packet_on c s n p t l m r q m₁ m₂ a b =
 pub unique_power_on : (c r s : Changer) → r ≡ power_on c → s ≡ power_on c → r ≡ s
 unique_power_on c r s = value_once
 
-pub unique_power_on-without_change : (c r s : Changer) → r ≡ power_on_without_change c → s ≡ power_on_without_change c → r ≡ s
-unique_power_on-without_change c r s = value_once
+pub unique_power_on_without_change : (c r s : Changer) → r ≡ power_on_without_change c → s ≡ power_on_without_change c → r ≡ s
+unique_power_on_without_change c r s = value_once
 
 pub unique_move_on : (k : ℕ) (c : Changer) (r s : MovedOn) → r ≡ moves_on k c → s ≡ moves_on k c → r ≡ s
 unique_move_on k c r s = value_once

@@ -18,7 +18,7 @@ use Rattle.changer.specs.declared.Slot.{Slot}
 use Rattle.changer.specs.declared.Changer.{Changer}
 use Rattle.changer.specs.Mechanism.{Mechanism, returned}
 use Rattle.changer.specs.Changer.{power_on, power_on_without_change, emptied, moves_on}
-use Rattle.changer.specs.ChangerPacket.{mechanism_of, is_load_unload, is_own, own, carried, refusalOf}
+use Rattle.changer.specs.ChangerPacket.{mechanism_of, is_load_unload, is_own, own, carried, refusal_of}
 use Rattle.claims.specs.Telling.{answer_of, is_good}
 use Rattle.claims.specs.UnitLaws.{Kind, orders, meets, is_done, next_of, comes_to, meets-says, meets-keeps}
 use Rattle.claims.specs.PacketLaws.{Does, failing, keeping, closing-it, opening-it, clearing, is_traying, perform_does, Seen, asking, freeing, ordering, seen, kind_of, kind, closed_still}
@@ -123,8 +123,8 @@ packet_noted : (p t l memory : List ℕ) (s : List Slot) (c : Changer) → Noted
 packet_noted p t l memory s c =
     let m : Mechanism = mechanism_of c s in
     let n : ℕ = length memory in
-    subst (NotedBy p t l memory m c.drive.unit (refusalOf c s p t n) (rule_of c s p t n)) (sym (reply-kind c s p t l n))
-    (meets-noted p t l memory m c.drive.unit (refusalOf c s p t n) (rule_of c s p t n))
+    subst (NotedBy p t l memory m c.drive.unit (refusal_of c s p t n) (rule_of c s p t n)) (sym (reply-kind c s p t l n))
+    (meets-noted p t l memory m c.drive.unit (refusal_of c s p t n) (rule_of c s p t n))
 
 call_noted : (b : Call) (c : Changer) → is_powering b ≡ false → NotedAt b c
 unfolding ◌and◌ moves_on

@@ -4,7 +4,7 @@ use Rattle.std.specs.Prelude.{◌≡◌, refl, true, false, List, [], ◌∷◌,
 use Rattle.std.proofs.Common.{◌∙◌}
 use Rattle.ground.specs.Tests.{or_left}
 use Rattle.drive.specs.declared.state.Drive.{Drive}
-use Rattle.deck.specs.Deck.{isLoaded}
+use Rattle.deck.specs.Deck.{is_loaded}
 use Rattle.claims.specs.Telling.{Attention}
 use Rattle.claims.specs.History.{Standing}
 use Rattle.claims.specs.Call.{Form, by_default, Call, powering, answer, next, event, history, final, is_pending, is_power_on, causes, tells}
@@ -22,7 +22,7 @@ pub attentions : (k : Attention) (f : Form) (handed : Drive) (calls : List Call)
 attentions k f handed calls = pends drive k (powering f) handed calls refl
 
 -- K3: "Power-on with a loaded disc now leaves both attentions pending by default"
-pub attentions_greeted : (k : Attention) (d : Drive) → isLoaded d.deck ≡ true → is_pending k (next (powering by_default) d) ≡ true
+pub attentions_greeted : (k : Attention) (d : Drive) → is_loaded d.deck ≡ true → is_pending k (next (powering by_default) d) ≡ true
 attentions_greeted k d l = drive_turns k (powering by_default) d ∙ or_left _ _ (greeting-causes k d l)
 
 -- causes before one telling count as one: once an answer tells the attention, nothing of it stands, however many causes came before

@@ -3,9 +3,9 @@ use Rattle.std.specs.Prelude.{ℕ, ◌≡◌, Bool, true, false, not, List, [], 
 use Rattle.ground.specs.Tests.{◌and◌, ◌or◌}
 use Rattle.deck.specs.declared.Deck.{Deck}
 use Rattle.drive.specs.declared.state.Drive.{Drive}
-use Rattle.deck.specs.Deck.{isLoaded}
+use Rattle.deck.specs.Deck.{is_loaded}
 use Rattle.drive.specs.State.{power_on, power_on_without_change, button, lay, lift, move_on}
-use Rattle.disc.specs.Rules.{isFit}
+use Rattle.disc.specs.Rules.{is_fit}
 use Rattle.command.specs.Command.{code_of, lo_ej, start}
 use Rattle.outcome.specs.Outcome.{state_of}
 use Rattle.target.specs.Packet.{answer as reply_to}
@@ -149,7 +149,7 @@ greets (packet p t l m) = false
 
 -- K3: "Power-on with a loaded disc .. by default": it meets a drive with the tray closed and a disc in
 abbrev pub is_greeting : Happening → Bool
-is_greeting e = greets e.call and isLoaded e.old.deck
+is_greeting e = greets e.call and is_loaded e.old.deck
 
 -- "a power-on or a loading"
 abbrev pub is_cause : Happening → Bool
@@ -197,12 +197,12 @@ is_success e = is_packet is_needing e.call and is_good e.answer
 pub data Alike : Call → Call → Type 0 where
   same : (c : Call) → Alike c c
   lists : (p t m : List ℕ) {k l : List ℕ} → Alike (packet p t k m) (packet p t l m)
-  tables : (p m : List ℕ) {t u k l : List ℕ} → isFit t ≡ true → isFit u ≡ true → Alike (packet p t k m) (packet p u l m)
+  tables : (p m : List ℕ) {t u k l : List ℕ} → is_fit t ≡ true → is_fit u ≡ true → Alike (packet p t k m) (packet p u l m)
 
 -- K4: "Demand 3's two runs share the lent parameter list": the same call, or the same packet with the same list and memory and two fit tables
 pub data Sharing : Call → Call → Type 0 where
   itself : (c : Call) → Sharing c c
-  fitting : (p l m : List ℕ) {t u : List ℕ} → isFit t ≡ true → isFit u ≡ true → Sharing (packet p t l m) (packet p u l m)
+  fitting : (p l m : List ℕ) {t u : List ℕ} → is_fit t ≡ true → is_fit u ≡ true → Sharing (packet p t l m) (packet p u l m)
 
 -- the call, lent that memory in place of its own
 abbrev pub lend : List ℕ → Call → Call

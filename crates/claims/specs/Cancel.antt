@@ -10,21 +10,21 @@ use Rattle.attention.specs.Sense.{triple, sense_at, same_sense, among, is_known}
 use Rattle.play.specs.Play.{no_play, is_status, is_play}
 use Rattle.page.specs.Page.{among as among_bytes, is_setting}
 use Rattle.attention.specs.Unit.{attend}
-use Rattle.deck.specs.Deck.{loaded, isLoaded, with_lock, opening}
-use Rattle.drive.specs.State.{isKnownState, with_deck, holding, showing, power_on, power_on_without_change, button, lay, lift}
+use Rattle.deck.specs.Deck.{loaded, is_loaded, with_lock, opening}
+use Rattle.drive.specs.State.{is_known_state, with_deck, holding, showing, power_on, power_on_without_change, button, lay, lift}
 use Rattle.table.specs.Layout.{bound, is_track, is_extra}
 use Rattle.table.specs.Row.{start_of, names, simple, plain, head_a0, head_a1, headed, addressed, row_test}
 use Rattle.sessions.specs.Session.{one, size, listed, numbered, is_session, starts, follows, in_place, in_order}
-use Rattle.disc.specs.Rules.{rule1, rule2, each_row, rises, begins_after, rising, rule7, first_broken, late_rules, row_rules, fault, isFit}
-use Rattle.tracks.specs.Track.{next_out, out_at, covers, wanted, next_found, found, trackOf, is_mode, in_mode, allIn}
+use Rattle.disc.specs.Rules.{rule1, rule2, each_row, rises, begins_after, rising, rule7, first_broken, late_rules, row_rules, fault, is_fit}
+use Rattle.tracks.specs.Track.{next_out, out_at, covers, wanted, next_found, found, track_of, is_mode, in_mode, all_in}
 use Rattle.gate.specs.Unit.{pending_of}
 use Rattle.gate.specs.Gate.{gate}
 use Rattle.command.specs.Command.{decode}
-use Rattle.command.specs.Tray.{eject as ejects, load as loads, startStop}
+use Rattle.command.specs.Tray.{eject as ejects, load as loads, start_stop}
 use Rattle.blocks.specs.Range.{over, in_range, ranged}
-use Rattle.audio.specs.Audio.{started, is_over, pauseResume}
+use Rattle.audio.specs.Audio.{started, is_over, pause_resume}
 use Rattle.target.specs.Perform.{perform}
-use Rattle.target.specs.Packet.{refusalOf, answer as reply_to}
+use Rattle.target.specs.Packet.{refusal_of, answer as reply_to}
 use Rattle.claims.specs.Call.{Form, by_default, without_change, Call, powering, pressing, laying, lifting, packet, answer, next, final, is_eject_or_load}
 use Rattle.claims.specs.Marked.{table_e, loaded_e}
 use Rattle.claims.specs.Differing.{Part, change, sense, tray, disc, lock, play, event, same_flag, same_play, same_page, add, differing, differing-none}
@@ -75,11 +75,11 @@ module _ (d : Drive) where
   powering-powering f g = same_power g d (next (powering f) d) (power-same f d)
 
   -- and the two forms give one state exactly where the drive is not loaded
-  pub powering-forms : (next (powering by_default) d ≡ next (powering without_change) d) ↔ (isLoaded d.deck ≡ false)
+  pub powering-forms : (next (powering by_default) d ≡ next (powering without_change) d) ↔ (is_loaded d.deck ≡ false)
   powering-forms = (forms-apart d, forms-same d)
 
   -- the button twice, on a loaded drive that is not locked, in a state that refusal 2 does not meet: it leaves what a loading leaves
-  pub pressing-pressing : isKnownState d ≡ true → isLoaded d.deck ≡ true → d.deck.lock ≡ false → next pressing (next pressing d) ≡ reloaded d
+  pub pressing-pressing : is_known_state d ≡ true → is_loaded d.deck ≡ true → d.deck.lock ≡ false → next pressing (next pressing d) ≡ reloaded d
   unfolding attend if◌then◌else◌
   pressing-pressing k h l = press-press d k h l ∙ rw (and_tail _ _ h)
 
@@ -211,5 +211,5 @@ found_none i = differing-none (final i.from i.calls) (final i.from i.others)
 
 -- each instance is as it says
 pub compared : map found_in instances ≡ map said_of instances
-unfolding differing add same_flag same_play same_page ◌or◌ if◌then◌else◌ every is_msf sense_at same_sense among is_known is_status is_play among_bytes is_setting isKnownState power_on power_on_without_change button lay lift attend is_track is_extra start_of names simple plain head_a0 head_a1 headed addressed row_test one size listed numbered is_session starts follows in_place in_order rule1 rule2 each_row rises begins_after rising rule7 first_broken late_rules row_rules fault isFit next_out out_at covers wanted next_found found trackOf is_mode in_mode allIn pending_of gate decode ejects loads startStop over in_range ranged started is_over pauseResume perform refusalOf reply_to
+unfolding differing add same_flag same_play same_page ◌or◌ if◌then◌else◌ every is_msf sense_at same_sense among is_known is_status is_play among_bytes is_setting is_known_state power_on power_on_without_change button lay lift attend is_track is_extra start_of names simple plain head_a0 head_a1 headed addressed row_test one size listed numbered is_session starts follows in_place in_order rule1 rule2 each_row rises begins_after rising rule7 first_broken late_rules row_rules fault is_fit next_out out_at covers wanted next_found found track_of is_mode in_mode all_in pending_of gate decode ejects loads start_stop over in_range ranged started is_over pause_resume perform refusal_of reply_to
 compared = refl

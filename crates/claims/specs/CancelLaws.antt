@@ -6,8 +6,8 @@ use Rattle.ground.specs.Tests.{◌and◌, and_head, and_tail}
 use Rattle.deck.specs.declared.Deck.{Deck}
 use Rattle.drive.specs.declared.state.Drive.{Drive}
 use Rattle.drive.specs.declared.state.Moved.{Moved}
-use Rattle.deck.specs.Deck.{isLoaded, opening, closing}
-use Rattle.drive.specs.State.{isKnownState, with_deck, shift, holding, power_on_with, moves, button, lay, lift}
+use Rattle.deck.specs.Deck.{is_loaded, opening, closing}
+use Rattle.drive.specs.State.{is_known_state, with_deck, shift, holding, power_on_with, moves, button, lay, lift}
 use Rattle.drive.specs.StateLaws.{power_on-with, power_on_without_change-with, button-opens, button-closes, lay-lays, lift-lifts}
 use Rattle.gate.specs.Gate.{Result}
 use Rattle.command.specs.declared.decode.Command.{Command}
@@ -16,7 +16,7 @@ use Rattle.command.specs.Command.{decode, code_of, lo_ej}
 use Rattle.command.specs.Class.{class_of}
 use Rattle.command.specs.ClassLaws.{decode_is}
 use Rattle.target.specs.Perform.{perform}
-use Rattle.target.specs.Packet.{refusalOf}
+use Rattle.target.specs.Packet.{refusal_of}
 use Rattle.claims.specs.Call.{Form, by_default, without_change, powering, pressing, packet, next, is_eject_or_load}
 use Rattle.claims.specs.UnitLaws.{next_of, comes_to, meets-keeps}
 use Rattle.claims.specs.PacketLaws.{Does, failing, keeping, closing-it, opening-it, clearing, is_traying, is_polling, perform_does, Seen, asking, freeing, ordering, seen, kind_of, kind, rule_of, reply-kind}
@@ -33,8 +33,8 @@ Same m n = (n.tray_open ≡ m.tray_open) × (n.disc_in ≡ m.disc_in)
 holding-last : (d : Drive) (b c : Bool) → d.deck.disc_in ≡ c → holding (holding d b) c ≡ d
 holding-last d b c h = λ i. holding d (sym h i)
 
-holding_known : (d : Drive) (b : Bool) → isKnownState d ≡ true → isKnownState (holding d b) ≡ true
-unfolding isKnownState
+holding_known : (d : Drive) (b : Bool) → is_known_state d ≡ true → is_known_state (holding d b) ≡ true
+unfolding is_known_state
 holding_known d b k = k
 
 -- where a call answered r the other one then is not refused and gives back d
@@ -69,7 +69,7 @@ module _ (d : Drive) where
 
 -- K3: the change attention after a power-on in that form
 abbrev change_after : Form → Deck → Bool
-change_after by_default m = isLoaded m
+change_after by_default m = is_loaded m
 change_after without_change m = false
 
 power_with : (f : Form) (d : Drive) → next (powering f) d ≡ power_on_with d (change_after f d.deck)
@@ -111,16 +111,16 @@ module _ (f : Form) (d e : Drive) where
 
 module _ (d : Drive) where
   -- the two forms differ in the change attention of a loaded drive
-  pub forms-same : isLoaded d.deck ≡ false → next (powering by_default) d ≡ next (powering without_change) d
+  pub forms-same : is_loaded d.deck ≡ false → next (powering by_default) d ≡ next (powering without_change) d
   forms-same h = power_with by_default d ∙ ap (power_on_with d) h ∙ sym (power_with without_change d)
 
-  pub forms-apart : next (powering by_default) d ≡ next (powering without_change) d → isLoaded d.deck ≡ false
+  pub forms-apart : next (powering by_default) d ≡ next (powering without_change) d → is_loaded d.deck ≡ false
   forms-apart h = ap (λ (x : Drive). x.unit.change) (sym (power_with by_default d) ∙ h ∙ power_with without_change d)
 
 -- ---- the button
 
 -- a loaded drive that is not locked opens, and then closes
-module _ (d : Drive) (k : isKnownState d ≡ true) (h : isLoaded d.deck ≡ true) (l : d.deck.lock ≡ false) where
+module _ (d : Drive) (k : is_known_state d ≡ true) (h : is_loaded d.deck ≡ true) (l : d.deck.lock ≡ false) where
   abbrev out : Drive
   out = shift d (opening d.deck)
 
@@ -128,7 +128,7 @@ module _ (d : Drive) (k : isKnownState d ≡ true) (h : isLoaded d.deck ≡ true
   press-press =
       let o = ap (λ (r : Moved). r.state) (button-opens d k (not-true _ (and_head _ _ h)) l) in
       ap (λ (x : Drive). (button x).state) o
-      ∙ ap (λ (r : Moved). r.state) (button-closes out (subst (λ (x : Drive). isKnownState x ≡ true) o (call_state pressing d k)) refl)
+      ∙ ap (λ (r : Moved). r.state) (button-closes out (subst (λ (x : Drive). is_known_state x ≡ true) o (call_state pressing d k)) refl)
 
 -- ---- packets
 
@@ -158,4 +158,4 @@ packet-same p t l m d h =
     let n = length m in
     let k = kind-same (seen (decode (code_of p))) p d.deck t l (sym (code_traying p) ∙ h) in
     rw (reply-kind d p t l n)
-    (meets-keeps (Same d.deck) (refusalOf d p t n) (rule_of d p t n) (kind p d.deck t l) d.unit d.deck (refl, refl) (λ z. k))
+    (meets-keeps (Same d.deck) (refusal_of d p t n) (rule_of d p t n) (kind p d.deck t l) d.unit d.deck (refl, refl) (λ z. k))

@@ -4,8 +4,8 @@ use Rattle.std.specs.Prelude.{ℕ, zero, suc, ◌≡◌, Bool, true, false, List
 use Rattle.ground.specs.Tests.{◌and◌, if◌then◌else◌}
 use Rattle.table.specs.Layout.{last_session, descriptors, rows, flags_at, point_at, is_track}
 use Rattle.table.specs.Row.{address_at}
-use Rattle.disc.specs.Rules.{isFit}
-use Rattle.disc.specs.Disc.{discOf}
+use Rattle.disc.specs.Rules.{is_fit}
+use Rattle.disc.specs.Disc.{disc_of}
 use Rattle.toc.specs.Shown.{described}
 use Rattle.toc.specs.Answer.{AA, headed, format0}
 use Rattle.command.specs.Command.{code_of}
@@ -14,7 +14,7 @@ use Rattle.claims.specs.Call.{Call, packet}
 
 -- READ TOC's full format 0 answer for that table, by MSF and N (where that N is no fault)
 abbrev pub list_with : Bool → ℕ → List ℕ → List ℕ
-list_with msf n t = format0 (discOf t) msf n (descriptors t)
+list_with msf n t = format0 (disc_of t) msf n (descriptors t)
 
 -- the track list: "full format 0 answers (N 0, block addresses)"
 abbrev pub track_list : List ℕ → List ℕ
@@ -38,7 +38,7 @@ pub record Contents : Type 0 where
   pub last : ℕ
   pub tracks : List Entry
   pub flags_of_lead : ℕ
-  pub leadOut : ℕ
+  pub session_lead_out : ℕ
 
 -- descriptor j of the table as a track
 abbrev pub entry_at : List ℕ → ℕ → Entry
@@ -52,11 +52,11 @@ entries d (suc j) = entries d j ++ (if is_track (point_at d j) then entry_at d j
 -- the contents of the disc that the table describes
 abbrev pub contents_of : List ℕ → Contents
 contents_of t = record {
-  first = (discOf t).first;
-  last = (discOf t).last;
+  first = (disc_of t).first;
+  last = (disc_of t).last;
   tracks = entries (descriptors t) (rows (descriptors t));
-  flags_of_lead = (discOf t).lead_flags;
-  leadOut = (discOf t).lead_out;
+  flags_of_lead = (disc_of t).lead_flags;
+  session_lead_out = (disc_of t).lead_out;
 }
 
 -- ---- the list that contents make
@@ -77,7 +77,7 @@ written msf (e ∷ es) = entry_bytes msf e ++ written msf es
 
 -- "then the lead-out as AAh"
 abbrev pub lead_entry : Contents → Entry
-lead_entry c = record { flags = c.flags_of_lead; number = AA; start = c.leadOut }
+lead_entry c = record { flags = c.flags_of_lead; number = AA; start = c.session_lead_out }
 
 -- by MSF and N: it is a table's list (`list-made`), and nothing else of the table goes into it
 abbrev pub list_of : Bool → ℕ → Contents → List ℕ
@@ -87,7 +87,7 @@ list_of msf n c = headed c.first c.last (written msf (from n c.tracks) ++ entry_
 
 -- a fit table "of one session"
 pub record Single (t : List ℕ) : Type 0 where
-  pub fit : isFit t ≡ true
+  pub fit : is_fit t ≡ true
   pub one : last_session t ≡ 1
 
 -- "two fit tables of one session whose full format 0 answers (N 0, block addresses) are equal"

@@ -144,7 +144,7 @@ written-tells msf (g ∷ x) (k ∷ y) e f (cons s a) (cons r b) p q h =
 -- contents whose addresses are in range
 pub record Ranged (c : Contents) : Type 0 where
   pub tracks : Each Placed c.tracks
-  pub lead : c.leadOut ≤ last_address
+  pub lead : c.session_lead_out ≤ last_address
 
 -- where every track is numbered n or more, all are shown
 from_low : (n : ℕ) {x : List Entry} → Each (λ e. n ≤ e.number) x → from n x ≡ x
@@ -169,4 +169,4 @@ list_tells msf c k a b h =
     let q = ap (λ (l : List ℕ). get_or l 3 0) h in
     let w = rw (from_all c.tracks, from_all k.tracks) at (ap (drop 4) h) in
     let r = written-tells msf c.tracks k.tracks (lead_entry c) (lead_entry k) a.tracks b.tracks a.lead b.lead w in
-    λ i. record { first = p i; last = q i; tracks = r.0 i; flags_of_lead = (r.1 i).flags; leadOut = (r.1 i).start }
+    λ i. record { first = p i; last = q i; tracks = r.0 i; flags_of_lead = (r.1 i).flags; session_lead_out = (r.1 i).start }

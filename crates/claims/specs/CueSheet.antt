@@ -2,12 +2,12 @@
 use Rattle.std.specs.Prelude.{◌≡◌, refl, ◌↔◌, ◌⊎◌, Bool, true, false, List, ◌++◌, ℕ, ◌+◌, ◌*◌, ◌/◌, ◌%◌, ◌≤◌, ◌<◌, length, drop}
 use Rattle.std.proofs.Common.{sym, ap, ◌∙◌, inl, inr, ⊎_elim, true≢false, arith, lt_of_not-le, eqb-true}
 use Rattle.std.proofs.Math.Decide.{dec_le}
-use Rattle.ground.specs.Tests.{◌and◌, and_head, and_tail, and_both, and-off, and_assoc}
+use Rattle.ground.specs.Tests.{◌and◌, and_head, and_tail, and_both, and_off, and_assoc}
 use Rattle.ground.specs.Memory.{fill, fill_fits, fill_none}
 use Rattle.table.specs.Layout.{bound, descriptors, rows, flags_at, point_at, psec_at, is_extra}
 use Rattle.table.specs.Row.{row_at}
-use Rattle.disc.specs.Rules.{isFit}
-use Rattle.disc.specs.RulesLaws.{isFit-true, fit-sized}
+use Rattle.disc.specs.Rules.{is_fit}
+use Rattle.disc.specs.RulesLaws.{is_fit_true, fit_sized}
 use Rattle.cue.specs.declared.write.Written.{Written}
 use Rattle.cue.specs.Sheet.{AA, swapped, tracks_of, lead_out_of, is_lead_out, first_of, last_of, is_framed, every_adr, is_numbered, is_described}
 use Rattle.cue.specs.SheetLaws.{is_described_parts}
@@ -42,9 +42,9 @@ numbered e h = sym (ap (λ (x : Answer). x.number) e) ∙ h
 -- a described sheet's last entry has number AAh
 lead_number : (s : List ℕ) → is_described s ≡ true → (lead_out_of s).number ≡ AA
 unfolding is_lead_out
-lead_number s d = eqb-true _ _ (and_head _ _ (is_described_parts s d).leadOut)
+lead_number s d = eqb-true _ _ (and_head _ _ (is_described_parts s d).session_lead_out)
 
-told_of : (s : List ℕ) → is_described s ≡ true → isFit (table_of s) ≡ true → Told s (table_of s)
+told_of : (s : List ℕ) → is_described s ≡ true → is_fit (table_of s) ≡ true → Told s (table_of s)
 told_of s d f =
     let n = (is_described_parts s d).numbered in
     record {
@@ -157,7 +157,7 @@ pub cue_13-framed : (s : List ℕ) (m : ℕ)
 unfolding is_described
 cue_13-framed s m = (
   λ h. let c = (cue_13 s m).0 h in (c.0, c.1, ⊎_elim (split (is_framed s and every_adr s) refl) inr c.2),
-  λ h. (cue_13 s m).1 (h.0, h.1, ⊎_elim (λ n. inl (sym (and_assoc _ _ _) ∙ sym (and-off _ _ n))) inr h.2),
+  λ h. (cue_13 s m).1 (h.0, h.1, ⊎_elim (λ n. inl (sym (and_assoc _ _ _) ∙ sym (and_off _ _ n))) inr h.2),
 )
   where
     split : (b : Bool) → is_framed s and every_adr s ≡ b → is_described s ≡ false → (is_framed s and every_adr s ≡ false) ⊎ NoTable s
@@ -178,7 +178,7 @@ cue_memory s m m' r t h =
     let n = sym (ap (λ (w : Written). w.number) t.outcome) ∙ h in
     let w = cue-written s (length m) n in
     let l = ap (λ (w : Written). w.len) t.outcome ∙ ap length w.0 in
-    let z = (fit-sized (isFit-true w.1.holds.fit)).most in
+    let z = (fit_sized (is_fit_true w.1.holds.fit)).most in
     let b : bound ≤ length m = elim (dec_le bound (length m)) [
       | yes k ↦ k
       | no k ↦ absurd (let y = sym ((cue_14 s (length m)).1 (lt_of_not-le k)) ∙ n in omega arith)

@@ -2,7 +2,7 @@
 use Rattle.std.specs.Prelude.{◌≡◌, refl, Bool, true, not, List, [], ◌∷◌, ◌++◌, ◌↔◌, ℕ, ◌<◌, length}
 use Rattle.std.proofs.Common.{sym, ◌∙◌}
 use Rattle.std.proofs.Math.Bool.{false}
-use Rattle.ground.specs.Tests.{◌and◌, ◌or◌, and-late, or_left, or_right}
+use Rattle.ground.specs.Tests.{◌and◌, ◌or◌, and_late, or_left, or_right}
 use Rattle.claims.specs.Telling.{Attention, power, change}
 use Rattle.claims.specs.History.{Event, event, history, final, history-append, At, Standing, standing-told}
 use Rattle.claims.specs.Stands.{stands}
@@ -68,7 +68,7 @@ module _ {C S A : Type 0} (D : Device C S A) where
 
   pub told : (k : Attention) (c : C) (s : S) → D.tells k (made c s) ≡ true → D.pend k s ≡ true → D.cause k (made c s) ≡ false → Told k c s
   unfolding ◌and◌ ◌or◌
-  told k c s t d n = record { due = d; apart = n; gone = D.turns k c s ∙ rw (n, t) (sym (and-late (not (D.on (made c s))) false refl)) }
+  told k c s t d n = record { due = d; apart = n; gone = D.turns k c s ∙ rw (n, t) (sym (and_late (not (D.on (made c s))) false refl)) }
 
   -- a cause leaves an attention pending
   pub cause-lives : (k : Attention) (c : C) (s : S) → D.cause k (made c s) ≡ true → live (D.next c s) ≡ true

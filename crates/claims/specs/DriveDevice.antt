@@ -5,13 +5,13 @@ use Rattle.std.proofs.lemmas.Bool.{false≢true}
 use Rattle.ground.specs.Tests.{◌and◌, ◌or◌, or_left, either}
 use Rattle.drive.specs.declared.state.Drive.{Drive}
 use Rattle.drive.specs.declared.state.Moved.{Moved}
-use Rattle.deck.specs.Deck.{isLoaded}
+use Rattle.deck.specs.Deck.{is_loaded}
 use Rattle.drive.specs.State.{button, lay, lift, move_on}
 use Rattle.drive.specs.StateLaws.{power_on-with, power_on_without_change-with}
 use Rattle.gate.specs.Gate.{Reply}
 use Rattle.deck.specs.declared.Deck.{Deck}
 use Rattle.outcome.specs.Outcome.{state_of}
-use Rattle.target.specs.Packet.{refusalOf}
+use Rattle.target.specs.Packet.{refusal_of}
 use Rattle.claims.specs.Telling.{Attention, power, change, Answer, answer_of, is_good, tells_to}
 use Rattle.claims.specs.UnitLaws.{Turn, only, or-none, only_none, unmoved, attended, meets-turn, orders-blocks, any-pending}
 use Rattle.claims.specs.Call.{Form, by_default, without_change, Call, powering, pressing, laying, lifting, moving_on, packet, answer, next, event, is_pending, is_attending, is_powering, is_power_on, closed, is_loading, is_cause, causes, tells, is_needing, is_success, Alike, same, lists, tables, lend, left}
@@ -73,7 +73,7 @@ packet-turn k p t l m d =
     let T : Bool → Reply Deck → Type 0 =
     λ a r. Turn k d.unit (tells_to k a d.unit (answer_of m r) r.unit) (closed d.deck r.deck) r.unit in
     subst₂ T (packet_request p d.deck t l) (sym (reply-kind d p t l (length m)))
-    (meets-turn (λ good n. closed d.deck n) k m d.deck (refusalOf d p t (length m)) (rule_of d p t (length m)) (kind p d.deck t l) d.unit
+    (meets-turn (λ good n. closed d.deck n) k m d.deck (refusal_of d p t (length m)) (rule_of d p t (length m)) (kind p d.deck t l) d.unit
     (packet_fair p d.deck t l))
 
 -- every call but power-on
@@ -126,7 +126,7 @@ pub packet_blocked : (k : Attention) (d : Drive) (p t l m : List ℕ) → is_pen
 packet_blocked k d p t l m h n =
     let o = packet_orders p d.deck t l n in
     rw (reply-kind d p t l (length m), o.1)
-    (orders-blocks (refusalOf d p t (length m)) (rule_of d p t (length m)) o.0 d.unit d.deck m (any-pending k d.unit h))
+    (orders-blocks (refusal_of d p t (length m)) (rule_of d p t (length m)) o.0 d.unit d.deck m (any-pending k d.unit h))
 
 pub drive-blocks : (k : Attention) (c : Call) (d : Drive) → is_pending k d ≡ true → is_success (event c d) ≡ false
 unfolding ◌and◌
@@ -189,7 +189,7 @@ pub cause_attends : (c : Call) (d : Drive) → is_cause (event c d) ≡ true →
 cause_attends c d h = ⊎_elim (cause-lives drive power c d) (λ l. cause-lives drive change c d (or_left _ _ l)) (or_cases _ _ h)
 
 -- K3: power-on by default with a loaded disc is a cause of both attentions
-pub greeting-causes : (k : Attention) (d : Drive) → isLoaded d.deck ≡ true → causes k (event (powering by_default) d) ≡ true
+pub greeting-causes : (k : Attention) (d : Drive) → is_loaded d.deck ≡ true → causes k (event (powering by_default) d) ≡ true
 unfolding ◌and◌ ◌or◌
 greeting-causes power d l = refl
 greeting-causes change d l = l

@@ -5,21 +5,21 @@ use Rattle.address.specs.Address.{last}
 use Rattle.drive.specs.declared.state.Drive.{Drive}
 use Rattle.play.specs.Play.{is_status}
 use Rattle.page.specs.Page.{settings, among, is_setting}
-use Rattle.drive.specs.State.{isKnownState}
+use Rattle.drive.specs.State.{is_known_state}
 use Rattle.drive.specs.StateLaws.{is_known_state_deck}
 use Rattle.claims.specs.Call.{Form, Call, powering, answer, next, final}
 use Rattle.claims.specs.KnownLaws.{power_state, call_state, known-final, known_never_2}
 
 -- power-on, in either form, hands back such a state, whatever it was handed
-pub known_power : (f : Form) (d : Drive) → isKnownState (next (powering f) d) ≡ true
+pub known_power : (f : Form) (d : Drive) → is_known_state (next (powering f) d) ≡ true
 known_power = power_state
 
 -- and any call does, where it was handed one
-pub known_next : (c : Call) (d : Drive) → isKnownState d ≡ true → isKnownState (next c d) ≡ true
+pub known_next : (c : Call) (d : Drive) → is_known_state d ≡ true → is_known_state (next c d) ≡ true
 known_next = call_state
 
 -- so the state is one after a power-on and any calls
-pub known_always : (f : Form) (handed : Drive) (calls : List Call) → isKnownState (final handed (powering f ∷ calls)) ≡ true
+pub known_always : (f : Form) (handed : Drive) (calls : List Call) → is_known_state (final handed (powering f ∷ calls)) ≡ true
 known_always f handed calls = known-final calls _ (power_state f handed)
 
 -- and no call then gives 2

@@ -21,11 +21,11 @@ use Rattle.page.specs.PageLaws.{is_setting_default}
 use Rattle.play.specs.Play.{none, is_status, with_status}
 use Rattle.play.specs.PlayLaws.{Known, is_status-playing, is_status-paused, is_status-none, no_play_known, with_status_known, moved_on_known}
 use Rattle.attention.specs.Unit.{attend}
-use Rattle.deck.specs.Deck.{loaded, opened, is_event, isLoaded, event_moved, opening, closing, restarted, with_disc, with_lock, with_play, with_page, with_event}
-use Rattle.drive.specs.State.{isKnownState, button, lay, lift, move_on}
+use Rattle.deck.specs.Deck.{loaded, opened, is_event, is_loaded, event_moved, opening, closing, restarted, with_disc, with_lock, with_play, with_page, with_event}
+use Rattle.drive.specs.State.{is_known_state, button, lay, lift, move_on}
 use Rattle.drive.specs.StateLaws.{KnownDeck, is_known_state_sense, is_known_state_deck, known-is_known_state, power_on-with, power_on_without_change-with}
-use Rattle.disc.specs.Rules.{isFit}
-use Rattle.disc.specs.RulesLaws.{isFit-true}
+use Rattle.disc.specs.Rules.{is_fit}
+use Rattle.disc.specs.RulesLaws.{is_fit_true}
 use Rattle.disc.specs.FitLaws.{fit-lead-out}
 use Rattle.gate.specs.declared.fault.Fault.{Fault}
 use Rattle.gate.specs.declared.fault.Fault.TheVariants.{NoMediumClosed, NoMediumOpen, UnknownCode, OutOfRange, BadField, RemovalPrevented, IllegalMode, ListLength, ListField, NoSaving}
@@ -35,20 +35,20 @@ use Rattle.gate.specs.Unit.{pending_of, give}
 use Rattle.gate.specs.Gate.{Result, fails, goes, gate}
 use Rattle.command.specs.declared.decode.Command.{Command}
 use Rattle.command.specs.declared.decode.Command.TheVariants.{TestUnitReady, RequestSense, Inquiry, StartStop, Prevent, ReadCapacity, Read10, Seek, ReadToc, Read12, PlayAudio, PauseResume, ReadSubChannel, ModeSense, ModeSelect, GetEvent, Unknown}
-use Rattle.command.specs.Command.{byte, bit0, decode, code_of, needsDisc, addressIn, count10, lengthIn}
-use Rattle.command.specs.Tray.{eject, load, startStop}
+use Rattle.command.specs.Command.{byte, bit0, decode, code_of, needs_disc, address_in, count10, length_in}
+use Rattle.command.specs.Tray.{eject, load, start_stop}
 use Rattle.command.specs.Done.{answering}
 use Rattle.blocks.specs.Range.{in_range, ranged}
 use Rattle.blocks.specs.RangeLaws.{in_range-end}
 use Rattle.blocks.specs.Blocks.{seek}
-use Rattle.audio.specs.Audio.{started, resumed, pauseResume}
+use Rattle.audio.specs.Audio.{started, resumed, pause_resume}
 use Rattle.audio.specs.SubChannel.{reported}
 use Rattle.mode.specs.ModeSenseLaws.{mode_sense-ways}
-use Rattle.mode.specs.ModeSelectLaws.{modeSelect-ways}
+use Rattle.mode.specs.ModeSelectLaws.{mode_select_ways}
 use Rattle.event.specs.EventAnswer.{is_clearing}
 use Rattle.event.specs.EventAnswerLaws.{get_event-ways}
 use Rattle.target.specs.Perform.{L, work, perform}
-use Rattle.target.specs.Packet.{refusalOf, answer as reply_to}
+use Rattle.target.specs.Packet.{refusal_of, answer as reply_to}
 use Rattle.claims.specs.UnitLaws.{Kind, asks, frees, orders, reply, meets, next_of, comes_to, meets-keeps}
 use Rattle.claims.specs.Call.{Form, by_default, without_change, Call, powering, pressing, laying, lifting, moving_on, packet, answer, next, final}
 use Rattle.claims.specs.PacketLaws.{Seen, asking, freeing, ordering, seen, kind_of, kind, reply-kind}
@@ -162,8 +162,8 @@ module _ (m : Deck) (s : KnownDeck m) where
   unfolding eject
   eject-known = either (Comes m) _ (λ h. s) (λ h. either (Comes m) _ (λ k. s) (λ k. opening-known))
 
-  start_stop-known : (b : ℕ) → Comes m (startStop b m)
-  unfolding startStop
+  start_stop-known : (b : ℕ) → Comes m (start_stop b m)
+  unfolding start_stop
   start_stop-known b = either (Comes m) _ (λ h. either (Comes m) _ (λ k. load-known) (λ k. eject-known)) (λ h. s)
 
   -- what is played lies below L, which is a block's address
@@ -177,8 +177,8 @@ module _ (m : Deck) (s : KnownDeck m) where
   resumed-known resume =
       played (with_status_known (resumed resume) (either (λ x. is_status x ≡ true) resume (λ h. is_status-playing) (λ h. is_status-paused)) s.play)
 
-  pause_resume-known : (resume : Bool) → Comes m (pauseResume resume m)
-  unfolding pauseResume
+  pause_resume-known : (resume : Bool) → Comes m (pause_resume resume m)
+  unfolding pause_resume
   pause_resume-known resume = either (Comes m) _ (λ h. s) (λ h. resumed-known resume)
 
   reported-known : KnownDeck (with_play m (reported m.play))
@@ -186,7 +186,7 @@ module _ (m : Deck) (s : KnownDeck m) where
   reported-known = played (either Known _ (λ h. with_status_known none is_status-none s.play) (λ h. s.play))
 
   -- each command that has what it needs
-  work-known : (c : Command) (p t l : List ℕ) → (needsDisc c p ≡ true → L t ≤ last) → Comes m (work c p m t l)
+  work-known : (c : Command) (p t l : List ℕ) → (needs_disc c p ≡ true → L t ≤ last) → Comes m (work c p m t l)
   work-known TestUnitReady p t l f = s
   work-known RequestSense p t l f = s
   work-known Inquiry p t l f = answering-known _ m _ _ s
@@ -197,22 +197,22 @@ module _ (m : Deck) (s : KnownDeck m) where
   work-known Seek p t l f = seek-known _ _
   work-known ReadToc p t l f = answering-known _ m _ _ s
   work-known Read12 p t l f = ranged-known _ _ _ _ _ (λ h. stopped-known)
-  work-known PlayAudio p t l f = ranged-known _ _ _ _ _ (started-known (addressIn p) (count10 p) (L t) (f refl))
+  work-known PlayAudio p t l f = ranged-known _ _ _ _ _ (started-known (address_in p) (count10 p) (L t) (f refl))
   work-known PauseResume p t l f = pause_resume-known (bit0 (byte p 8))
   work-known ReadSubChannel p t l f = answering-known _ _ _ _ reported-known
-  work-known ModeSense p t l f = mode_sense-ways (Comes m) (lengthIn p) m (byte p 2) (λ e. s) (λ g. s)
-  work-known ModeSelect p t l f = modeSelect-ways (Comes m) (lengthIn p) l m s s paged s
+  work-known ModeSense p t l f = mode_sense-ways (Comes m) (length_in p) m (byte p 2) (λ e. s) (λ g. s)
+  work-known ModeSelect p t l f = mode_select_ways (Comes m) (length_in p) l m s s paged s
   work-known GetEvent p t l f =
-      get_event-ways (Comes m) (lengthIn p) m (byte p 1) (byte p 4) s
-      (λ full h. either KnownDeck (is_clearing full (lengthIn p)) (λ k. noted refl) (λ k. s))
+      get_event-ways (Comes m) (length_in p) m (byte p 1) (byte p 4) s
+      (λ full h. either KnownDeck (is_clearing full (length_in p)) (λ k. noted refl) (λ k. s))
   work-known Unknown p t l f = s
 
-  perform-known : (c : Command) (p t l : List ℕ) → (isLoaded m ≡ true → L t ≤ last) → Comes m (perform c p m t l)
+  perform-known : (c : Command) (p t l : List ℕ) → (is_loaded m ≡ true → L t ≤ last) → Comes m (perform c p m t l)
   unfolding perform
   perform-known c p t l f =
-      either (Comes m) (needsDisc c p and not (isLoaded m)) (λ h. s) (λ h. work-known c p t l (λ n. f (second_holds _ _ h n)))
+      either (Comes m) (needs_disc c p and not (is_loaded m)) (λ h. s) (λ h. work-known c p t l (λ n. f (second_holds _ _ h n)))
 
-  pub kind-known : {c : Command} (z : Seen c) (p t l : List ℕ) → (isLoaded m ≡ true → L t ≤ last) → KnownDeck (comes_to m (kind_of z p (perform c p m t l)))
+  pub kind-known : {c : Command} (z : Seen c) (p t l : List ℕ) → (is_loaded m ≡ true → L t ≤ last) → KnownDeck (comes_to m (kind_of z p (perform c p m t l)))
   kind-known asking p t l f = s
   kind-known (freeing {c} z) p t l f = perform-known c p t l f
   kind-known (ordering {c} n g) p t l f = perform-known c p t l f
@@ -220,34 +220,34 @@ module _ (m : Deck) (s : KnownDeck m) where
 -- ---- each call
 
 -- a fit table's L is a block's address
-pub fit-last : (t : List ℕ) → isFit t ≡ true → L t ≤ last
-fit-last t h = (fit-lead-out (isFit-true h)).1
+pub fit-last : (t : List ℕ) → is_fit t ≡ true → L t ≤ last
+fit-last t h = (fit-lead-out (is_fit_true h)).1
 
 -- a packet's answer
-module _ (d : Drive) (s : isKnownState d ≡ true) (p t l : List ℕ) (n : ℕ) where
+module _ (d : Drive) (s : is_known_state d ≡ true) (p t l : List ℕ) (n : ℕ) where
   -- the deck, where it is not refused
-  comes-known : refusalOf d p t n ≡ 0 → KnownDeck (comes_to d.deck (kind p d.deck t l))
+  comes-known : refusal_of d p t n ≡ 0 → KnownDeck (comes_to d.deck (kind p d.deck t l))
   comes-known z =
       let h = and_tail _ _ (and_tail _ _ (and_tail _ _ (sym (refusal-ordered d p t n).zero ∙ eq-eqb _ _ z))) in
       kind-known d.deck (is_known_state_deck d s) (seen (decode (code_of p))) p t l (λ i. fit-last t (second_holds _ _ (not-true _ h) i))
 
-  reply-state : isKnownState (record { unit = (reply_to d p t l n).unit; deck = (reply_to d p t l n).deck }) ≡ true
+  reply-state : is_known_state (record { unit = (reply_to d p t l n).unit; deck = (reply_to d p t l n).deck }) ≡ true
   reply-state =
-      rw (reply-kind d p t l n) (known-is_known_state _ (meets-known (refusalOf d p t n) _ (kind p d.deck t l) d.unit d.deck (is_known_state_sense d s))
-      (meets-keeps KnownDeck (refusalOf d p t n) _ (kind p d.deck t l) d.unit d.deck (is_known_state_deck d s) comes-known))
+      rw (reply-kind d p t l n) (known-is_known_state _ (meets-known (refusal_of d p t n) _ (kind p d.deck t l) d.unit d.deck (is_known_state_sense d s))
+      (meets-keeps KnownDeck (refusal_of d p t n) _ (kind p d.deck t l) d.unit d.deck (is_known_state_deck d s) comes-known))
 
 -- what power-on leaves
 pub restarted_known : (m : Deck) → KnownDeck (restarted m)
 restarted_known m = record { play = no_play_known; page = is_setting_default; event = refl }
 
-pub power_state : (f : Form) (d : Drive) → isKnownState (next (powering f) d) ≡ true
+pub power_state : (f : Form) (d : Drive) → is_known_state (next (powering f) d) ≡ true
 power_state by_default d = rw (power_on-with d) (known-is_known_state _ known-none (restarted_known d.deck))
 power_state without_change d = rw (power_on_without_change-with d) (known-is_known_state _ known-none (restarted_known d.deck))
 
 -- the calls that are no packets
-module _ (d : Drive) (s : isKnownState d ≡ true) where
+module _ (d : Drive) (s : is_known_state d ≡ true) where
   abbrev Stays : Moved → Type 0
-  Stays r = isKnownState r.state ≡ true
+  Stays r = is_known_state r.state ≡ true
 
   sense : is_known d.unit.sense ≡ true
   sense = is_known_state_sense d s
@@ -278,7 +278,7 @@ module _ (d : Drive) (s : isKnownState d ≡ true) where
   move_on-state k =
       either Stays _ (λ h. known-is_known_state _ sense (played d.deck deck (moved_on_known k d.deck.play deck.play))) (λ h. s)
 
-pub call_state : (c : Call) (d : Drive) → isKnownState d ≡ true → isKnownState (next c d) ≡ true
+pub call_state : (c : Call) (d : Drive) → is_known_state d ≡ true → is_known_state (next c d) ≡ true
 call_state (powering f) d s = power_state f d
 call_state pressing d s = button-state d s
 call_state laying d s = lay-state d s
@@ -286,13 +286,13 @@ call_state lifting d s = lift-state d s
 call_state (moving_on k) d s = move_on-state d s k
 call_state (packet p t l m) d s = reply-state d s p t l (length m)
 
-pub known-final : (calls : List Call) (d : Drive) → isKnownState d ≡ true → isKnownState (final d calls) ≡ true
+pub known-final : (calls : List Call) (d : Drive) → is_known_state d ≡ true → is_known_state (final d calls) ≡ true
 known-final [] d s = s
 known-final (c ∷ calls) d s = known-final calls (next c d) (call_state c d s)
 
 -- ---- and so 2 is not given
 
-pub known_never_2 : (c : Call) (d : Drive) → isKnownState d ≡ true → eqb (answer c d).number 2 ≡ false
+pub known_never_2 : (c : Call) (d : Drive) → is_known_state d ≡ true → eqb (answer c d).number 2 ≡ false
 unfolding ◌and◌
 known_never_2 (powering f) d s = refl
 known_never_2 pressing d s = (press-tested d).two ∙ ap not s

@@ -10,22 +10,22 @@ use Rattle.play.specs.Play.{no_play, is_status, is_play}
 use Rattle.page.specs.Page.{defaults, among as among_bytes, is_setting}
 use Rattle.attention.specs.Unit.{attend}
 use Rattle.deck.specs.Deck.{no_event}
-use Rattle.drive.specs.State.{isKnownState}
+use Rattle.drive.specs.State.{is_known_state}
 use Rattle.table.specs.Layout.{bound, is_track, is_extra}
 use Rattle.table.specs.Row.{start_of, names, simple, free, plain, head_a0, head_a1, headed, addressed, row_test}
 use Rattle.sessions.specs.Session.{one, size, listed, numbered, is_session, starts, before, follows, in_place, in_order}
-use Rattle.disc.specs.Rules.{rule1, rule2, each_row, rises, out_before, begins_after, rising, rule7, first_broken, late_rules, row_rules, fault, isFit}
-use Rattle.tracks.specs.Track.{next_out, out_at, covers, wanted, next_found, found, trackOf, is_mode, in_mode, allIn}
+use Rattle.disc.specs.Rules.{rule1, rule2, each_row, rises, out_before, begins_after, rising, rule7, first_broken, late_rules, row_rules, fault, is_fit}
+use Rattle.tracks.specs.Track.{next_out, out_at, covers, wanted, next_found, found, track_of, is_mode, in_mode, all_in}
 use Rattle.gate.specs.Unit.{pending_of}
 use Rattle.gate.specs.Gate.{Reply, gate}
 use Rattle.command.specs.Command.{decode}
 use Rattle.toc.specs.Shown.{is_shown, shown_track, shown_tracks}
-use Rattle.toc.specs.Answer.{headed as toc_headed, format0, tocBytes, tocBad}
+use Rattle.toc.specs.Answer.{headed as toc_headed, format0, toc_bytes, toc_bad}
 use Rattle.command.specs.Done.{answering}
 use Rattle.blocks.specs.Range.{over, in_range, ranged}
 use Rattle.target.specs.Perform.{perform}
 use Rattle.outcome.specs.Outcome.{state_of, bytes_of}
-use Rattle.target.specs.Packet.{refusalOf, answer}
+use Rattle.target.specs.Packet.{refusal_of, answer}
 
 -- "Table E, 59 bytes"
 abbrev pub table_e : List ℕ
@@ -175,5 +175,5 @@ marks =
     ∷ []
 
 pub marked : all_marked marks ≡ true
-unfolding all_marked same_outcome same_bytes asked ◌and◌ ◌or◌ if◌then◌else◌ every is_msf to_msf to_block sense_at same_sense among is_known is_status is_play among_bytes is_setting isKnownState attend is_track is_extra start_of names simple free plain head_a0 head_a1 headed addressed row_test one size listed numbered is_session starts before follows in_place in_order rule1 rule2 each_row rises out_before begins_after rising rule7 first_broken late_rules row_rules fault isFit next_out out_at covers wanted next_found found trackOf is_mode in_mode allIn pending_of gate decode shown_address is_shown shown_track shown_tracks toc_headed format0 tocBytes tocBad answering over in_range ranged perform refusalOf answer
+unfolding all_marked same_outcome same_bytes asked ◌and◌ ◌or◌ if◌then◌else◌ every is_msf to_msf to_block sense_at same_sense among is_known is_status is_play among_bytes is_setting is_known_state attend is_track is_extra start_of names simple free plain head_a0 head_a1 headed addressed row_test one size listed numbered is_session starts before follows in_place in_order rule1 rule2 each_row rises out_before begins_after rising rule7 first_broken late_rules row_rules fault is_fit next_out out_at covers wanted next_found found track_of is_mode in_mode all_in pending_of gate decode shown_address is_shown shown_track shown_tracks toc_headed format0 toc_bytes toc_bad answering over in_range ranged perform refusal_of answer
 marked = refl

@@ -1,8 +1,8 @@
 -- "No command that needs a disc succeeds while one is pending."
 use Rattle.std.specs.Prelude.{◌≡◌, refl, true, false, List, ◌∷◌, ℕ}
 use Rattle.drive.specs.declared.state.Drive.{Drive}
-use Rattle.deck.specs.Deck.{isLoaded}
-use Rattle.command.specs.Command.{decode, code_of, needsDisc}
+use Rattle.deck.specs.Deck.{is_loaded}
+use Rattle.command.specs.Command.{decode, code_of, needs_disc}
 use Rattle.claims.specs.Telling.{Attention, is_good}
 use Rattle.claims.specs.History.{None, standing_here}
 use Rattle.claims.specs.Call.{Form, by_default, Call, powering, packet, answer, next, event, history, final, is_pending, is_power_on, causes, tells, is_needing, is_success}
@@ -22,12 +22,12 @@ no_success_since k f handed calls c = blocked drive k (powering f) handed calls 
 
 -- K3: after a power-on by default with a loaded disc and any calls without a further power-on, no call is such a success before each of
 -- the two attentions was told
-pub no_success_greeted : (k : Attention) (handed : Drive) (calls : List Call) (c : Call) → isLoaded handed.deck ≡ true
+pub no_success_greeted : (k : Attention) (handed : Drive) (calls : List Call) (c : Call) → is_loaded handed.deck ≡ true
     → None is_power_on (history (next (powering by_default) handed) calls) → None (tells k) (history (next (powering by_default) handed) calls)
     → is_success (event c (final handed (powering by_default ∷ calls))) ≡ false
 no_success_greeted k handed calls c l n t =
     no_success_since k by_default handed calls c (standing_here is_power_on (causes k) (tells k) (greeting-causes k handed l) n t)
 
 -- the commands that need a disc, named by their codes, are those for which the drive looks for one
-pub no_success-needing : (p : List ℕ) → is_needing p ≡ needsDisc (decode (code_of p)) p
+pub no_success-needing : (p : List ℕ) → is_needing p ≡ needs_disc (decode (code_of p)) p
 no_success-needing = packet-needs

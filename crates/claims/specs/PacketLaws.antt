@@ -13,29 +13,29 @@ use Rattle.deck.specs.declared.Deck.{Deck}
 use Rattle.drive.specs.declared.state.Drive.{Drive}
 use Rattle.play.specs.declared.Play.{Play}
 use Rattle.page.specs.declared.Page.{Page}
-use Rattle.deck.specs.Deck.{no_event, isLoaded, opening, closing, with_lock, with_play, with_page, with_event}
-use Rattle.drive.specs.State.{isKnownState}
+use Rattle.deck.specs.Deck.{no_event, is_loaded, opening, closing, with_lock, with_play, with_page, with_event}
+use Rattle.drive.specs.State.{is_known_state}
 use Rattle.table.specs.Layout.{bound}
-use Rattle.disc.specs.Rules.{isFit}
-use Rattle.disc.specs.Part.{ruleWith}
+use Rattle.disc.specs.Rules.{is_fit}
+use Rattle.disc.specs.Part.{rule_with}
 use Rattle.gate.specs.declared.fault.Fault.{Fault}
 use Rattle.gate.specs.Gate.{Result, fails, goes, gate, pass}
 use Rattle.command.specs.declared.decode.Command.{Command}
 use Rattle.command.specs.declared.decode.Command.TheVariants.{TestUnitReady, RequestSense, Inquiry, StartStop, Prevent, ReadCapacity, Read10, Seek, ReadToc, Read12, PlayAudio, PauseResume, ReadSubChannel, ModeSense, ModeSelect, GetEvent, Unknown}
-use Rattle.command.specs.Command.{decode, byte, bit0, bit1, code_of, lengthIn, needsDisc, lo_ej, start}
+use Rattle.command.specs.Command.{decode, byte, bit0, bit1, code_of, length_in, needs_disc, lo_ej, start}
 use Rattle.command.specs.Class.{class_of}
 use Rattle.command.specs.ClassLaws.{code_for, decode_is}
-use Rattle.command.specs.Tray.{moving, eject, load, startStop}
+use Rattle.command.specs.Tray.{moving, eject, load, start_stop}
 use Rattle.command.specs.Done.{done, answering}
 use Rattle.blocks.specs.Range.{ranged}
 use Rattle.blocks.specs.Blocks.{seek}
-use Rattle.audio.specs.Audio.{started, pauseResume}
+use Rattle.audio.specs.Audio.{started, pause_resume}
 use Rattle.mode.specs.ModeSenseLaws.{mode_sense-ways}
-use Rattle.mode.specs.ModeSelectLaws.{modeSelect-ways}
-use Rattle.event.specs.EventAnswer.{is_clearing, getEvent}
+use Rattle.mode.specs.ModeSelectLaws.{mode_select_ways}
+use Rattle.event.specs.EventAnswer.{is_clearing, get_event}
 use Rattle.event.specs.EventAnswerLaws.{get_event-ways}
 use Rattle.target.specs.Perform.{work, perform}
-use Rattle.target.specs.Packet.{steps, refusalOf, answer as reply_to}
+use Rattle.target.specs.Packet.{steps, refusal_of, answer as reply_to}
 use Rattle.target.specs.PacketLaws.{steps_of, answer-1, answer-2, answer-3, answer-steps}
 use Rattle.claims.specs.Telling.{any_pending}
 use Rattle.claims.specs.UnitLaws.{Kind, asks, frees, orders, is_asking, reply, meets, meets_by, next_of, loading_of, Honest, gate-blind}
@@ -53,7 +53,7 @@ pub record Free (c : Command) : Type 0 where
   pub other : is_request c ≡ false
   pub passes : (u : Unit) (m : Deck) (p t l : List ℕ) → steps c u m p t l ≡ pass u m (perform c p m t l)
   pub blind : (p : List ℕ) (m : Deck) (t t' l l' : List ℕ) → perform c p m t l ≡ perform c p m t' l'
-  pub needs : (p : List ℕ) → needsDisc c p ≡ false
+  pub needs : (p : List ℕ) → needs_disc c p ≡ false
 
 inquiry-free : Free Inquiry
 unfolding class_of perform ◌and◌ if◌then◌else◌
@@ -109,7 +109,7 @@ kind_request asking p r = refl
 kind_request (freeing f) p r = sym f.other
 kind_request (ordering n g) p r = sym n
 
-kind-needs : {c : Command} (s : Seen c) (p : List ℕ) (r : Result Deck) → needsDisc c p ≡ true → kind_of s p r ≡ orders r
+kind-needs : {c : Command} (s : Seen c) (p : List ℕ) (r : Result Deck) → needs_disc c p ≡ true → kind_of s p r ≡ orders r
 kind-needs asking p r h = absurd (false≢true h)
 kind-needs (freeing f) p r h = absurd (false≢true (sym (f.needs p) ∙ h))
 kind-needs (ordering n g) p r h = refl
@@ -140,13 +140,13 @@ steps-performed d p t t' l l' h =
 
 -- the rule beside a packet's number
 abbrev pub rule_of : Drive → List ℕ → List ℕ → ℕ → ℕ
-rule_of d p t n = ruleWith (refusalOf d p t n) t
+rule_of d p t n = rule_with (refusal_of d p t n) t
 
 -- the answer is that of the packet's kind, or the refusal
 pub reply-kind : (d : Drive) (p t l : List ℕ) (n : ℕ)
-    → reply_to d p t l n ≡ meets (refusalOf d p t n) (rule_of d p t n) (kind p d.deck t l) d.unit d.deck
+    → reply_to d p t l n ≡ meets (refusal_of d p t n) (rule_of d p t n) (kind p d.deck t l) d.unit d.deck
 unfolding reply_to
-reply-kind d p t l n = meets_by (refusalOf d p t n) (rule_of d p t n) (kind p d.deck t l) d.unit d.deck (steps_of-kind d p t l)
+reply-kind d p t l n = meets_by (refusal_of d p t n) (rule_of d p t n) (kind p d.deck t l) d.unit d.deck (steps_of-kind d p t l)
 
 -- ---- what each command does to tray, disc and event
 
@@ -208,8 +208,8 @@ module _ (m : Deck) where
     unfolding eject
     eject-does w = either Traying _ (λ h. stays) (λ h. either Traying _ (λ k. failing) (λ k. opening-it w h))
 
-  start_stop-does : (b : ℕ) → Traying (bit1 b) (startStop b m)
-  unfolding startStop
+  start_stop-does : (b : ℕ) → Traying (bit1 b) (start_stop b m)
+  unfolding start_stop
   start_stop-does b =
       let t = bit1 b in
       either (Traying t) _ (λ h. either (Traying t) _ (λ k. load_does t h) (λ k. eject-does t h)) (λ h. stays)
@@ -234,11 +234,11 @@ module _ (m : Deck) where
   unfolding started
   started-still a n = either (Still m) _ (λ h. still m) (λ h. replayed _)
 
-  pause_resume-does : (resume : Bool) → Other (pauseResume resume m)
-  unfolding pauseResume
+  pause_resume-does : (resume : Bool) → Other (pause_resume resume m)
+  unfolding pause_resume
   pause_resume-does resume = either Other _ (λ h. failing) (λ h. kept _ (replayed _))
 
-  get_event-does : (b1 asked limit : ℕ) → Does false true m (getEvent b1 asked limit m)
+  get_event-does : (b1 asked limit : ℕ) → Does false true m (get_event b1 asked limit m)
   unfolding ◌and◌
   get_event-does b1 asked limit = get_event-ways (Does false true m) limit m b1 asked failing (λ full h. by-clearing full (is_clearing full limit) refl)
     where
@@ -268,10 +268,10 @@ work_does Read12 p m t l = ranged-does m _ _ _ _ _ (kept m _ (replayed m _))
 work_does PlayAudio p m t l = ranged-does m _ _ _ _ _ (kept m _ (started-still m _ _))
 work_does PauseResume p m t l = pause_resume-does m _
 work_does ReadSubChannel p m t l = answering-does m _ _ _ _ (replayed m _)
-work_does ModeSense p m t l = mode_sense-ways (Other m) (lengthIn p) m (byte p 2) (λ f. failing) (λ g. kept m m (still m))
+work_does ModeSense p m t l = mode_sense-ways (Other m) (length_in p) m (byte p 2) (λ f. failing) (λ g. kept m m (still m))
 work_does ModeSelect p m t l =
-    modeSelect-ways (Other m) (lengthIn p) l m failing (stays m) (λ h. kept m _ (repaged m _)) failing
-work_does GetEvent p m t l = get_event-does m (byte p 1) (byte p 4) (lengthIn p)
+    mode_select_ways (Other m) (length_in p) l m failing (stays m) (λ h. kept m _ (repaged m _)) failing
+work_does GetEvent p m t l = get_event-does m (byte p 1) (byte p 4) (length_in p)
 work_does Unknown p m t l = failing
 
 pub perform_does : (c : Command) (p : List ℕ) (m : Deck) (t l : List ℕ) → Does (is_traying c p) (is_polling c) m (perform c p m t l)
@@ -317,7 +317,7 @@ packet_request p m t l = kind_request (seen (decode (code_of p))) p _ ∙ sym (d
 -- those that need a disc, by name
 class-needs : (c : Command) (p : List ℕ)
     → is_the TestUnitReady c or is_the ReadCapacity c or is_the Read10 c or is_the Seek c or is_the ReadToc c or is_the Read12 c or is_the PlayAudio c or is_the PauseResume c or is_the ReadSubChannel c or is_the StartStop c and not (lo_ej p) and start p
-    ≡ needsDisc c p
+    ≡ needs_disc c p
 unfolding class_of ◌or◌ ◌and◌
 class-needs TestUnitReady p = refl
 class-needs RequestSense p = refl
@@ -340,14 +340,14 @@ class-needs Unknown p = refl
 -- and by code
 code-needs : (n : ℕ) (p : List ℕ)
     → eqb n 0x00 or eqb n 0x25 or eqb n 0x28 or eqb n 0x2B or eqb n 0x43 or eqb n 0xA8 or eqb n 0x45 or eqb n 0x4B or eqb n 0x42 or eqb n 0x1B and not (lo_ej p) and start p
-    ≡ needsDisc (decode n) p
+    ≡ needs_disc (decode n) p
 unfolding class_of
 code-needs n p = rw (by TestUnitReady refl, by ReadCapacity refl, by Read10 refl, by Seek refl, by ReadToc refl, by Read12 refl, by PlayAudio refl, by PauseResume refl, by ReadSubChannel refl, by StartStop refl) (class-needs (decode n) p)
   where
     by : (c : Command) → eqb (class_of c) 0 ≡ false → eqb n (code_for c) ≡ is_the c (decode n)
     by c u = decode_is c u n
 
-pub packet-needs : (p : List ℕ) → is_needing p ≡ needsDisc (decode (code_of p)) p
+pub packet-needs : (p : List ℕ) → is_needing p ≡ needs_disc (decode (code_of p)) p
 unfolding is_needing
 packet-needs p = code-needs (code_of p) p
 
@@ -357,25 +357,25 @@ packet_orders p m t l h = (_, kind-needs (seen (decode (code_of p))) p _ (sym (p
 -- ---- the lent table and the parameter list
 
 -- what the steps answer alike the packet answers alike, where both tables are fit or the drive is not loaded: no refusal looks at more
-pub packet-steps : (d : Drive) (p t t' l l' : List ℕ) (n : ℕ) → (isLoaded d.deck ≡ true → (isFit t ≡ true) × (isFit t' ≡ true))
+pub packet-steps : (d : Drive) (p t t' l l' : List ℕ) (n : ℕ) → (is_loaded d.deck ≡ true → (is_fit t ≡ true) × (is_fit t' ≡ true))
     → steps_of d p t l ≡ steps_of d p t' l' → reply_to d p t l n ≡ reply_to d p t' l' n
 packet-steps d p t t' l l' n f s = elim (ℕ_discrete (length p) 12) [
-  | yes a ↦ by_state a (isKnownState d) refl
+  | yes a ↦ by_state a (is_known_state d) refl
   | no a ↦ answer-1 d p t l n a ∙ sym (answer-1 d p t' l' n a)
 ]
   where
-    by-memory : length p ≡ 12 → isKnownState d ≡ true → reply_to d p t l n ≡ reply_to d p t' l' n
+    by-memory : length p ≡ 12 → is_known_state d ≡ true → reply_to d p t l n ≡ reply_to d p t' l' n
     by-memory a b = elim (dec_le bound n) [
       | yes c ↦ answer-steps d p t l n a b c (λ i. (f i).0) ∙ s ∙ sym (answer-steps d p t' l' n a b c (λ i. (f i).1))
       | no c ↦ answer-3 d p t l n a b (lt_of_not-le c) ∙ sym (answer-3 d p t' l' n a b (lt_of_not-le c))
     ]
 
-    by_state : length p ≡ 12 → (b : Bool) → isKnownState d ≡ b → reply_to d p t l n ≡ reply_to d p t' l' n
+    by_state : length p ≡ 12 → (b : Bool) → is_known_state d ≡ b → reply_to d p t l n ≡ reply_to d p t' l' n
     by_state a true e = by-memory a e
     by_state a false e = answer-2 d p t l n a e ∙ sym (answer-2 d p t' l' n a e)
 
 -- while an attention is pending two fit tables give one answer, with any two lists
-pub packet_blind : (d : Drive) (p t t' l l' : List ℕ) (n : ℕ) → isFit t ≡ true → isFit t' ≡ true → any_pending d.unit ≡ true
+pub packet_blind : (d : Drive) (p t t' l l' : List ℕ) (n : ℕ) → is_fit t ≡ true → is_fit t' ≡ true → any_pending d.unit ≡ true
     → reply_to d p t l n ≡ reply_to d p t' l' n
 packet_blind d p t t' l l' n f g a =
     packet-steps d p t t' l l' n (λ i. (f, g)) (steps_blind (decode (code_of p)) d.unit d.deck p t t' l l' a)

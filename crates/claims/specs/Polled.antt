@@ -8,20 +8,20 @@ use Rattle.attention.specs.Sense.{triple, sense_at, same_sense, among, is_known}
 use Rattle.play.specs.Play.{is_status, is_play}
 use Rattle.page.specs.Page.{among as among_bytes, is_setting}
 use Rattle.attention.specs.Unit.{attend}
-use Rattle.drive.specs.State.{isKnownState, power_on, button}
+use Rattle.drive.specs.State.{is_known_state, power_on, button}
 use Rattle.table.specs.Layout.{is_track, is_extra}
 use Rattle.table.specs.Row.{start_of, names, simple, free, plain, head_a0, head_a1, headed, addressed, row_test}
 use Rattle.sessions.specs.Session.{one, size, listed, numbered, is_session, starts, before, follows, in_place, in_order}
-use Rattle.disc.specs.Rules.{rule1, rule2, each_row, rises, out_before, begins_after, rising, rule7, first_broken, late_rules, row_rules, fault, isFit}
+use Rattle.disc.specs.Rules.{rule1, rule2, each_row, rises, out_before, begins_after, rising, rule7, first_broken, late_rules, row_rules, fault, is_fit}
 use Rattle.gate.specs.Unit.{pending_of}
 use Rattle.gate.specs.Gate.{gate}
 use Rattle.command.specs.Command.{decode}
 use Rattle.command.specs.Done.{answering}
-use Rattle.command.specs.Tray.{eject, load, startStop}
+use Rattle.command.specs.Tray.{eject, load, start_stop}
 use Rattle.event.specs.EventClass.{waiting, or_else, class_for}
 use Rattle.event.specs.EventAnswer.{media_status, event_of, status_of, event_bytes, cleared}
 use Rattle.target.specs.Perform.{perform}
-use Rattle.target.specs.Packet.{refusalOf, answer}
+use Rattle.target.specs.Packet.{refusal_of, answer}
 use Rattle.claims.specs.Marked.{loaded_e, Outcome, gives, fails, refuses, same_bytes, same_outcome}
 use Rattle.claims.specs.Stepped.{packet, powers, presses, comes, after, Mark, mark, all_stepped}
 
@@ -84,5 +84,5 @@ poll_marks =
     ∷ []
 
 pub polled : all_stepped loaded_e poll_marks ≡ true
-unfolding all_stepped waits after comes same_outcome same_bytes ◌and◌ ◌or◌ if◌then◌else◌ every is_msf sense_at same_sense among is_known is_status is_play among_bytes is_setting isKnownState power_on button attend is_track is_extra start_of names simple free plain head_a0 head_a1 headed addressed row_test one size listed numbered is_session starts before follows in_place in_order rule1 rule2 each_row rises out_before begins_after rising rule7 first_broken late_rules row_rules fault isFit pending_of gate decode answering load eject startStop count_trailing_zeros waiting or_else class_for media_status event_of status_of event_bytes cleared perform refusalOf answer
+unfolding all_stepped waits after comes same_outcome same_bytes ◌and◌ ◌or◌ if◌then◌else◌ every is_msf sense_at same_sense among is_known is_status is_play among_bytes is_setting is_known_state power_on button attend is_track is_extra start_of names simple free plain head_a0 head_a1 headed addressed row_test one size listed numbered is_session starts before follows in_place in_order rule1 rule2 each_row rises out_before begins_after rising rule7 first_broken late_rules row_rules fault is_fit pending_of gate decode answering load eject start_stop count_trailing_zeros waiting or_else class_for media_status event_of status_of event_bytes cleared perform refusal_of answer
 polled = refl

@@ -15,20 +15,20 @@ use Rattle.deck.specs.declared.Deck.{Deck}
 use Rattle.drive.specs.declared.state.Drive.{Drive}
 use Rattle.drive.specs.declared.state.Moved.{Moved}
 use Rattle.attention.specs.declared.sense.Sense.{Sense}
-use Rattle.deck.specs.Deck.{pressed, isLoaded}
-use Rattle.drive.specs.State.{locked, isKnownState, noting, button, lay, lift, move_on}
+use Rattle.deck.specs.Deck.{pressed, is_loaded}
+use Rattle.drive.specs.State.{locked, is_known_state, noting, button, lay, lift, move_on}
 use Rattle.drive.specs.StateLaws.{button-unknown, button-closes, button-locked, button-opens, button-refused, lay-unknown, lay-closed, lay-full, lay-lays, lay-refused, lift-unknown, lift-closed, lift-empty, lift-lifts, lift-refused, move_on-unknown, move_on-moves, move_on-refused}
 use Rattle.table.specs.Layout.{bound, last_session}
-use Rattle.disc.specs.Rules.{fault, isFit}
+use Rattle.disc.specs.Rules.{fault, is_fit}
 use Rattle.disc.specs.RulesLaws.{fault-first}
-use Rattle.disc.specs.Part.{part_refusal, ruleWith, part_refused}
-use Rattle.disc.specs.PartLaws.{ruleWith-none}
+use Rattle.disc.specs.Part.{part_refusal, rule_with, part_refused}
+use Rattle.disc.specs.PartLaws.{rule_with-none}
 use Rattle.address.specs.Address.{MsfAnswer, BlockAnswer, last, address_of, is_msf, block_at, block_refused, to_msf, to_block}
 use Rattle.address.specs.Laws.{to_msf-at, to_msf-refused}
 use Rattle.gate.specs.Unit.{pending_of}
 use Rattle.gate.specs.Gate.{Result, fails, goes, Reply, gate}
 use Rattle.outcome.specs.Outcome.{state_of}
-use Rattle.target.specs.Packet.{refusalOf, answer as reply_to}
+use Rattle.target.specs.Packet.{refusal_of, answer as reply_to}
 use Rattle.claims.specs.Telling.{Attention, Answer, answer_of, tells_to}
 use Rattle.claims.specs.UnitLaws.{Kind, asks, frees, orders, reply, meets, only_none}
 use Rattle.claims.specs.Call.{Call, powering, pressing, laying, lifting, moving_on, packet, memory_of, answer, next, event, is_powering, closed, is_loading, causes, is_request_sense, tells}
@@ -57,10 +57,10 @@ reply-numbered (frees (goes next loading full limit start count)) u m = (refl, r
 reply-numbered (orders r) u m = gate-numbered u.power u.change u.sense m r
 
 pub meets-numbered : {M : Type 0} (j : ℕ) (t : List ℕ) (k : Kind M) (u : Unit) (m : M)
-    → Numbered j (ruleWith j t) (meets j (ruleWith j t) k u m)
+    → Numbered j (rule_with j t) (meets j (rule_with j t) k u m)
 meets-numbered zero t k u m =
     let r = reply-numbered k u m in
-    (r.0, r.1 ∙ ruleWith-none 0 t (λ e. omega arith))
+    (r.0, r.1 ∙ rule_with-none 0 t (λ e. omega arith))
 meets-numbered (suc j) t k u m = (refl, refl)
 
 -- ---- a refused call
@@ -89,7 +89,7 @@ call_unchanged laying d n = (lay-refused d n, refl)
 call_unchanged lifting d n = (lift-refused d n, refl)
 call_unchanged (moving_on k) d n = (move_on-refused d k n, refl)
 call_unchanged (packet p t l m) d n =
-    let e = meets_unchanged (refusalOf d p t (length m)) (rule_of d p t (length m)) (kind p d.deck t l) d m in
+    let e = meets_unchanged (refusal_of d p t (length m)) (rule_of d p t (length m)) (kind p d.deck t l) d m in
     let u : Unchanged d m (reply_to d p t l (length m)) = rw (reply-kind d p t l (length m)) e in
     u n
 
@@ -144,9 +144,9 @@ unfolding ◌and◌
 beside_none four h = record { one = sym h; none = ap not (sym h) }
 
 -- the number n is 4 where `a` holds and the table is not fit, and the rule is what stands beside n
-module _ (n : ℕ) (t : List ℕ) (a : Bool) (four : eqb n 4 ≡ a and not (isFit t)) where
-  pub rule_with-beside : Beside (eqb n 4) (ruleWith n t)
-  unfolding ruleWith isFit if◌then◌else◌ ◌and◌
+module _ (n : ℕ) (t : List ℕ) (a : Bool) (four : eqb n 4 ≡ a and not (is_fit t)) where
+  pub rule_with-beside : Beside (eqb n 4) (rule_with n t)
+  unfolding rule_with is_fit if◌then◌else◌ ◌and◌
   rule_with-beside = go (eqb n 4) (fault t) four (fault-first t).most
     where
       go : (b : Bool) (f : ℕ) → b ≡ a and not (eqb f 0) → f ≤ 7 → Beside b (if b then f else 0)
@@ -158,8 +158,8 @@ module _ (n : ℕ) (t : List ℕ) (a : Bool) (four : eqb n 4 ≡ a and not (isFi
       }
 
   -- it is i, one of 1 to 7, where the first broken rule is
-  rule_with-broken : (i : ℕ) {b : Bool} → eqb 0 i ≡ false → eqb (fault t) i ≡ b → eqb n 4 and eqb (ruleWith n t) i ≡ a and b
-  unfolding ruleWith isFit if◌then◌else◌ ◌and◌
+  rule_with-broken : (i : ℕ) {b : Bool} → eqb 0 i ≡ false → eqb (fault t) i ≡ b → eqb n 4 and eqb (rule_with n t) i ≡ a and b
+  unfolding rule_with is_fit if◌then◌else◌ ◌and◌
   rule_with-broken i z e = go (eqb n 4) a (fault t) four ∙ ap (λ (x : Bool). a and x) e
     where
       go : (b a : Bool) (f : ℕ) → b ≡ a and not (eqb f 0) → b and eqb (if b then f else 0) i ≡ a and eqb f i
@@ -181,9 +181,9 @@ pub record Ordered (twelve known short unfit : Bool) (n : ℕ) : Type 0 where
   pub most : n ≤ 4
 
 module _ (d : Drive) (p t : List ℕ) (n : ℕ) where
-  pub refusal-ordered : Ordered (eqb (length p) 12) (isKnownState d) (ltb n bound) (isLoaded d.deck and not (isFit t)) (refusalOf d p t n)
-  unfolding refusalOf if◌then◌else◌ ◌and◌
-  refusal-ordered = by_tests (eqb (length p) 12) (isKnownState d) (ltb n bound) (isLoaded d.deck and not (isFit t))
+  pub refusal-ordered : Ordered (eqb (length p) 12) (is_known_state d) (ltb n bound) (is_loaded d.deck and not (is_fit t)) (refusal_of d p t n)
+  unfolding refusal_of if◌then◌else◌ ◌and◌
+  refusal-ordered = by_tests (eqb (length p) 12) (is_known_state d) (ltb n bound) (is_loaded d.deck and not (is_fit t))
     where
       by_tests : (twelve known short unfit : Bool)
           → Ordered twelve known short unfit (if not twelve then 1 else (if not known then 2 else (if short then 3 else (if unfit then 4 else 0))))
@@ -195,25 +195,25 @@ module _ (d : Drive) (p t : List ℕ) (n : ℕ) where
 
   -- the packet's table is looked at
   abbrev looked : Bool
-  looked = eqb (length p) 12 and isKnownState d and not (ltb n bound) and isLoaded d.deck
+  looked = eqb (length p) 12 and is_known_state d and not (ltb n bound) and is_loaded d.deck
 
-  refusal-unfit : eqb (refusalOf d p t n) 4 ≡ looked and not (isFit t)
+  refusal-unfit : eqb (refusal_of d p t n) 4 ≡ looked and not (is_fit t)
   refusal-unfit = refusal-ordered.four ∙ sym (simp and_assoc)
 
   module _ (l : List ℕ) where
     -- the answer's number is that of the refusal, and the rule that beside it, with any list
-    reply-refusal : Numbered (refusalOf d p t n) (rule_of d p t n) (reply_to d p t l n)
-    reply-refusal = rw (reply-kind d p t l n) (meets-numbered (refusalOf d p t n) t (kind p d.deck t l) d.unit d.deck)
+    reply-refusal : Numbered (refusal_of d p t n) (rule_of d p t n) (reply_to d p t l n)
+    reply-refusal = rw (reply-kind d p t l n) (meets-numbered (refusal_of d p t n) t (kind p d.deck t l) d.unit d.deck)
 
-    pub reply-ordered : Ordered (eqb (length p) 12) (isKnownState d) (ltb n bound) (isLoaded d.deck and not (isFit t)) (reply_to d p t l n).number
+    pub reply-ordered : Ordered (eqb (length p) 12) (is_known_state d) (ltb n bound) (is_loaded d.deck and not (is_fit t)) (reply_to d p t l n).number
     reply-ordered = rw reply-refusal.0 refusal-ordered
 
     pub reply-beside : Beside (eqb (reply_to d p t l n).number 4) (reply_to d p t l n).rule
-    reply-beside = rw (reply-refusal.0, reply-refusal.1) (rule_with-beside (refusalOf d p t n) t looked refusal-unfit)
+    reply-beside = rw (reply-refusal.0, reply-refusal.1) (rule_with-beside (refusal_of d p t n) t looked refusal-unfit)
 
     pub reply-broken : (i : ℕ) {b : Bool} → eqb 0 i ≡ false → eqb (fault t) i ≡ b
         → eqb (reply_to d p t l n).number 4 and eqb (reply_to d p t l n).rule i ≡ looked and b
-    reply-broken i z e = rw (reply-refusal.0, reply-refusal.1) (rule_with-broken (refusalOf d p t n) t looked refusal-unfit i z e)
+    reply-broken i z e = rw (reply-refusal.0, reply-refusal.1) (rule_with-broken (refusal_of d p t n) t looked refusal-unfit i z e)
 
 -- ---- the other calls
 
@@ -253,7 +253,7 @@ neither false true = refl
 neither false false = refl
 
 module _ (d : Drive) where
-  press-number : (k t l : Bool) → isKnownState d ≡ k → d.deck.tray_open ≡ t → d.deck.lock ≡ l
+  press-number : (k t l : Bool) → is_known_state d ≡ k → d.deck.tray_open ≡ t → d.deck.lock ≡ l
       → (button d).number ≡ number_for k (t or not l) 5
   unfolding ◌or◌
   press-number false t l h i j = ap number_in (button-unknown d h)
@@ -261,7 +261,7 @@ module _ (d : Drive) where
   press-number true false true h i j = ap number_in (button-locked d h i j)
   press-number true false false h i j = ap number_in (button-opens d h i j)
 
-  lay-number : (k t i : Bool) → isKnownState d ≡ k → d.deck.tray_open ≡ t → d.deck.disc_in ≡ i
+  lay-number : (k t i : Bool) → is_known_state d ≡ k → d.deck.tray_open ≡ t → d.deck.disc_in ≡ i
       → (lay d).number ≡ number_for k (t and not i) 6
   unfolding ◌and◌
   lay-number false t i h j l = ap number_in (lay-unknown d h)
@@ -269,7 +269,7 @@ module _ (d : Drive) where
   lay-number true true true h j l = ap number_in (lay-full d h j l)
   lay-number true true false h j l = ap number_in (lay-lays d h j l)
 
-  lift-number : (k t i : Bool) → isKnownState d ≡ k → d.deck.tray_open ≡ t → d.deck.disc_in ≡ i
+  lift-number : (k t i : Bool) → is_known_state d ≡ k → d.deck.tray_open ≡ t → d.deck.disc_in ≡ i
       → (lift d).number ≡ number_for k (t and i) 7
   unfolding ◌and◌
   lift-number false t i h j l = ap number_in (lift-unknown d h)
@@ -277,17 +277,17 @@ module _ (d : Drive) where
   lift-number true true true h j l = ap number_in (lift-lifts d h j l)
   lift-number true true false h j l = ap number_in (lift-empty d h j l)
 
-  pub press-tested : Tested (isKnownState d) (d.deck.tray_open or not d.deck.lock) 5 (button d).number
+  pub press-tested : Tested (is_known_state d) (d.deck.tray_open or not d.deck.lock) 5 (button d).number
   press-tested = rw (press-number _ _ _ refl refl refl) (number-tested _ _ 5 (omega arith))
 
   -- a closed tray that is locked
-  pub press-locked : eqb (button d).number 5 ≡ isKnownState d and not d.deck.tray_open and d.deck.lock
-  press-locked = press-tested.next ∙ ap (λ (b : Bool). isKnownState d and b) (neither d.deck.tray_open d.deck.lock)
+  pub press-locked : eqb (button d).number 5 ≡ is_known_state d and not d.deck.tray_open and d.deck.lock
+  press-locked = press-tested.next ∙ ap (λ (b : Bool). is_known_state d and b) (neither d.deck.tray_open d.deck.lock)
 
-  pub lay-tested : Tested (isKnownState d) (d.deck.tray_open and not d.deck.disc_in) 6 (lay d).number
+  pub lay-tested : Tested (is_known_state d) (d.deck.tray_open and not d.deck.disc_in) 6 (lay d).number
   lay-tested = rw (lay-number _ _ _ refl refl refl) (number-tested _ _ 6 (omega arith))
 
-  pub lift-tested : Tested (isKnownState d) (d.deck.tray_open and d.deck.disc_in) 7 (lift d).number
+  pub lift-tested : Tested (is_known_state d) (d.deck.tray_open and d.deck.disc_in) 7 (lift d).number
   lift-tested = rw (lift-number _ _ _ refl refl refl) (number-tested _ _ 7 (omega arith))
 
 -- n is the number of a call that tests 2 alone
@@ -296,10 +296,10 @@ pub record TestedAlone (known : Bool) (n : ℕ) : Type 0 where
   pub two : eqb n 2 ≡ not known
   pub four : eqb n 4 ≡ false
 
-pub move-tested : (d : Drive) (k : ℕ) → TestedAlone (isKnownState d) (move_on k d).number
-move-tested d k = go (isKnownState d) refl
+pub move-tested : (d : Drive) (k : ℕ) → TestedAlone (is_known_state d) (move_on k d).number
+move-tested d k = go (is_known_state d) refl
   where
-    go : (b : Bool) → isKnownState d ≡ b → TestedAlone b (move_on k d).number
+    go : (b : Bool) → is_known_state d ≡ b → TestedAlone b (move_on k d).number
     go true h = rw (move_on-moves d h k) (record { zero = refl; two = refl; four = refl })
     go false h = rw (move_on-unknown d k h) (record { zero = refl; two = refl; four = refl })
 
@@ -320,9 +320,9 @@ pub record Parted (fit there : Bool) (n : ℕ) : Type 0 where
   pub four : eqb n 4 ≡ not fit
   pub ten : eqb n 10 ≡ fit and not there
 
-pub part_parted : (t : List ℕ) (k : ℕ) → Parted (isFit t) (leb 1 k and leb k (last_session t)) (part_refused t k).number
+pub part_parted : (t : List ℕ) (k : ℕ) → Parted (is_fit t) (leb 1 k and leb k (last_session t)) (part_refused t k).number
 unfolding part_refused part_refusal if◌then◌else◌ ◌and◌
-part_parted t k = go (isFit t) (leb 1 k and leb k (last_session t))
+part_parted t k = go (is_fit t) (leb 1 k and leb k (last_session t))
   where
     go : (fit there : Bool) → Parted fit there (if fit then (if there then 0 else 10) else 4)
     go false there = record { zero = refl; four = refl; ten = refl }

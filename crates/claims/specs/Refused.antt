@@ -10,12 +10,12 @@ use Rattle.drive.specs.declared.state.Drive.{Drive}
 use Rattle.attention.specs.Sense.{triple, sense_at, is_known}
 use Rattle.play.specs.Play.{is_status, is_play}
 use Rattle.page.specs.Page.{settings, among, is_setting}
-use Rattle.deck.specs.Deck.{isLoaded}
-use Rattle.drive.specs.State.{isKnownState}
+use Rattle.deck.specs.Deck.{is_loaded}
+use Rattle.drive.specs.State.{is_known_state}
 use Rattle.drive.specs.StateLaws.{power_on-with, power_on_without_change-with}
 use Rattle.table.specs.Layout.{bound, last_session, descriptors}
 use Rattle.sessions.specs.Session.{in_order}
-use Rattle.disc.specs.Rules.{rule1, rule2, each_row, rule7, isFit}
+use Rattle.disc.specs.Rules.{rule1, rule2, each_row, rule7, is_fit}
 use Rattle.disc.specs.RulesLaws.{fault-first}
 use Rattle.disc.specs.Part.{part_refused}
 use Rattle.claims.specs.MediaEvent.{is_pressed}
@@ -101,7 +101,7 @@ module _ (d : Drive) where
 
   -- none of that holds of the state
   abbrev is_state : Bool
-  is_state = isKnownState d
+  is_state = is_known_state d
 
   -- the held sense is one of the thirteen
   abbrev is_of_thirteen : Bool
@@ -128,7 +128,7 @@ module _ (d : Drive) where
   is_up_to_three = leb d.deck.event 3
 
   pub refused-2-state : is_state ≡ is_of_thirteen and (is_of_four and is_within) and is_of_twenty and is_up_to_three
-  unfolding isKnownState is_play is_status is_setting
+  unfolding is_known_state is_play is_status is_setting
   refused-2-state = refl
 
   -- ---- "Packets test 1, 2, 3, 4, then the steps below"; K9: and nothing more
@@ -144,7 +144,7 @@ module _ (d : Drive) where
 
     -- "loaded .. and the table is not fit"
     abbrev is_unfit : Bool
-    is_unfit = isLoaded d.deck and not (isFit t)
+    is_unfit = is_loaded d.deck and not (is_fit t)
 
     pub refused-1 : gives (packet p t l m) 1 ≡ not is_twelve
     refused-1 = (reply-ordered d p t (length m) l).one
@@ -160,7 +160,7 @@ module _ (d : Drive) where
 
     -- K6: with the broken rule beside it, where the table is looked at
     abbrev is_looked : Bool
-    is_looked = is_twelve and is_state and not is_under and isLoaded d.deck
+    is_looked = is_twelve and is_state and not is_under and is_loaded d.deck
 
     pub refused-4-rule1 : breaks (packet p t l m) 1 ≡ is_looked and is_first1 t
     refused-4-rule1 = reply-broken d p t (length m) l 1 refl (fault-first t).one
@@ -267,13 +267,13 @@ module _ (t : List ℕ) (k : ℕ) where
   abbrev part_breaks : ℕ → Bool
   part_breaks i = part_gives 4 and eqb (part_refused t k).rule i
 
-  pub refused-part-4 : part_gives 4 ≡ not (isFit t)
+  pub refused-part-4 : part_gives 4 ≡ not (is_fit t)
   refused-part-4 = (part_parted t k).four
 
-  pub refused-10 : part_gives 10 ≡ isFit t and not (leb 1 k and leb k (last_session t))
+  pub refused-10 : part_gives 10 ≡ is_fit t and not (leb 1 k and leb k (last_session t))
   refused-10 = (part_parted t k).ten
 
-  pub refused-part-not : part_gives 0 ≡ isFit t and leb 1 k and leb k (last_session t)
+  pub refused-part-not : part_gives 0 ≡ is_fit t and leb 1 k and leb k (last_session t)
   refused-part-not = (part_parted t k).zero
 
   -- the rule is one of 1 to 7 exactly with 4, and 0 exactly with 10 and with success

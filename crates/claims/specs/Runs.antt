@@ -48,6 +48,7 @@ module _ {C S A : Type 0} (live : S → Bool) where
       {h k : List (Event C S A)} → Agree live h k → (i : ℕ) {e f : Event C S A} → At h i e → At k i f
       → ((j : ℕ) (g : Event C S A) → j < i → At h j g → live g.new ≡ true)
       → Same e f
+  agree_at nil i a _ l = elim a [ ]
   agree_at (cons s r) zero here here l = s
   agree_at (cons s r) (suc i) (there a) (there b) l =
       agree_at (r (l zero _ (omega arith) here)) i a b (λ j g q at. l (suc j) g (omega arith) (there at))

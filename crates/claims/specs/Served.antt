@@ -48,6 +48,10 @@ same-got g h p q = ap₂ (λ (o : Outcome) (m : List ℕ). record { outcome = o;
 -- two runs that answer the same packets from the same state are the same, answer by answer
 pub served_once : (d : Drive) (qs : List Asked) (gs hs : List Got) → Served d qs gs → Served d qs hs → gs ≡ hs
 served_once d [] [] [] r s = refl
+served_once d [] [] (h ∷ hs) r s = elim s [ ]
+served_once d [] (g ∷ gs) hs r s = elim r [ ]
+served_once d (a ∷ qs) [] hs r s = elim r [ ]
+served_once d (a ∷ qs) (g ∷ gs) [] r s = elim s [ ]
 served_once d (a ∷ qs) (g ∷ gs) (h ∷ hs) (more p r) (more q s) =
     let u = unique_packet d a.bytes a.table a.list a.memory g.memory h.memory g.outcome h.outcome p q in
     let t : Served g.outcome.state qs hs = subst (λ (o : Outcome). Served o.state qs hs) (sym u.0) s in
@@ -56,6 +60,8 @@ served_once d (a ∷ qs) (g ∷ gs) (h ∷ hs) (more p r) (more q s) =
 -- and the state that they leave is that of the drive's own history
 pub served-history : (d : Drive) (qs : List Asked) (gs : List Got) → Served d qs gs → left d gs ≡ final d (calls qs)
 served-history d [] [] r = refl
+served-history d [] (g ∷ gs) r = elim r [ ]
+served-history d (a ∷ qs) [] r = elim r [ ]
 served-history d (a ∷ qs) (g ∷ gs) (more p r) =
     let e : g.outcome.state ≡ state_of (answer d a.bytes a.table a.list (length a.memory)) = ap (λ (o : Outcome). o.state) p.outcome in
     served-history g.outcome.state qs gs r ∙ ap (λ (x : Drive). final x (calls qs)) e

@@ -7,10 +7,10 @@ use Rattle.ground.specs.Tests.{if◌then◌else◌, either}
 use Rattle.table.specs.Layout.{last_session, descriptors, rows, point_at, A0, A1, A2, is_track}
 use Rattle.table.specs.RowLaws.{is_track_true, is_track-over}
 use Rattle.sessions.specs.Session.{first, session}
-use Rattle.disc.specs.Rules.{leadOut}
-use Rattle.disc.specs.RulesLaws.{Fit, isFit-true, fit-numbered, fit-session}
+use Rattle.disc.specs.Rules.{session_lead_out}
+use Rattle.disc.specs.RulesLaws.{Fit, is_fit_true, fit-numbered, fit-session}
 use Rattle.disc.specs.FitLaws.{point_at-session, session-none, fit-listed, fit_row, fit-address, fit-tracks-rise, fit-lead-out}
-use Rattle.disc.specs.Disc.{discOf}
+use Rattle.disc.specs.Disc.{disc_of}
 use Rattle.disc.specs.declared.disc.Disc.{Disc}
 use Rattle.tracks.specs.declared.track.Track.{Track}
 use Rattle.tracks.specs.declared.track.Ask.{Ask}
@@ -63,7 +63,7 @@ module _ {t : List ℕ} (f : Fit t) where
       ]
 
   -- so every track is numbered from the disc's first on
-  pub fit-numbers : (n : ℕ) → n ≤ (discOf t).first → Each (λ (e : Entry). n ≤ e.number) (contents_of t).tracks
+  pub fit-numbers : (n : ℕ) → n ≤ (disc_of t).first → Each (λ (e : Entry). n ≤ e.number) (contents_of t).tracks
   fit-numbers n l = entries_each (λ (e : Entry). n ≤ e.number) (descriptors t) (rows (descriptors t)) (λ j h e.
       let r = fit-track-row f j h e in
       let p : point_at (descriptors t) j ≡ first (session (descriptors t) r.k) + r.m =
@@ -113,7 +113,7 @@ disc_in c = record {
   first = c.first;
   last = c.last;
   sessions = 1;
-  lead_out = c.leadOut;
+  lead_out = c.session_lead_out;
   lead_flags = c.flags_of_lead;
   last_first = (first_of c.tracks).number;
   last_first_flags = (first_of c.tracks).flags;
@@ -132,18 +132,18 @@ first_entry d n a b c e l =
 
 module _ {t : List ℕ} (s : Single t) where
   is-fit : Fit t
-  is-fit = isFit-true s.fit
+  is-fit = is_fit_true s.fit
 
   -- every track ends at the lead-out, L
-  single-out : (j : ℕ) → j < rows (descriptors t) → is_track (point_at (descriptors t) j) ≡ true → out_at (descriptors t) j ≡ (contents_of t).leadOut
+  single-out : (j : ℕ) → j < rows (descriptors t) → is_track (point_at (descriptors t) j) ≡ true → out_at (descriptors t) j ≡ (contents_of t).session_lead_out
   single-out j h e =
       let r = fit-track-row is-fit j h e in
       let b = r.below in
       let o = s.one in
-      r.out ∙ ap (λ (k : ℕ). leadOut (session (descriptors t) k)) (omega arith)
+      r.out ∙ ap (λ (k : ℕ). session_lead_out (session (descriptors t) k)) (omega arith)
 
-  pub single-track : (a : Ask) → found a (descriptors t) (rows (descriptors t)) ≡ found_among a (contents_of t).leadOut (contents_of t).tracks no_track
-  single-track a = found-entries a (descriptors t) (contents_of t).leadOut (rows (descriptors t)) single-out
+  pub single-track : (a : Ask) → found a (descriptors t) (rows (descriptors t)) ≡ found_among a (contents_of t).session_lead_out (contents_of t).tracks no_track
+  single-track a = found-entries a (descriptors t) (contents_of t).session_lead_out (rows (descriptors t)) single-out
 
   -- descriptor i of the session is descriptor i of the table
   tested : (i : ℕ) {a : ℕ} {b : Bool} → point_at (session (descriptors t) 0) i ≡ a → is_track a ≡ b → is_track (point_at (descriptors t) i) ≡ b
@@ -164,12 +164,12 @@ module _ {t : List ℕ} (s : Single t) where
       ∙ ap (λ (x : List ℕ). entry_at x 3) (sym (session-none d))
       ∙ ap (λ (k : ℕ). entry_at (session d k) 3) (let o = s.one in omega arith)
 
-  pub single-disc : discOf t ≡ disc_in (contents_of t)
+  pub single-disc : disc_of t ≡ disc_in (contents_of t)
   single-disc = λ i. record {
     first = (contents_of t).first;
     last = (contents_of t).last;
     sessions = s.one i;
-    lead_out = (contents_of t).leadOut;
+    lead_out = (contents_of t).session_lead_out;
     lead_flags = (contents_of t).flags_of_lead;
     last_first = (sym single-first i).number;
     last_first_flags = (sym single-first i).flags;

@@ -8,13 +8,13 @@ use Rattle.std.proofs.lemmas.List.{length-replicate}
 use Rattle.ground.specs.Tests.{◌and◌, ◌or◌}
 use Rattle.deck.specs.declared.Deck.{Deck}
 use Rattle.drive.specs.declared.state.Drive.{Drive}
-use Rattle.deck.specs.Deck.{isLoaded}
-use Rattle.drive.specs.State.{isKnownState}
+use Rattle.deck.specs.Deck.{is_loaded}
+use Rattle.drive.specs.State.{is_known_state}
 use Rattle.table.specs.Layout.{bound}
-use Rattle.disc.specs.Rules.{isFit}
-use Rattle.disc.specs.RulesLaws.{isFit-true}
+use Rattle.disc.specs.Rules.{is_fit}
+use Rattle.disc.specs.RulesLaws.{is_fit_true}
 use Rattle.disc.specs.FitLaws.{fit-span}
-use Rattle.disc.specs.Disc.{discOf}
+use Rattle.disc.specs.Disc.{disc_of}
 use Rattle.gate.specs.Gate.{Reply}
 use Rattle.outcome.specs.Outcome.{bytes_of, state_of}
 use Rattle.target.specs.Packet.{answer as reply_to}
@@ -34,13 +34,13 @@ use Rattle.claims.specs.TwinLaws.{contents-same, reply-same, steps-list}
 
 -- ---- what the track list tells
 
-module _ (t u : List ℕ) (f : isFit t ≡ true) (g : isFit u ≡ true) where
+module _ (t u : List ℕ) (f : is_fit t ≡ true) (g : is_fit u ≡ true) where
   -- of two fit tables, of any sessions: their lists are equal exactly where their contents are. So the list determines the first and the
   -- last track, each track's number, ADR/control and start, and the lead-out with its ADR/control, and these determine it; by M:S:F as by
   -- blocks
   pub list-contents : (msf : Bool) → (list_with msf 0 t ≡ list_with msf 0 u) ↔ (contents_of t ≡ contents_of u)
   list-contents msf = (
-    λ e. list_tells msf (contents_of t) (contents_of u) (fit-ranged (isFit-true f)) (fit-ranged (isFit-true g)) (sym (list-made msf 0 t) ∙ e ∙ list-made msf 0 u),
+    λ e. list_tells msf (contents_of t) (contents_of u) (fit-ranged (is_fit_true f)) (fit-ranged (is_fit_true g)) (sym (list-made msf 0 t) ∙ e ∙ list-made msf 0 u),
     λ e. list-made msf 0 t ∙ ap (list_of msf 0) e ∙ sym (list-made msf 0 u),
   )
 
@@ -48,14 +48,14 @@ module _ (t u : List ℕ) (f : isFit t ≡ true) (g : isFit u ≡ true) where
   pub list-msf : (list_with true 0 t ≡ list_with true 0 u) ↔ (track_list t ≡ track_list u)
   list-msf = (λ e. (list-contents false).1 ((list-contents true).0 e), λ e. (list-contents true).1 ((list-contents false).0 e))
 
-module _ (msf : Bool) (t : List ℕ) (f : isFit t ≡ true) where
+module _ (msf : Bool) (t : List ℕ) (f : is_fit t ≡ true) where
   -- "N 0": with an N up to the first track in its place it is the same list
-  pub list-numbered : (n : ℕ) → n ≤ (discOf t).first → list_with msf n t ≡ list_with msf 0 t
-  list-numbered n h = list-made msf n t ∙ list-low msf n (contents_of t) (fit-numbers (isFit-true f) n (omega arith)) ∙ sym (list-made msf 0 t)
+  pub list-numbered : (n : ℕ) → n ≤ (disc_of t).first → list_with msf n t ≡ list_with msf 0 t
+  list-numbered n h = list-made msf n t ∙ list-low msf n (contents_of t) (fit-numbers (is_fit_true f) n (omega arith)) ∙ sym (list-made msf 0 t)
 
   -- so with N 1, of any fit table
   pub list-numbered-1 : list_with msf 1 t ≡ list_with msf 0 t
-  list-numbered-1 = list-numbered 1 (fit-span (isFit-true f)).low
+  list-numbered-1 = list-numbered 1 (fit-span (is_fit_true f)).low
 
 -- ---- what every packet but READ TOC by format 2 asks for
 
@@ -78,7 +78,7 @@ twins_packet {t} {u} w d p l m h =
     (ap (answer_of m) e, ap state_of e)
 
 -- and in a state that is not loaded every packet gets the same with any two tables: "When not loaded, the table isn't looked at."
-pub unloaded_packet : (t u : List ℕ) (d : Drive) (p l m : List ℕ) → isLoaded d.deck ≡ false → SameResult (packet p t l m) (packet p u l m) d
+pub unloaded_packet : (t u : List ℕ) (d : Drive) (p l m : List ℕ) → is_loaded d.deck ≡ false → SameResult (packet p t l m) (packet p u l m) d
 unloaded_packet t u d p l m h =
     let e = reply-same d p t u l (length m) (λ i. absurd (false≢true (sym h ∙ i))) in (ap (answer_of m) e, ap state_of e)
 
@@ -131,8 +131,8 @@ module _ {t u : List ℕ} (w : Twins t u) where
 -- ---- and that it is no more than they ask for
 
 -- READ TOC gets the track list whole, where every byte of it is asked for
-pub list-given : (d : Drive) (t l : List ℕ) (n : ℕ) → isKnownState d ≡ true → isLoaded d.deck ≡ true → is_attending d ≡ false
-    → isFit t ≡ true → bound ≤ n → bytes_of (reply_to d list_packet t l n) ≡ track_list t
+pub list-given : (d : Drive) (t l : List ℕ) (n : ℕ) → is_known_state d ≡ true → is_loaded d.deck ≡ true → is_attending d ≡ false
+    → is_fit t ≡ true → bound ≤ n → bytes_of (reply_to d list_packet t l n) ≡ track_list t
 list-given d t l n k h a f b =
     let e = steps-list d t l h a in
     let q = ap (λ (r : Reply Deck). length r.full) e in

@@ -10,22 +10,22 @@ use Rattle.attention.specs.Sense.{triple, sense_at, same_sense, among, is_known}
 use Rattle.play.specs.Play.{is_status, is_play}
 use Rattle.page.specs.Page.{among as among_bytes, is_setting}
 use Rattle.attention.specs.Unit.{attend}
-use Rattle.drive.specs.State.{isKnownState}
+use Rattle.drive.specs.State.{is_known_state}
 use Rattle.table.specs.Layout.{bound, header, row, last_session, descriptors, is_track, is_extra}
 use Rattle.table.specs.Row.{start_of, names, simple, free, plain, head_a0, head_a1, headed, addressed, row_test}
 use Rattle.sessions.specs.Session.{one, size, listed, numbered, is_session, starts, before, follows, in_place, in_order}
-use Rattle.disc.specs.Rules.{rule1, rule2, each_row, rises, out_before, begins_after, rising, rule7, first_broken, late_rules, row_rules, fault, isFit}
-use Rattle.disc.specs.Part.{ruleWith}
-use Rattle.tracks.specs.Track.{next_out, out_at, covers, wanted, next_found, found, trackOf, is_mode, in_mode, allIn}
+use Rattle.disc.specs.Rules.{rule1, rule2, each_row, rises, out_before, begins_after, rising, rule7, first_broken, late_rules, row_rules, fault, is_fit}
+use Rattle.disc.specs.Part.{rule_with}
+use Rattle.tracks.specs.Track.{next_out, out_at, covers, wanted, next_found, found, track_of, is_mode, in_mode, all_in}
 use Rattle.gate.specs.Unit.{pending_of}
 use Rattle.gate.specs.Gate.{gate}
 use Rattle.command.specs.Command.{decode}
 use Rattle.toc.specs.Shown.{is_shown, shown_track, shown_tracks}
-use Rattle.toc.specs.Answer.{headed as toc_headed, format0, format1, format2, tocBytes, tocBad}
+use Rattle.toc.specs.Answer.{headed as toc_headed, format0, format1, format2, toc_bytes, toc_bad}
 use Rattle.command.specs.Done.{answering}
 use Rattle.blocks.specs.Range.{over, in_range, ranged}
 use Rattle.target.specs.Perform.{perform}
-use Rattle.target.specs.Packet.{refusalOf, answer as reply_to}
+use Rattle.target.specs.Packet.{refusal_of, answer as reply_to}
 use Rattle.claims.specs.Marked.{table_e, loaded_e, Outcome, gives, reads, fails, shown_by, same_bytes, same_outcome}
 use Rattle.claims.specs.Contents.{list_with, track_list, Contents, entries, contents_of, Twins, is_format2}
 
@@ -86,7 +86,7 @@ without-none false c cs e = absurd (nil≢cons (sym e))
 -- the conditions that do not hold
 abbrev pub lacking_in : Instance → List Condition
 lacking_in i =
-    without (isFit i.table and isFit i.other) fit
+    without (is_fit i.table and is_fit i.other) fit
     (without (eqb (last_session i.table) 1 and eqb (last_session i.other) 1) single
     (without (same_bytes (track_list i.table) (track_list i.other)) equal
     (without (not (is_format2 i.bytes)) other_format [])))
@@ -228,13 +228,13 @@ said_of i = i.said
 
 -- each instance is as it says
 pub needed : map verdict_of instances ≡ map said_of instances
-unfolding without same_outcome same_bytes ◌or◌ if◌then◌else◌ every is_msf sense_at same_sense among is_known is_status is_play among_bytes is_setting isKnownState attend is_track is_extra start_of names simple free plain head_a0 head_a1 headed addressed row_test one size listed numbered is_session starts before follows in_place in_order rule1 rule2 each_row rises out_before begins_after rising rule7 first_broken late_rules row_rules fault isFit ruleWith next_out out_at covers wanted next_found found trackOf is_mode in_mode allIn pending_of gate decode shown_address is_shown shown_track shown_tracks toc_headed format0 format1 format2 tocBytes tocBad answering over in_range ranged perform refusalOf reply_to
+unfolding without same_outcome same_bytes ◌or◌ if◌then◌else◌ every is_msf sense_at same_sense among is_known is_status is_play among_bytes is_setting is_known_state attend is_track is_extra start_of names simple free plain head_a0 head_a1 headed addressed row_test one size listed numbered is_session starts before follows in_place in_order rule1 rule2 each_row rises out_before begins_after rising rule7 first_broken late_rules row_rules fault is_fit rule_with next_out out_at covers wanted next_found found track_of is_mode in_mode all_in pending_of gate decode shown_address is_shown shown_track shown_tracks toc_headed format0 format1 format2 toc_bytes toc_bad answering over in_range ranged perform refusal_of reply_to
 needed = refl
 
 -- ---- such tables there are
 
 pub twins_E : Twins table_e twin_e
-unfolding ◌or◌ if◌then◌else◌ every is_msf is_track is_extra start_of names simple free plain head_a0 head_a1 headed addressed row_test one size listed numbered is_session starts follows in_place in_order rule1 rule2 each_row rises begins_after rising rule7 first_broken late_rules row_rules fault isFit shown_address is_shown shown_track shown_tracks format0
+unfolding ◌or◌ if◌then◌else◌ every is_msf is_track is_extra start_of names simple free plain head_a0 head_a1 headed addressed row_test one size listed numbered is_session starts follows in_place in_order rule1 rule2 each_row rises begins_after rising rule7 first_broken late_rules row_rules fault is_fit shown_address is_shown shown_track shown_tracks format0
 twins_E = record { table = record { fit = refl; one = refl }; other = record { fit = refl; one = refl }; list = refl }
 
 -- the contents of both
@@ -247,7 +247,7 @@ contents_e = record {
       ∷ record { flags = 0x10; number = 2; start = 150 }
       ∷ [];
   flags_of_lead = 0x10;
-  leadOut = 300;
+  session_lead_out = 300;
 }
 
 -- as computed; and of the same tracks in two sessions, wherever the first ends

@@ -27,21 +27,21 @@ AgreeCarried handed common c cs ds =
 
 -- ---- up to that answer the runs agree even where the parameter lists differ: of any two lists, with one table or two fit ones
 
-pub two-runs_lists : (handed : Drive) (common : List Call) (c : Call) → is_cause (event c (final handed common)) ≡ true
+pub two_runs_lists : (handed : Drive) (common : List Call) (c : Call) → is_cause (event c (final handed common)) ≡ true
     → {cs ds : List Call} → Pairwise Alike cs ds → AgreeUpTo handed common c cs ds
-two-runs_lists handed common c h p i e f = runs drive handed common c (cause_attends c (final handed common) h) p i
+two_runs_lists handed common c h p i e f = runs drive handed common c (cause_attends c (final handed common) h) p i
 
-pub two-runs_lists-carried : (handed : Board Drive) (common : List Call) (c : Call)
+pub two_runs_lists-carried : (handed : Board Drive) (common : List Call) (c : Call)
     → is_cause (event (lend (final_on handed common).memory c) (final_on handed common).state) ≡ true
     → {cs ds : List Call} → Pairwise Alike cs ds → AgreeCarried handed common c cs ds
-two-runs_lists-carried handed common c h p i e f =
+two_runs_lists-carried handed common c h p i e f =
     runs-carried drive lend left lend_alike left_alike handed common c
     (cause_attends (lend (final_on handed common).memory c) (final_on handed common).state h) p i
 
 -- and the second run has an event at each place where the first has one
-pub two-runs_long : (handed : Drive) (common : List Call) (c : Call) {cs ds : List Call} → Pairwise Alike cs ds
+pub two_runs_long : (handed : Drive) (common : List Call) (c : Call) {cs ds : List Call} → Pairwise Alike cs ds
     → length (history handed (common ++ c ∷ cs)) ≡ length (history handed (common ++ c ∷ ds))
-two-runs_long handed common c p = runs_long answer next handed common c p
+two_runs_long handed common c p = runs_long answer next handed common c p
 
 -- ---- K4: "Demand 3's two runs share the lent parameter list"
 
@@ -56,9 +56,9 @@ shared = pairwise_map sharing_alike
 -- calls in common, then c, a power-on in either form or a loading, then calls that are alike, one by one, but for the fit tables lent
 pub two_runs : (handed : Drive) (common : List Call) (c : Call) → is_cause (event c (final handed common)) ≡ true
     → {cs ds : List Call} → Pairwise Sharing cs ds → AgreeUpTo handed common c cs ds
-two_runs handed common c h p = two-runs_lists handed common c h (shared p)
+two_runs handed common c h p = two_runs_lists handed common c h (shared p)
 
 pub two-runs-carried : (handed : Board Drive) (common : List Call) (c : Call)
     → is_cause (event (lend (final_on handed common).memory c) (final_on handed common).state) ≡ true
     → {cs ds : List Call} → Pairwise Sharing cs ds → AgreeCarried handed common c cs ds
-two-runs-carried handed common c h p = two-runs_lists-carried handed common c h (shared p)
+two-runs-carried handed common c h p = two_runs_lists-carried handed common c h (shared p)

@@ -23,14 +23,14 @@ use Rattle.play.specs.Play.{no_play, with_status, is_play, moved_on}
 use Rattle.page.specs.declared.Page.{Page}
 use Rattle.page.specs.Page.{defaults, is_setting}
 use Rattle.attention.specs.Unit.{powered_on, attend}
-use Rattle.deck.specs.Deck.{is_event, isLoaded, opening, closing, restarted, with_disc, with_lock, with_play, with_page, with_event}
-use Rattle.drive.specs.State.{isKnownState, shift, power_on, power_on_without_change, button, lay, lift, move_on}
+use Rattle.deck.specs.Deck.{is_event, is_loaded, opening, closing, restarted, with_disc, with_lock, with_play, with_page, with_event}
+use Rattle.drive.specs.State.{is_known_state, shift, power_on, power_on_without_change, button, lay, lift, move_on}
 use Rattle.gate.specs.declared.fault.Fault.{Fault}
 use Rattle.gate.specs.declared.unit.Pending.{Pending}
 use Rattle.gate.specs.declared.unit.Giving.{Giving}
 use Rattle.gate.specs.Gate.{Reply, sense_bytes}
 use Rattle.gate.specs.Fault.{sense_of}
-use Rattle.gate.specs.Unit.{hold, clear, pending_of, told, attentionSense, give}
+use Rattle.gate.specs.Unit.{hold, clear, pending_of, told, attention_sense, give}
 use Rattle.tracks.specs.declared.track.Track.{Track}
 use Rattle.disc.specs.declared.disc.Disc.{Disc}
 use Rattle.disc.specs.declared.disc.Reading.{Reading}
@@ -44,26 +44,26 @@ use Rattle.sessions.specs.Session.{size, starts, read_session}
 use Rattle.disc.specs.Rules.{fault}
 use Rattle.disc.specs.Part.{PartOf, part_refused, part_start, part_size}
 use Rattle.tracks.specs.declared.track.Mode.{Mode}
-use Rattle.tracks.specs.Track.{is_data, trackOf, track_numbered, runIs}
+use Rattle.tracks.specs.Track.{is_data, track_of, track_numbered, run_is}
 use Rattle.disc.specs.Disc.{reading}
 use Rattle.command.specs.declared.decode.Command.{Command}
 use Rattle.command.specs.declared.decode.Kind.{Kind}
 use Rattle.command.specs.declared.done.Done.{Done}
 use Rattle.command.specs.Command.{decode, kind_of, needing, bit0, bit1, bit6}
-use Rattle.command.specs.Tray.{startStop, prevent, noMedium}
+use Rattle.command.specs.Tray.{start_stop, prevent, no_medium}
 use Rattle.command.specs.Inquiry.{inquiry_bytes}
 use Rattle.command.specs.Done.{done, done_of}
 use Rattle.blocks.specs.Range.{in_range}
 use Rattle.blocks.specs.Blocks.{capacity, seek, read}
 use Rattle.audio.specs.declared.sub_channel.SubAsk.{SubAsk}
-use Rattle.audio.specs.Audio.{play, pauseResume}
+use Rattle.audio.specs.Audio.{play, pause_resume}
 use Rattle.audio.specs.SubChannel.{sub_ask, sub_bad, position_bytes, status_bytes, reported}
 use Rattle.mode.specs.declared.mode_sense.Shown.{Shown}
 use Rattle.mode.specs.ModeSense.{page_shown, mode_bytes}
-use Rattle.mode.specs.ModeSelect.{modeSelect}
+use Rattle.mode.specs.ModeSelect.{mode_select}
 use Rattle.event.specs.EventClass.{class_for}
 use Rattle.event.specs.EventAnswer.{class_bytes, none_bytes, event_bytes, cleared}
-use Rattle.toc.specs.Answer.{tocBytes, tocBad}
+use Rattle.toc.specs.Answer.{toc_bytes, toc_bad}
 use Rattle.outcome.specs.declared.Outcome.{Outcome}
 use Rattle.outcome.specs.Outcome.{Answered, refused, checked, granted, finished}
 use Rattle.target.specs.Packet.{answer}
@@ -201,7 +201,7 @@ unique-attend u b r s = value_once
 pub unique_is-event : (e : ℕ) (r s : Bool) → r ≡ is_event e → s ≡ is_event e → r ≡ s
 unique_is-event e r s = value_once
 
-pub unique_is-loaded : (m : Deck) (r s : Bool) → r ≡ isLoaded m → s ≡ isLoaded m → r ≡ s
+pub unique_is-loaded : (m : Deck) (r s : Bool) → r ≡ is_loaded m → s ≡ is_loaded m → r ≡ s
 unique_is-loaded m r s = value_once
 
 pub unique-opening : (m : Deck) (r s : Shifted) → r ≡ opening m → s ≡ opening m → r ≡ s
@@ -230,7 +230,7 @@ unique_with-event m e r s = value_once
 
 -- ---- drive
 
-pub unique_is_known_state : (d : Drive) (r s : Bool) → r ≡ isKnownState d → s ≡ isKnownState d → r ≡ s
+pub unique_is_known_state : (d : Drive) (r s : Bool) → r ≡ is_known_state d → s ≡ is_known_state d → r ≡ s
 unique_is_known_state d r s = value_once
 
 pub unique-shift : (d : Drive) (m : Shifted) (r s : Drive) → r ≡ shift d m → s ≡ shift d m → r ≡ s
@@ -239,8 +239,8 @@ unique-shift d m r s = value_once
 pub unique_power_on : (d r s : Drive) → r ≡ power_on d → s ≡ power_on d → r ≡ s
 unique_power_on d r s = value_once
 
-pub unique_power_on-without_change : (d r s : Drive) → r ≡ power_on_without_change d → s ≡ power_on_without_change d → r ≡ s
-unique_power_on-without_change d r s = value_once
+pub unique_power_on_without_change : (d r s : Drive) → r ≡ power_on_without_change d → s ≡ power_on_without_change d → r ≡ s
+unique_power_on_without_change d r s = value_once
 
 pub unique-button : (d : Drive) (r s : Moved) → r ≡ button d → s ≡ button d → r ≡ s
 unique-button d r s = value_once
@@ -271,7 +271,7 @@ unique-first-pending u r s = value_once
 pub unique-told : (u : Unit) (a : Pending) (r s : Unit) → r ≡ told a u → s ≡ told a u → r ≡ s
 unique-told u a r s = value_once
 
-pub unique_sense_of-pending : (a : Pending) (r s : Sense) → r ≡ attentionSense a → s ≡ attentionSense a → r ≡ s
+pub unique_sense_of-pending : (a : Pending) (r s : Sense) → r ≡ attention_sense a → s ≡ attention_sense a → r ≡ s
 unique_sense_of-pending a r s = value_once
 
 pub unique-give : (u : Unit) (r s : Giving) → r ≡ give u → s ≡ give u → r ≡ s
@@ -340,10 +340,10 @@ unique-fault t r s = value_once
 pub unique-session-refusal : (t : List ℕ) (k : ℕ) (r s : Refusal) → r ≡ part_refused t k → s ≡ part_refused t k → r ≡ s
 unique-session-refusal t k r s = value_once
 
-pub unique-session_part :
+pub unique_session_part :
     (t r s : Bor (List ℕ)) (k : ℕ)
     → PartOf t r (part_start t.now k) (part_size t.now k) → PartOf t s (part_start t.now k) (part_size t.now k) → shr_slice_vals r ≡ shr_slice_vals s
-unique-session_part t r s k = part_once
+unique_session_part t r s k = part_once
 
 pub unique-read : (t : List ℕ) (r s : Reading) → r ≡ reading t → s ≡ reading t → r ≡ s
 unique-read t r s = value_once
@@ -353,14 +353,14 @@ unique-read t r s = value_once
 pub unique_is_data : (flags : ℕ) (r s : Bool) → r ≡ is_data flags → s ≡ is_data flags → r ≡ s
 unique_is_data flags r s = value_once
 
-pub unique_track_of : (t : List ℕ) (b : ℕ) (r s : Track) → r ≡ trackOf (descriptors t) b → s ≡ trackOf (descriptors t) b → r ≡ s
+pub unique_track_of : (t : List ℕ) (b : ℕ) (r s : Track) → r ≡ track_of (descriptors t) b → s ≡ track_of (descriptors t) b → r ≡ s
 unique_track_of t b r s = value_once
 
 pub unique_track-numbered : (t : List ℕ) (n : ℕ) (r s : Track) → r ≡ track_numbered (descriptors t) n → s ≡ track_numbered (descriptors t) n → r ≡ s
 unique_track-numbered t n r s = value_once
 
 pub unique_run_is : (mode : Mode) (t : List ℕ) (a n : ℕ) (r s : Bool)
-    → r ≡ runIs mode (descriptors t) a n → s ≡ runIs mode (descriptors t) a n → r ≡ s
+    → r ≡ run_is mode (descriptors t) a n → s ≡ run_is mode (descriptors t) a n → r ≡ s
 unique_run_is mode t a n r s = value_once
 
 -- ---- command
@@ -383,16 +383,16 @@ unique-bit1 b r s = value_once
 pub unique-bit6 : (b : ℕ) (r s : Bool) → r ≡ bit6 b → s ≡ bit6 b → r ≡ s
 unique-bit6 b r s = value_once
 
-pub unique-done_with : (m : Deck) (r s : Done) → r ≡ done_of (done m) → s ≡ done_of (done m) → r ≡ s
-unique-done_with m r s = value_once
+pub unique_done_with : (m : Deck) (r s : Done) → r ≡ done_of (done m) → s ≡ done_of (done m) → r ≡ s
+unique_done_with m r s = value_once
 
-pub unique-start_stop : (b : ℕ) (m : Deck) (r s : Done) → r ≡ done_of (startStop b m) → s ≡ done_of (startStop b m) → r ≡ s
+pub unique-start_stop : (b : ℕ) (m : Deck) (r s : Done) → r ≡ done_of (start_stop b m) → s ≡ done_of (start_stop b m) → r ≡ s
 unique-start_stop b m r s = value_once
 
 pub unique-prevent : (b : ℕ) (m : Deck) (r s : Done) → r ≡ done_of (prevent b m) → s ≡ done_of (prevent b m) → r ≡ s
 unique-prevent b m r s = value_once
 
-pub unique_no_medium : (m : Deck) (r s : Fault) → r ≡ noMedium m → s ≡ noMedium m → r ≡ s
+pub unique_no_medium : (m : Deck) (r s : Fault) → r ≡ no_medium m → s ≡ no_medium m → r ≡ s
 unique_no_medium m r s = value_once
 
 pub unique-inquiry-bytes : (r s : List ℕ) → r ≡ inquiry_bytes → s ≡ inquiry_bytes → r ≡ s
@@ -414,16 +414,16 @@ pub unique_finish : (u v : Unit) (m : Deck) (d : Done) (r s : Outcome) → r ≡
 unique_finish u v m d r s = value_once
 
 pub unique_tell : (a : Pending) (u : Unit) (m : Deck) (r s : Outcome)
-    → r ≡ checked (attentionSense a) (told a u) m → s ≡ checked (attentionSense a) (told a u) m → r ≡ s
+    → r ≡ checked (attention_sense a) (told a u) m → s ≡ checked (attention_sense a) (told a u) m → r ≡ s
 unique_tell a u m r s = value_once
 
 -- ---- toc
 
-pub unique_toc_bad : (disc : Disc) (f n : ℕ) (r s : Bool) → r ≡ tocBad disc f n → s ≡ tocBad disc f n → r ≡ s
+pub unique_toc_bad : (disc : Disc) (f n : ℕ) (r s : Bool) → r ≡ toc_bad disc f n → s ≡ toc_bad disc f n → r ≡ s
 unique_toc_bad disc f n r s = value_once
 
 pub unique_put_toc : (disc : Disc) (f : ℕ) (msf : Bool) (n room : ℕ) (d m m₁ m₂ : List ℕ) (r s : ℕ)
-    → Laid m (take room (tocBytes disc f msf n d)) r m₁ → Laid m (take room (tocBytes disc f msf n d)) s m₂ → (r ≡ s) × (m₁ ≡ m₂)
+    → Laid m (take room (toc_bytes disc f msf n d)) r m₁ → Laid m (take room (toc_bytes disc f msf n d)) s m₂ → (r ≡ s) × (m₁ ≡ m₂)
 unique_put_toc disc f msf n room d m m₁ m₂ r s = laying_once
 
 -- ---- blocks
@@ -448,7 +448,7 @@ pub unique-play-blocks : (all : Bool) (a n l : ℕ) (m : Deck) (r s : Done)
 unique-play-blocks all a n l m r s = value_once
 
 pub unique-pause-resume : (resume : Bool) (m : Deck) (r s : Done)
-    → r ≡ done_of (pauseResume resume m) → s ≡ done_of (pauseResume resume m) → r ≡ s
+    → r ≡ done_of (pause_resume resume m) → s ≡ done_of (pause_resume resume m) → r ≡ s
 unique-pause-resume resume m r s = value_once
 
 pub unique-sub_ask : (a b c : ℕ) (r s : SubAsk) → r ≡ sub_ask a b c → s ≡ sub_ask a b c → r ≡ s
@@ -475,7 +475,7 @@ pub unique_mode-bytes : (a : Page) (r s : List ℕ) → r ≡ mode_bytes a → s
 unique_mode-bytes a r s = value_once
 
 pub unique_mode_select : (n : ℕ) (l : List ℕ) (m : Deck) (r s : Done)
-    → r ≡ done_of (modeSelect n l m) → s ≡ done_of (modeSelect n l m) → r ≡ s
+    → r ≡ done_of (mode_select n l m) → s ≡ done_of (mode_select n l m) → r ≡ s
 unique_mode_select n l m r s = value_once
 
 -- ---- event
@@ -520,7 +520,7 @@ unique_numbers a r s = value_once
 pub unique-count-all : (a : Totals) (t : List ℕ) (r s : Counted) → r ≡ counted a t → s ≡ counted a t → r ≡ s
 unique-count-all a t r s = value_once
 
-pub unique-take_in : (a : Totals) (m m₁ m₂ : List ℕ) (end : ℕ) (r s : Taken)
+pub unique_take_in : (a : Totals) (m m₁ m₂ : List ℕ) (end : ℕ) (r s : Taken)
     → Took a (take end m) m r m₁ × (left_in r ≤ 65536) → Took a (take end m) m s m₂ × (left_in s ≤ 65536) → (r ≡ s) × (m₁ ≡ m₂)
-unique-take_in a m m₁ m₂ end r s p q =
+unique_take_in a m m₁ m₂ end r s p q =
     (value_once p.0.outcome q.0.outcome, value_once p.0.memory q.0.memory)

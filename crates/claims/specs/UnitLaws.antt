@@ -14,8 +14,8 @@ use Rattle.attention.specs.Unit.{attend}
 use Rattle.gate.specs.declared.fault.Fault.{Fault}
 use Rattle.gate.specs.declared.fault.Fault.TheVariants.{NoMediumClosed, NoMediumOpen, UnknownCode, OutOfRange, BadField, RemovalPrevented, IllegalMode, ListLength, ListField, NoSaving}
 use Rattle.gate.specs.Fault.{sense_of}
-use Rattle.gate.specs.Unit.{hold, pending_of, attentionSense, told, give}
-use Rattle.gate.specs.Gate.{Result, fails, goes, Reply, refuse, good, gate, pass, requestSense}
+use Rattle.gate.specs.Unit.{hold, pending_of, attention_sense, told, give}
+use Rattle.gate.specs.Gate.{Result, fails, goes, Reply, refuse, good, gate, pass, request_sense}
 use Rattle.claims.specs.Telling.{Attention, power, change, pending, any_pending, triple_of, answer_of, is_good, tells_to}
 
 -- what a packet comes to, by the steps: REQUEST SENSE, INQUIRY or 4Ah, or any other
@@ -36,7 +36,7 @@ module _ {M : Type 0} where
   is_asking (orders r) = false
 
   abbrev pub reply : Kind M → Unit → M → Reply M
-  reply (asks limit) u m = requestSense limit u m
+  reply (asks limit) u m = request_sense limit u m
   reply (frees r) u m = pass u m r
   reply (orders r) u m = gate u m r
 
@@ -127,7 +127,7 @@ attended change u s false = record { turns = refl; due = λ h. absurd (false≢t
 -- the pending attention is told, power first, or none is pending
 tells_first : (a : Attention) (p c : Bool) (h s : Sense) →
     let u : Unit = record { power = p; change = c; sense = h } in
-    Turn a u (same_sense (attentionSense (pending_of u)) (triple_of a)) false
+    Turn a u (same_sense (attention_sense (pending_of u)) (triple_of a)) false
     (record { power = (told (pending_of u) u).power; change = (told (pending_of u) u).change; sense = s })
 unfolding ◌and◌ ◌or◌ if◌then◌else◌ pending_of same_sense sense_at
 tells_first power true c h s = record { turns = refl; due = λ q. refl; apart = λ q. refl }
@@ -149,7 +149,7 @@ module _ {M : Type 0} (loads : Bool → M → Bool) (a : Attention) (memory : Li
   abbrev Turns : Bool → Unit → Reply M → Type 0
   Turns asking u r = Turn a u (tells_to a asking u (answer_of memory r) r.unit) (loads (is_good (answer_of memory r)) r.deck) r.unit
 
-  asks-turn : (limit : ℕ) (u : Unit) → loads true m ≡ false → Turns true u (requestSense limit u m)
+  asks-turn : (limit : ℕ) (u : Unit) → loads true m ≡ false → Turns true u (request_sense limit u m)
   unfolding ◌and◌ ◌or◌ sense_at
   asks-turn limit u q = rw q (give-turn a u _ refl)
 

@@ -13,7 +13,7 @@ use Rattle.deck.specs.declared.Deck.{Deck}
 use Rattle.drive.specs.declared.state.Drive.{Drive}
 use Rattle.drive.specs.declared.state.Moved.{Moved}
 use Rattle.deck.specs.Deck.{opening, closing}
-use Rattle.drive.specs.State.{isKnownState, button, lay, lift, move_on}
+use Rattle.drive.specs.State.{is_known_state, button, lay, lift, move_on}
 use Rattle.drive.specs.StateLaws.{power_on-with, power_on_without_change-with, button-unknown, button-closes, button-locked, button-opens}
 use Rattle.gate.specs.Unit.{pending_of}
 use Rattle.gate.specs.Gate.{Result, fails, goes, Reply, gate, pass}
@@ -24,7 +24,7 @@ use Rattle.command.specs.Class.{class_of}
 use Rattle.command.specs.ClassLaws.{decode_is}
 use Rattle.event.specs.EventAnswer.{is_clearing}
 use Rattle.target.specs.Perform.{perform}
-use Rattle.target.specs.Packet.{refusalOf, answer as reply_to}
+use Rattle.target.specs.Packet.{refusal_of, answer as reply_to}
 use Rattle.claims.specs.Telling.{answer_of, is_good}
 use Rattle.claims.specs.UnitLaws.{Kind, asks, frees, orders, meets}
 use Rattle.claims.specs.Call.{Form, by_default, without_change, Call, powering, pressing, laying, lifting, moving_on, packet, next, event, is_powering, is_power_on, closed, is_loading}
@@ -152,7 +152,7 @@ kind_noted j rule p t l memory u m =
 packet_noted : (p t l memory : List ℕ) (d : Drive) → NotedBy (is_poll p) memory d.deck (reply_to d p t l (length memory))
 packet_noted p t l memory d =
     let n = length memory in
-    rw (reply-kind d p t l n) (kind_noted (refusalOf d p t n) (rule_of d p t n) p t l memory d.unit d.deck)
+    rw (reply-kind d p t l n) (kind_noted (refusal_of d p t n) (rule_of d p t n) p t l memory d.unit d.deck)
 
 -- ---- the other calls
 
@@ -165,9 +165,9 @@ abbrev MovedAt : Drive → Moved → Type 0
 MovedAt d r = Noted (eqb r.number 5) (closed d.deck r.state.deck) (opens_on d.deck r.state.deck) false d.deck.event r.state.deck.event
 
 press_noted : (d : Drive) → MovedAt d (button d)
-press_noted d = go (isKnownState d) d.deck.tray_open d.deck.lock refl refl refl
+press_noted d = go (is_known_state d) d.deck.tray_open d.deck.lock refl refl refl
   where
-    go : (k t l : Bool) → isKnownState d ≡ k → d.deck.tray_open ≡ t → d.deck.lock ≡ l → MovedAt d (button d)
+    go : (k t l : Bool) → is_known_state d ≡ k → d.deck.tray_open ≡ t → d.deck.lock ≡ l → MovedAt d (button d)
     go false t l h i j = rw (button-unknown d h) (still_noted d.deck)
     go true true l h i j = rw (button-closes d h i) (closing_noted d.deck i)
     go true false true h i j = rw (button-locked d h i j, closed_still d.deck, opens_still d.deck) by-press

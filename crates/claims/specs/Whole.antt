@@ -7,18 +7,18 @@ use Rattle.deck.specs.declared.Deck.{Deck}
 use Rattle.drive.specs.declared.state.Drive.{Drive}
 use Rattle.attention.specs.Sense.{sense_at}
 use Rattle.attention.specs.SenseLaws.{is_known-at}
-use Rattle.deck.specs.Deck.{isLoaded}
-use Rattle.drive.specs.State.{isKnownState}
+use Rattle.deck.specs.Deck.{is_loaded}
+use Rattle.drive.specs.State.{is_known_state}
 use Rattle.drive.specs.StateLaws.{known-is_known_state}
 use Rattle.table.specs.Layout.{bound, last_session, descriptors}
-use Rattle.disc.specs.Rules.{isFit}
-use Rattle.disc.specs.RulesLaws.{isFit-true, fit-numbered}
-use Rattle.disc.specs.Disc.{discOf}
+use Rattle.disc.specs.Rules.{is_fit}
+use Rattle.disc.specs.RulesLaws.{is_fit_true, fit-numbered}
+use Rattle.disc.specs.Disc.{disc_of}
 use Rattle.disc.specs.Longest.{longest, longest_fit, longest-length}
 use Rattle.gate.specs.Unit.{pending_of}
 use Rattle.gate.specs.Gate.{Reply, gate}
 use Rattle.command.specs.Command.{code_of, decode}
-use Rattle.toc.specs.Answer.{format2, tocBytes, tocBad}
+use Rattle.toc.specs.Answer.{format2, toc_bytes, toc_bad}
 use Rattle.command.specs.Done.{answering}
 use Rattle.target.specs.Perform.{perform}
 use Rattle.target.specs.Packet.{steps}
@@ -29,7 +29,7 @@ use Rattle.claims.specs.KnownLaws.{restarted_known}
 use Rattle.claims.specs.WholeLaws.{fit_where-loaded, steps_of-bounded, reply-held, format2-length}
 
 -- of a fit table, or of a drive that is not loaded: no full answer, before cutting, passes the bound, whatever the packet and the state
-pub full-answers-bounded : (d : Drive) (p t l : List ℕ) → isFit t or not (isLoaded d.deck) ≡ true
+pub full-answers-bounded : (d : Drive) (p t l : List ℕ) → is_fit t or not (is_loaded d.deck) ≡ true
     → length (steps (decode (code_of p)) d.unit d.deck p t l).full ≤ bound
 full-answers-bounded d p t l h = let b = steps_of-bounded d p t l (fit_where-loaded _ _ h) in omega arith
 
@@ -63,16 +63,16 @@ abbrev pub whole_toc : List ℕ
 whole_toc = 0x43 ∷ 0x00 ∷ 0x02 ∷ 0x00 ∷ 0x00 ∷ 0x00 ∷ 0x01 ∷ 0x19 ∷ 0x8A ∷ 0x00 ∷ 0x00 ∷ 0x00 ∷ []
 
 -- of a drive "Loaded, nothing pending" the steps answer it whole
-steps_of-whole : (t l : List ℕ) → isFit t ≡ true → (steps_of loaded_e whole_toc t l).full ≡ format2 (discOf t) 1 (descriptors t)
-unfolding decode if◌then◌else◌ gate pending_of perform answering tocBad tocBytes ◌and◌
-steps_of-whole t l f = rw (le-ltb (last_session t) 1 (fit-numbered (isFit-true f)).low)
+steps_of-whole : (t l : List ℕ) → is_fit t ≡ true → (steps_of loaded_e whole_toc t l).full ≡ format2 (disc_of t) 1 (descriptors t)
+unfolding decode if◌then◌else◌ gate pending_of perform answering toc_bad toc_bytes ◌and◌
+steps_of-whole t l f = rw (le-ltb (last_session t) 1 (fit-numbered (is_fit_true f)).low)
 
-pub loaded_e_known : isKnownState loaded_e ≡ true
+pub loaded_e_known : is_known_state loaded_e ≡ true
 unfolding sense_at
 loaded_e_known = known-is_known_state loaded_e (is_known-at 0) (restarted_known loaded_e.deck)
 
 -- and so does the drive, into a memory that passes refusal 3: of any fit table the answer is as long as the table
-pub format2_as_long : (t l m : List ℕ) → isFit t ≡ true → bound ≤ length m → length (answer (packet whole_toc t l m) loaded_e).full ≡ length t
+pub format2_as_long : (t l m : List ℕ) → is_fit t ≡ true → bound ≤ length m → length (answer (packet whole_toc t l m) loaded_e).full ≡ length t
 format2_as_long t l m f h =
     ap (λ (r : Reply Deck). length r.full) (answer-steps loaded_e whole_toc t l (length m) refl loaded_e_known h (λ i. f)) ∙ ap length (steps_of-whole t l f) ∙ format2-length t f
 

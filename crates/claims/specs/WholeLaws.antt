@@ -6,14 +6,14 @@ use Rattle.ground.specs.Tests.{◌and◌, ◌or◌, either, and_head, and_tail}
 use Rattle.attention.specs.declared.Unit.{Unit}
 use Rattle.deck.specs.declared.Deck.{Deck}
 use Rattle.drive.specs.declared.state.Drive.{Drive}
-use Rattle.deck.specs.Deck.{isLoaded}
-use Rattle.drive.specs.State.{isKnownState}
+use Rattle.deck.specs.Deck.{is_loaded}
+use Rattle.drive.specs.State.{is_known_state}
 use Rattle.table.specs.Layout.{bound, header, descriptors, last_session}
 use Rattle.sessions.specs.Session.{session}
-use Rattle.disc.specs.Rules.{isFit}
-use Rattle.disc.specs.RulesLaws.{isFit-true, fit-sized, fit-numbered}
+use Rattle.disc.specs.Rules.{is_fit}
+use Rattle.disc.specs.RulesLaws.{is_fit_true, fit_sized, fit-numbered}
 use Rattle.disc.specs.FitLaws.{session-none}
-use Rattle.disc.specs.Disc.{discOf}
+use Rattle.disc.specs.Disc.{disc_of}
 use Rattle.gate.specs.declared.unit.Pending.{Pending}
 use Rattle.gate.specs.declared.unit.Pending.TheVariants.{Power, Change, Nothing}
 use Rattle.gate.specs.Unit.{pending_of}
@@ -22,19 +22,19 @@ use Rattle.command.specs.declared.decode.Command.{Command}
 use Rattle.command.specs.declared.decode.Command.TheVariants.{TestUnitReady, RequestSense, Inquiry, StartStop, Prevent, ReadCapacity, Read10, Seek, ReadToc, Read12, PlayAudio, PauseResume, ReadSubChannel, ModeSense, ModeSelect, GetEvent, Unknown}
 use Rattle.command.specs.declared.decode.Kind.{Kind}
 use Rattle.command.specs.declared.decode.Kind.TheVariants.{Asks, Passes, Gates}
-use Rattle.command.specs.Command.{byte, bit0, needsDisc, addressIn, lengthIn, code_of, decode, kind_of}
+use Rattle.command.specs.Command.{byte, bit0, needs_disc, address_in, length_in, code_of, decode, kind_of}
 use Rattle.toc.specs.Answer.{whole, format2}
-use Rattle.toc.specs.AnswerLaws.{head_of, headed-one, whole_fit, tocBytes-within}
+use Rattle.toc.specs.AnswerLaws.{head_of, headed-one, whole_fit, toc_bytes-within}
 use Rattle.command.specs.Done.{answering}
-use Rattle.tracks.specs.Track.{trackOf}
-use Rattle.audio.specs.SubChannel.{subAskIn}
+use Rattle.tracks.specs.Track.{track_of}
+use Rattle.audio.specs.SubChannel.{sub_ask_in}
 use Rattle.audio.specs.SubChannelLaws.{sub_bytes-length}
 use Rattle.mode.specs.ModeSenseLaws.{mode_sense-ways}
 use Rattle.event.specs.EventAnswerLaws.{get_event-ways}
-use Rattle.target.specs.ReadToc.{format_in, msfIn, number_in}
+use Rattle.target.specs.ReadToc.{format_in, msf_in, number_in}
 use Rattle.target.specs.Perform.{L, work, perform}
-use Rattle.target.specs.PerformLaws.{full_of, startStop-quiet, seek-quiet, ranged-quiet, pauseResume-quiet, modeSelect-quiet}
-use Rattle.target.specs.Packet.{steps_by, refusalOf, answer as reply_to}
+use Rattle.target.specs.PerformLaws.{full_of, start_stop_quiet, seek_quiet, ranged_quiet, pause_resume_quiet, mode_select_quiet}
+use Rattle.target.specs.Packet.{steps_by, refusal_of, answer as reply_to}
 use Rattle.target.specs.PacketLaws.{steps_of}
 use Rattle.claims.specs.UnitLaws.{meets}
 use Rattle.claims.specs.PacketLaws.{kind, rule_of, steps_of-kind, reply-kind}
@@ -70,33 +70,33 @@ unfolding answering
 answering-bounded bad next full limit h = either Bounded bad (λ b. omega arith) (λ b. h)
 
 -- of a command that has what it needs
-work-bounded : (c : Command) (p : List ℕ) (m : Deck) (t l : List ℕ) → (needsDisc c p ≡ true → Short t) → Bounded (work c p m t l)
+work-bounded : (c : Command) (p : List ℕ) (m : Deck) (t l : List ℕ) → (needs_disc c p ≡ true → Short t) → Bounded (work c p m t l)
 work-bounded TestUnitReady p m t l s = omega arith
 work-bounded RequestSense p m t l s = omega arith
 work-bounded Inquiry p m t l s = answering-bounded _ m _ _ (omega arith)
-work-bounded StartStop p m t l s = rw (startStop-quiet (byte p 4) m) (omega arith)
+work-bounded StartStop p m t l s = rw (start_stop_quiet (byte p 4) m) (omega arith)
 work-bounded Prevent p m t l s = omega arith
 work-bounded ReadCapacity p m t l s = answering-bounded _ m _ _ (omega arith)
-work-bounded Read10 p m t l s = rw (ranged-quiet _ _ _ _ _ refl) (omega arith)
-work-bounded Seek p m t l s = rw (seek-quiet (addressIn p) (L t) m) (omega arith)
+work-bounded Read10 p m t l s = rw (ranged_quiet _ _ _ _ _ refl) (omega arith)
+work-bounded Seek p m t l s = rw (seek_quiet (address_in p) (L t) m) (omega arith)
 work-bounded ReadToc p m t l s =
-    answering-bounded _ m _ _ (tocBytes-within (discOf t) (format_in p) (msfIn p) (number_in p) (descriptors t) (s refl))
-work-bounded Read12 p m t l s = rw (ranged-quiet _ _ _ _ _ refl) (omega arith)
-work-bounded PlayAudio p m t l s = rw (ranged-quiet _ _ _ _ _ refl) (omega arith)
-work-bounded PauseResume p m t l s = rw (pauseResume-quiet (bit0 (byte p 8)) m) (omega arith)
+    answering-bounded _ m _ _ (toc_bytes-within (disc_of t) (format_in p) (msf_in p) (number_in p) (descriptors t) (s refl))
+work-bounded Read12 p m t l s = rw (ranged_quiet _ _ _ _ _ refl) (omega arith)
+work-bounded PlayAudio p m t l s = rw (ranged_quiet _ _ _ _ _ refl) (omega arith)
+work-bounded PauseResume p m t l s = rw (pause_resume_quiet (bit0 (byte p 8)) m) (omega arith)
 work-bounded ReadSubChannel p m t l s =
-    let e = sub_bytes-length (subAskIn p) (trackOf (descriptors t) m.play.position) m.play in
+    let e = sub_bytes-length (sub_ask_in p) (track_of (descriptors t) m.play.position) m.play in
     answering-bounded _ _ _ _ (omega arith)
-work-bounded ModeSense p m t l s = mode_sense-ways Bounded (lengthIn p) m (byte p 2) (λ f. omega arith) (λ g. omega arith)
-work-bounded ModeSelect p m t l s = rw (modeSelect-quiet (lengthIn p) l m) (omega arith)
+work-bounded ModeSense p m t l s = mode_sense-ways Bounded (length_in p) m (byte p 2) (λ f. omega arith) (λ g. omega arith)
+work-bounded ModeSelect p m t l s = rw (mode_select_quiet (length_in p) l m) (omega arith)
 work-bounded GetEvent p m t l s =
-    get_event-ways Bounded (lengthIn p) m (byte p 1) (byte p 4) (omega arith) (λ full h. let k = h in omega arith)
+    get_event-ways Bounded (length_in p) m (byte p 1) (byte p 4) (omega arith) (λ full h. let k = h in omega arith)
 work-bounded Unknown p m t l s = omega arith
 
-perform-bounded : (c : Command) (p : List ℕ) (m : Deck) (t l : List ℕ) → (isLoaded m ≡ true → Short t) → Bounded (perform c p m t l)
+perform-bounded : (c : Command) (p : List ℕ) (m : Deck) (t l : List ℕ) → (is_loaded m ≡ true → Short t) → Bounded (perform c p m t l)
 unfolding perform
 perform-bounded c p m t l s =
-    either Bounded (needsDisc c p and not (isLoaded m)) (λ h. omega arith) (λ h. work-bounded c p m t l (λ n. s (second_holds _ _ h n)))
+    either Bounded (needs_disc c p and not (is_loaded m)) (λ h. omega arith) (λ h. work-bounded c p m t l (λ n. s (second_holds _ _ h n)))
 
 -- ---- and what the steps make of it
 
@@ -121,10 +121,10 @@ steps_by-bounded Passes c u m p t l h = pass-bounded u m (perform c p m t l) h
 steps_by-bounded Gates c u m p t l h = meet-bounded (pending_of u) u m (perform c p m t l) h
 
 -- a fit table is no longer than the bound
-fit_short : (t : List ℕ) → isFit t ≡ true → Short t
-fit_short t h = let s = fit-sized (isFit-true h) in let a = s.least in let b = s.most in let l = length-drop header t in omega arith
+fit_short : (t : List ℕ) → is_fit t ≡ true → Short t
+fit_short t h = let s = fit_sized (is_fit_true h) in let a = s.least in let b = s.most in let l = length-drop header t in omega arith
 
-pub steps_of-bounded : (d : Drive) (p t l : List ℕ) → (isLoaded d.deck ≡ true → isFit t ≡ true) → length (steps_of d p t l).full ≤ bound
+pub steps_of-bounded : (d : Drive) (p t l : List ℕ) → (is_loaded d.deck ≡ true → is_fit t ≡ true) → length (steps_of d p t l).full ≤ bound
 steps_of-bounded d p t l f =
     let c = decode (code_of p) in
     steps_by-bounded (kind_of c) c d.unit d.deck p t l (perform-bounded c p d.deck t l (λ i. fit_short t (f i)))
@@ -137,9 +137,9 @@ Held n r = (length r.full ≤ bound) × (length r.full ≤ n)
 
 -- one that is refused has no bytes, and any other has passed refusal 3
 pub reply-held : (d : Drive) (p t l : List ℕ) (n : ℕ) → Held n (reply_to d p t l n)
-reply-held d p t l n = rw (reply-kind d p t l n) (by_number (refusalOf d p t n) (refusal-ordered d p t n).zero)
+reply-held d p t l n = rw (reply-kind d p t l n) (by_number (refusal_of d p t n) (refusal-ordered d p t n).zero)
   where
-    by_number : (j : ℕ) → eqb j 0 ≡ eqb (length p) 12 and isKnownState d and not (ltb n bound) and not (isLoaded d.deck and not (isFit t))
+    by_number : (j : ℕ) → eqb j 0 ≡ eqb (length p) 12 and is_known_state d and not (ltb n bound) and not (is_loaded d.deck and not (is_fit t))
         → Held n (meets j (rule_of d p t n) (kind p d.deck t l) d.unit d.deck)
     by_number zero e =
         let h = and_tail _ _ (and_tail _ _ (sym e)) in
@@ -152,15 +152,15 @@ reply-held d p t l n = rw (reply-kind d p t l n) (by_number (refusalOf d p t n) 
 -- ---- READ TOC by format 2
 
 -- from session 1 on it is as long as the table
-pub format2-length : (t : List ℕ) → isFit t ≡ true → length (format2 (discOf t) 1 (descriptors t)) ≡ length t
+pub format2-length : (t : List ℕ) → is_fit t ≡ true → length (format2 (disc_of t) 1 (descriptors t)) ≡ length t
 unfolding format2
 format2-length t h =
-    let f = isFit-true h in
+    let f = is_fit_true h in
     let d = descriptors t in
     let x = whole (session d 0) in
     let e = ap length (headed-one 1 (last_session t) x) in
     let a = length-append (head_of 1 (last_session t) (2 + length x)) x in
     let q = ap length (whole_fit f 0 (fit-numbered f).low ∙ session-none d) in
     let l = length-drop header t in
-    let b = (fit-sized f).least in
+    let b = (fit_sized f).least in
     omega arith

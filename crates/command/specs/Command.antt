@@ -52,8 +52,8 @@ abbrev pub word_at : List ℕ → ℕ → ℕ
 word_at p i = word32 (byte p i) (byte p (i + 1)) (byte p (i + 2)) (byte p (i + 3))
 
 -- "address in bytes 2 to 5"
-abbrev pub addressIn : List ℕ → ℕ
-addressIn p = word_at p 2
+abbrev pub address_in : List ℕ → ℕ
+address_in p = word_at p 2
 
 -- "count in 7 to 8 (28h) or 6 to 9 (A8h)"; K2: PLAY AUDIO(10)'s stands where READ(10)'s does
 abbrev pub count10 : List ℕ → ℕ
@@ -63,8 +63,8 @@ abbrev pub count12 : List ℕ → ℕ
 count12 p = word_at p 6
 
 -- "length in 7 to 8" (43h); K2: 42h's stands there too, and K4: 5Ah's and 55h's, K7: 4Ah's
-abbrev pub lengthIn : List ℕ → ℕ
-lengthIn p = word16 (byte p 7) (byte p 8)
+abbrev pub length_in : List ℕ → ℕ
+length_in p = word16 (byte p 7) (byte p 8)
 
 -- "1Bh: byte 4 bit 1 LoEj, bit 0 Start"
 abbrev pub lo_ej : List ℕ → Bool
@@ -98,8 +98,8 @@ needing ModeSelect b = false
 needing GetEvent b = false
 needing Unknown b = false
 
-abbrev pub needsDisc : Command → List ℕ → Bool
-needsDisc c p = needing c (byte p 4)
+abbrev pub needs_disc : Command → List ℕ → Bool
+needs_disc c p = needing c (byte p 4)
 
 -- "1. INQUIRY and REQUEST SENSE are performed even with an attention pending. 2. Any other: .."; K7: 4Ah "is performed while an attention is
 -- pending, tells none, and leaves the sense when GOOD", as INQUIRY is

@@ -24,13 +24,13 @@ load m = if m.tray_open then moving (closing m) else done m
 
 -- "(0,0) is GOOD, and (0,1) when loaded; neither moves anything."
 -- b is the packet's byte 4: "byte 4 bit 1 LoEj, bit 0 Start"
-unfoldable pub startStop : ℕ → Deck → Result Deck
-startStop b m = if bit1 b then (if bit0 b then load m else eject m) else done m
+unfoldable pub start_stop : ℕ → Deck → Result Deck
+start_stop b m = if bit1 b then (if bit0 b then load m else eject m) else done m
 
 -- "1Eh: the lock becomes byte 4 bit 0."
 abbrev pub prevent : ℕ → Deck → Result Deck
 prevent b m = done (with_lock m (bit0 b))
 
 -- "02/3A/02 with the tray open, 02/3A/01 closed"
-abbrev pub noMedium : Deck → Fault
-noMedium m = if m.tray_open then NoMediumOpen else NoMediumClosed
+abbrev pub no_medium : Deck → Fault
+no_medium m = if m.tray_open then NoMediumOpen else NoMediumClosed

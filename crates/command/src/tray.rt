@@ -1,6 +1,6 @@
 // START/STOP UNIT, PREVENT/ALLOW, and a drive with no disc.
 ghost use Rattle.std.specs.Prelude.{◌≡◌};
-ghost use Rattle.command.specs.Tray.{moving, eject, load, startStop, prevent, noMedium};
+ghost use Rattle.command.specs.Tray.{moving, eject, load, start_stop, prevent, no_medium};
 ghost use Rattle.command.specs.Done.{done_of};
 
 use crate::done::{Done, Went, done_with};
@@ -47,7 +47,7 @@ fn load(m: Deck) -> Done
 
 // START/STOP UNIT: with LoEj the tray moves, else nothing does.
 pub fn start_stop(b: u8, m: Deck) -> Done
-    ensures { result ≡ done_of (startStop b m) }
+    ensures { result ≡ done_of (start_stop b m) }
 {
     if bit1(b) {
         if bit0(b) {
@@ -67,7 +67,7 @@ pub fn prevent(b: u8, m: Deck) -> Done
 
 // No medium: the tray tells which.
 pub fn no_medium(m: Deck) -> Fault
-    ensures { result ≡ noMedium m }
+    ensures { result ≡ no_medium m }
 {
     if m.tray_open {
         return Fault::NoMediumOpen;

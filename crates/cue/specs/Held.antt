@@ -2,7 +2,7 @@
 use Rattle.std.specs.Prelude.{◌≡◌, true, List, [], ◌∷◌, ◌++◌, ℕ, zero, suc, ◌<◌, get_or}
 use Rattle.ground.specs.Tests.{if◌then◌else◌}
 use Rattle.table.specs.Layout.{last_session, descriptors, rows, flags_at, point_at, pmin_at, psec_at, pframe_at, is_track}
-use Rattle.disc.specs.Rules.{isFit}
+use Rattle.disc.specs.Rules.{is_fit}
 use Rattle.cue.specs.declared.entry.Track.{Track}
 use Rattle.cue.specs.Sheet.{AA}
 
@@ -29,10 +29,10 @@ held_lead_out t = placed_at (descriptors t) 2 AA
 
 -- "fit table has those tracks, controls and addresses": a fit one, of one session; every ADR is 1 in a sheet and in a fit table
 pub record Holds (t : List ℕ) (ts : List Track) (out : Track) : Type 0 where
-  pub fit : isFit t ≡ true
+  pub fit : is_fit t ≡ true
   pub one : last_session t ≡ 1
   pub tracks : held_tracks t ≡ ts
-  pub leadOut : held_lead_out t ≡ out
+  pub session_lead_out : held_lead_out t ≡ out
 
 -- a list of bytes
 pub record Bytes (l : List ℕ) : Type 0 where

@@ -17,8 +17,8 @@ use Rattle.table.specs.AskedLaws.{extra_passed_other}
 use Rattle.table.specs.declared.row.Row.{Row}
 use Rattle.sessions.specs.Session.{first, last, tracks, b0s, c0s, size, starts}
 use Rattle.sessions.specs.SessionLaws.{one_not}
-use Rattle.disc.specs.Rules.{rule1, rule2, isFit}
-use Rattle.disc.specs.RulesLaws.{Fit, isFit-true}
+use Rattle.disc.specs.Rules.{rule1, rule2, is_fit}
+use Rattle.disc.specs.RulesLaws.{Fit, is_fit_true}
 use Rattle.disc.specs.Walk.{heads_kept, floor_at, track_kept, tracks_kept, extras_kept, session_kept, floor_of, next_of, step_kept, walk_kept}
 use Rattle.disc.specs.WalkFit.{fit-walk, walk_fit}
 use Rattle.cue.specs.declared.entry.Track.{Track}
@@ -154,7 +154,7 @@ holds-placed d j flags point low = refl
 
 module _ {t : List ℕ} {ts : List Track} {out : Track} (h : Holds t ts out) where
   is-fit : Fit t
-  is-fit = isFit-true h.fit
+  is-fit = is_fit_true h.fit
 
   made-length : length ts ≡ tracks (descriptors t)
   made-length = ap length (sym h.tracks ∙ single-tracks is-fit h.one) ∙ up_to-length (λ i. track_at (descriptors t) (3 + i)) _
@@ -239,7 +239,7 @@ module _ {t : List ℕ} {ts : List Track} {out : Track} (h : Holds t ts out) whe
       (and_both _ _ (made_kept _ _ _ _ _ a) (climbs-placed d (3 + i) _ _ _ ∙ and_tail _ _ w))
 
   made-A2 : row_at (body_of ts out) 2 ≡ placed A2 (held_lead_out t)
-  made-A2 = body-A2 ts out ∙ ap (placed A2) (sym h.leadOut)
+  made-A2 = body-A2 ts out ∙ ap (placed A2) (sym h.session_lead_out)
 
   made-heads : heads_kept (body_of ts out) 1 ≡ true
   unfolding heads_kept track_kept
@@ -290,7 +290,7 @@ module _ {t : List ℕ} {ts : List Track} {out : Track} (h : Holds t ts out) whe
       and_both _ _ (le-leb header (length u) (omega arith)) (and_both _ _ (le-leb (length u) bound (omega arith)) (and_both _ _ (eq-eqb ((length u - header) % row) 0 (omega arith))
       (eq-eqb _ (length u - 2) (bytes16_exact (2 + length (body_of ts out)) (omega arith) ∙ omega arith))))
 
-  pub made-fit : isFit (table_with ts out) ≡ true
+  pub made-fit : is_fit (table_with ts out) ≡ true
   unfolding rule2 table_with ◌and◌
   made-fit = sym (walk_fit (table_with ts out) made-rule1 refl) ∙ made-walk
 
@@ -305,8 +305,8 @@ unfolding table_with
 made-rows ts out = refl
 
 -- the track of a descriptor
-abbrev trackOf : Row → Track
-trackOf r = record { flags = r.flags; number = r.point; minute = r.pmin; second = r.psec; frame = r.pframe }
+abbrev track_of : Row → Track
+track_of r = record { flags = r.flags; number = r.point; minute = r.pmin; second = r.psec; frame = r.pframe }
 
 -- numbered tracks are as many as A0 and A1 tell
 numbered-count : (ts : List Track) (out : Track) → is_numbered ts ≡ true → tracks (body_of ts out) ≡ length ts
@@ -323,18 +323,18 @@ numbered-tracks ts out n =
     let e = up_to-length f (tracks (body_of ts out)) in
     let c = numbered-count ts out n in
     ext_get_or no_track (up_to f (tracks (body_of ts out))) ts (e ∙ c)
-    (λ i l. up_to-at f (tracks (body_of ts out)) i (omega arith) ∙ ap trackOf (body-track ts out i (omega arith)))
+    (λ i l. up_to-at f (tracks (body_of ts out)) i (omega arith) ∙ ap track_of (body-track ts out i (omega arith)))
 
 -- a made table that is fit is of one session and holds what it was made of
-pub made_holds : (ts : List Track) (out : Track) → is_numbered ts ≡ true → out.number ≡ AA → isFit (table_with ts out) ≡ true
+pub made_holds : (ts : List Track) (out : Track) → is_numbered ts ≡ true → out.number ≡ AA → is_fit (table_with ts out) ≡ true
     → Holds (table_with ts out) ts out
 made_holds ts out n a f = record {
   fit = f;
   one = made_one ts out;
-  tracks = single-tracks (isFit-true f) (made_one ts out)
+  tracks = single-tracks (is_fit_true f) (made_one ts out)
       ∙ ap (λ (d : List ℕ). up_to (λ i. track_at d (3 + i)) (tracks d)) (made-rows ts out)
       ∙ numbered-tracks ts out n;
-  leadOut = ap (λ (d : List ℕ). placed_at d 2 AA) (made-rows ts out)
+  session_lead_out = ap (λ (d : List ℕ). placed_at d 2 AA) (made-rows ts out)
       ∙ ap (λ (r : Row). record { flags = r.flags; number = AA; minute = r.pmin; second = r.psec; frame = r.pframe }) (body-A2 ts out)
       ∙ (λ i. record { flags = out.flags; number = sym a i; minute = out.minute; second = out.second; frame = out.frame });
 }
@@ -378,11 +378,11 @@ module _ (ts : List Track) (out : Track) where
       timeless e = (ap (λ (r : Row). r.min) e, ap (λ (r : Row). r.sec) e, ap (λ (r : Row). r.frame) e)
 
   -- no B0h and no C0h
-  pub made_plain : is_numbered ts ≡ true → isFit (table_with ts out) ≡ true → (j : ℕ) → j < rows (descriptors (table_with ts out))
+  pub made_plain : is_numbered ts ≡ true → is_fit (table_with ts out) ≡ true → (j : ℕ) → j < rows (descriptors (table_with ts out))
       → is_extra (point_at (descriptors (table_with ts out)) j) ≡ false
   made_plain n f j l =
       let c = numbered-count ts out n in
-      single-plain (isFit-true f) (made_one ts out) (made-count ∙ ap (λ (k : ℕ). 3 + k) (sym c ∙ ap tracks (sym (made-rows ts out)))) j l
+      single-plain (is_fit_true f) (made_one ts out) (made-count ∙ ap (λ (k : ℕ). 3 + k) (sym c ∙ ap tracks (sym (made-rows ts out)))) j l
 
 -- ---- the tracks of any fit table of one session are numbered
 

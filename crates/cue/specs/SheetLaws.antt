@@ -44,7 +44,7 @@ has_adr_other e h = ne_eqb _ _ h
 pub record Described (s : List ℕ) : Type 0 where
   pub two : 2 ≤ entries s
   pub lead_in : is_lead_in (entry_at s 0) ≡ true
-  pub leadOut : is_lead_out (entry_at s (entries s - 1)) ≡ true
+  pub session_lead_out : is_lead_out (entry_at s (entries s - 1)) ≡ true
   pub adr : every_adr s ≡ true
   pub numbered : is_numbered (tracks_of s) ≡ true
 
@@ -57,7 +57,7 @@ is_described_parts s h =
     record {
       two = leb-true _ _ (and_head _ _ f);
       lead_in = and_head _ _ l;
-      leadOut = and_tail _ _ l;
+      session_lead_out = and_tail _ _ l;
       adr = and_head _ _ r;
       numbered = and_tail _ _ r;
     }

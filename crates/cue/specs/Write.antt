@@ -3,7 +3,7 @@ use Rattle.std.specs.Prelude.{◌≡◌, List, [], ℕ, ◌%◌, length, ltb, eq
 use Rattle.ground.specs.Tests.{if◌then◌else◌}
 use Rattle.ground.specs.Memory.{fill}
 use Rattle.table.specs.Layout.{bound}
-use Rattle.disc.specs.Rules.{isFit}
+use Rattle.disc.specs.Rules.{is_fit}
 use Rattle.cue.specs.declared.write.Written.{Written}
 use Rattle.cue.specs.Sheet.{entry_size, is_described}
 use Rattle.cue.specs.Made.{table_of}
@@ -28,7 +28,7 @@ no_room = 14
 
 -- "The written table is fit"
 unfoldable pub hand_out : List ℕ → Answer
-hand_out t = if isFit t then record { number = 0; bytes = t } else refuse no_table
+hand_out t = if is_fit t then record { number = 0; bytes = t } else refuse no_table
 
 -- "no fit table has those tracks, controls and addresses or the entries aren't as described here": of a sheet of whole entries
 unfoldable pub whole_answer : List ℕ → Answer

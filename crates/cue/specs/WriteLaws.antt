@@ -5,7 +5,7 @@ use Rattle.std.proofs.Math.Decide.{dec_le, ℕ_discrete}
 use Rattle.ground.specs.Tests.{when, unless}
 use Rattle.ground.specs.Memory.{Laid, fill_none, laid_fits}
 use Rattle.table.specs.Layout.{bound}
-use Rattle.disc.specs.Rules.{fault, isFit}
+use Rattle.disc.specs.Rules.{fault, is_fit}
 use Rattle.disc.specs.RulesLaws.{fault-first}
 use Rattle.cue.specs.declared.write.Written.{Written}
 use Rattle.cue.specs.Sheet.{entry_size, is_described}
@@ -23,12 +23,12 @@ fault-most t e = let m = (fault-first t).most in omega arith
 -- a fit table that the memory holds
 pub hand_out_fit :
     {t m m' : List ℕ} {n r : ℕ} → fault t ≡ 0 → n ≡ length t → n ≤ length m → Laid m t r m' → Turned (hand_out t) m (record { number = 0; len = n }) m'
-unfolding hand_out isFit
+unfolding hand_out is_fit
 hand_out_fit h e k l =
     rw (when _ _ _ (eq-eqb _ _ h)) (record { outcome = ap (λ (n : ℕ). record { number = 0; len = n }) e; memory = l.bytes })
 
 pub hand_out-unfit : (t m : List ℕ) {r : Written} → (fault t ≡ 0 → ⊥) → r ≡ written_of (refuse no_table) → Turned (hand_out t) m r m
-unfolding hand_out isFit
+unfolding hand_out is_fit
 hand_out-unfit t m h e = rw (unless _ _ _ (ne_eqb _ _ h)) (turned-refuse no_table m e)
 
 -- a sheet of whole entries
@@ -59,8 +59,8 @@ pub data Case (s : List ℕ) (m : ℕ) : Type 0 where
   short : m < bound → answer s m ≡ refuse no_room → Case s m
   broken : bound ≤ m → (length s % entry_size ≡ 0 → ⊥) → answer s m ≡ refuse not_whole → Case s m
   other : bound ≤ m → length s % entry_size ≡ 0 → is_described s ≡ false → answer s m ≡ refuse no_table → Case s m
-  none : bound ≤ m → length s % entry_size ≡ 0 → is_described s ≡ true → isFit (table_of s) ≡ false → answer s m ≡ refuse no_table → Case s m
-  made : bound ≤ m → length s % entry_size ≡ 0 → is_described s ≡ true → isFit (table_of s) ≡ true
+  none : bound ≤ m → length s % entry_size ≡ 0 → is_described s ≡ true → is_fit (table_of s) ≡ false → answer s m ≡ refuse no_table → Case s m
+  made : bound ≤ m → length s % entry_size ≡ 0 → is_described s ≡ true → is_fit (table_of s) ≡ true
       → answer s m ≡ record { number = 0; bytes = table_of s } → Case s m
 
 pub answer-cases : (s : List ℕ) (m : ℕ) → Case s m
@@ -73,10 +73,10 @@ answer-cases s m = elim (dec_le bound m) [
   | no h ↦ short (lt_of_not-le h) (answer-no_room s m (lt_of_not-le h))
 ]
   where
-    fits : bound ≤ m → length s % entry_size ≡ 0 → is_described s ≡ true → (b : Bool) → isFit (table_of s) ≡ b → Case s m
+    fits : bound ≤ m → length s % entry_size ≡ 0 → is_described s ≡ true → (b : Bool) → is_fit (table_of s) ≡ b → Case s m
     fits h k d true e = made h k d e (answer-whole s m h k ∙ whole_answer-described s d ∙ when _ _ _ e)
     fits h k d false e = none h k d e (answer-whole s m h k ∙ whole_answer-described s d ∙ unless _ _ _ e)
 
     described : bound ≤ m → length s % entry_size ≡ 0 → (b : Bool) → is_described s ≡ b → Case s m
-    described h k true d = fits h k d (isFit (table_of s)) refl
+    described h k true d = fits h k d (is_fit (table_of s)) refl
     described h k false d = other h k d (answer-whole s m h k ∙ whole_answer_not s d)

@@ -26,8 +26,8 @@ abbrev pub is_event : ℕ → Bool
 is_event e = leb e opened
 
 -- "Loaded means tray closed with a disc in."
-abbrev pub isLoaded : Deck → Bool
-isLoaded m = not m.tray_open and m.disc_in
+abbrev pub is_loaded : Deck → Bool
+is_loaded m = not m.tray_open and m.disc_in
 
 -- K7: "2 loading, 3 opening with a disc": the event after the tray moved, which without a disc stays
 abbrev pub event_moved : Deck → ℕ → ℕ

@@ -1,7 +1,7 @@
 // The deck: tray, disc, lock, play record, mode page and media event, and what the tray's moving and power-on do to them.
 #![tactic(auto)]
 ghost use Rattle.std.specs.Prelude.{◌≡◌};
-ghost use Rattle.deck.specs.Deck.{is_event, event_moved, opening, closed_play, closing, restarted, with_disc, with_lock, with_play, with_page, with_event, isLoaded};
+ghost use Rattle.deck.specs.Deck.{is_event, event_moved, opening, closed_play, closing, restarted, with_disc, with_lock, with_play, with_page, with_event, is_loaded};
 
 use page::{Page, defaults};
 use play::{Play, no_play};
@@ -44,7 +44,7 @@ pub fn is_event(event: u8) -> bool
 impl Deck {
     // Tray closed with a disc in.
     pub fn is_loaded(self) -> bool
-        ensures { result ≡ isLoaded self }
+        ensures { result ≡ is_loaded self }
     {
         if self.tray_open {
             return false;

@@ -4,14 +4,14 @@ use Rattle.ground.specs.Tests.{if◌then◌else◌}
 use Rattle.table.specs.Layout.{last_session, descriptors, flags_at, point_at}
 use Rattle.table.specs.Row.{address_at}
 use Rattle.sessions.specs.Session.{first, last, session}
-use Rattle.disc.specs.Rules.{leadOut, fault, isFit}
+use Rattle.disc.specs.Rules.{session_lead_out, fault, is_fit}
 use Rattle.disc.specs.declared.disc.Disc.{Disc}
 use Rattle.disc.specs.declared.disc.Reading.{Reading}
 use Rattle.disc.specs.declared.disc.Reading.TheVariants.{Fit, Unfit}
 
 -- the last session, from its A0 descriptor on
-abbrev pub lastPart : List ℕ → List ℕ
-lastPart t = session (descriptors t) (last_session t - 1)
+abbrev pub last_part : List ℕ → List ℕ
+last_part t = session (descriptors t) (last_session t - 1)
 
 -- of the descriptors of n sessions: the first and the last track of the disc, S, "L is the last session's lead-out" with its ADR/control, and
 -- "the last session's first track": the descriptor after A0, A1 and A2
@@ -20,7 +20,7 @@ disc_from n d = record {
   first = first d;
   last = last (session d (n - 1));
   sessions = n;
-  lead_out = leadOut (session d (n - 1));
+  lead_out = session_lead_out (session d (n - 1));
   lead_flags = flags_at (session d (n - 1)) 2;
   last_first = point_at (session d (n - 1)) 3;
   last_first_flags = flags_at (session d (n - 1)) 3;
@@ -28,9 +28,9 @@ disc_from n d = record {
 }
 
 -- of a table
-abbrev pub discOf : List ℕ → Disc
-discOf t = disc_from (last_session t) (descriptors t)
+abbrev pub disc_of : List ℕ → Disc
+disc_of t = disc_from (last_session t) (descriptors t)
 
 -- a lent table is read: the disc of a fit one, else the number of the first broken rule
 unfoldable pub reading : List ℕ → Reading
-reading t = if isFit t then Fit (discOf t) else Unfit (fault t)
+reading t = if is_fit t then Fit (disc_of t) else Unfit (fault t)

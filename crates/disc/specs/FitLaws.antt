@@ -12,9 +12,9 @@ use Rattle.table.specs.RowLaws.{row_from-drop, is_track_true, addressed_range, r
 use Rattle.table.specs.declared.row.Row.{Row}
 use Rattle.sessions.specs.Session.{first, last, tracks, count, starts, session, follows}
 use Rattle.sessions.specs.SessionLaws.{extras-most, extras_each, starts_none, Listed, listed_parts, in_place-follows, before-next, rows_before, rows_before-next, starts-rows}
-use Rattle.disc.specs.Rules.{each_row, leadOut, track_start, rises, out_before, begins_after, rising, rule7}
+use Rattle.disc.specs.Rules.{each_row, session_lead_out, track_start, rises, out_before, begins_after, rising, rule7}
 use Rattle.disc.specs.RulesLaws.{Fit, out_before-next, fit-numbered, fit-places, fit-end-rows, fit-session, fit-last}
-use Rattle.disc.specs.Disc.{lastPart}
+use Rattle.disc.specs.Disc.{last_part}
 
 -- ---- where the descriptors of a session stand among all
 
@@ -99,7 +99,7 @@ steps_rise f n h i (suc j) l g =
 -- the starts of the n tracks of the session that s begins with rise, and lie before its lead-out
 pub record Rises (s : List ℕ) (n : ℕ) : Type 0 where
   pub tracks : (i j : ℕ) → i < j → j < n → track_start s i < track_start s j
-  pub lead : (i : ℕ) → i < n → track_start s i < leadOut s
+  pub lead : (i : ℕ) → i < n → track_start s i < session_lead_out s
 
 pub rises_parts : {s : List ℕ} {n : ℕ} → rises s n ≡ true → Rises s n
 unfolding rises
@@ -116,7 +116,7 @@ rises_parts {s} {n} h = record {
         steps_rise (track_start s) (n - 1)
         (λ i l. ltb-true _ _ (every-at (n - 1) (λ m. ltb (track_start s m) (track_start s (m + 1))) (and_head _ _ h) i l))
 
-    top : track_start s (n - 1) < leadOut s
+    top : track_start s (n - 1) < session_lead_out s
     top = ltb-true _ _ (and_tail _ _ h)
 
 -- ---- the first session begins at the table's first descriptor
@@ -128,8 +128,8 @@ session-none d = refl
 -- the first and the last track of the disc
 pub record Span (t : List ℕ) : Type 0 where
   pub low : 1 ≤ first (descriptors t)
-  pub order : first (descriptors t) ≤ last (lastPart t)
-  pub high : last (lastPart t) ≤ 99
+  pub order : first (descriptors t) ≤ last (last_part t)
+  pub high : last (last_part t) ≤ 99
 
 -- ---- a fit table's descriptors
 
@@ -181,7 +181,7 @@ module _ {t : List ℕ} (f : Fit t) where
       record {
         low = omega arith;
         order = elim (ℕ_discrete (last_session t - 1) 0) [
-          | yes q ↦ (let z : last (lastPart t) ≡ last (session (descriptors t) 0) = ap (λ (x : ℕ). last (session (descriptors t) x)) q in omega arith)
+          | yes q ↦ (let z : last (last_part t) ≡ last (session (descriptors t) 0) = ap (λ (x : ℕ). last (session (descriptors t) x)) q in omega arith)
           | no q ↦ (let r = fit-tracks-rise 0 (last_session t - 1) (omega arith) (omega arith) in omega arith)
         ];
         high = b.high;
@@ -214,8 +214,8 @@ module _ {t : List ℕ} (f : Fit t) where
       (omega arith, omega arith)
 
   pub fit_count :
-      (3 * last_session t + (last (lastPart t) + 1) ≤ rows (descriptors t) + first (descriptors t))
-      × (rows (descriptors t) + first (descriptors t) ≤ 5 * last_session t + (last (lastPart t) + 1))
+      (3 * last_session t + (last (last_part t) + 1) ≤ rows (descriptors t) + first (descriptors t))
+      × (rows (descriptors t) + first (descriptors t) ≤ 5 * last_session t + (last (last_part t) + 1))
   fit_count =
       let n = fit-numbered f in
       let e : last_session t - 1 + 1 ≡ last_session t = omega arith in
@@ -265,7 +265,7 @@ module _ {t : List ℕ} (f : Fit t) where
   fit-rises {k} h = rises_parts (and_head _ _ (every-at _ _ f.rule7 k h))
 
   -- and the next session's first track starts after it
-  pub fit-begins : (k : ℕ) → k + 1 < last_session t → leadOut (session (descriptors t) k) < track_start (session (descriptors t) (k + 1)) 0
+  pub fit-begins : (k : ℕ) → k + 1 < last_session t → session_lead_out (session (descriptors t) k) < track_start (session (descriptors t) (k + 1)) 0
   unfolding rule7 rising begins_after
   fit-begins k h =
       let b : out_before (descriptors t) (k + 1) < track_start (session (descriptors t) (k + 1)) 0 =
@@ -274,16 +274,16 @@ module _ {t : List ℕ} (f : Fit t) where
 
   -- so every track starts after the lead-out of every session before its own
   pub fit_apart : (k n : ℕ) → k < n → n < last_session t → (i : ℕ) → i < tracks (session (descriptors t) n)
-      → leadOut (session (descriptors t) k) < track_start (session (descriptors t) n) i
+      → session_lead_out (session (descriptors t) k) < track_start (session (descriptors t) n) i
   fit_apart k n h l i g = elim (ℕ_discrete i 0) [
     | yes e ↦ rw e (begins k n h l)
     | no e ↦ (let b = begins k n h l in let r = (fit-rises l).tracks 0 i (omega arith) g in omega arith)
   ]
     where
-      begins : (k n : ℕ) → k < n → n < last_session t → leadOut (session (descriptors t) k) < track_start (session (descriptors t) n) 0
+      begins : (k n : ℕ) → k < n → n < last_session t → session_lead_out (session (descriptors t) k) < track_start (session (descriptors t) n) 0
       begins k zero h l = absurd (omega arith)
       begins k (suc n) h l =
-          let b : leadOut (session (descriptors t) n) < track_start (session (descriptors t) (suc n)) 0 = rw (add-one n) at
+          let b : session_lead_out (session (descriptors t) n) < track_start (session (descriptors t) (suc n)) 0 = rw (add-one n) at
           (fit-begins n (omega arith)) in
           elim (ℕ_discrete k n) [
             | yes e ↦ rw e b
@@ -291,7 +291,7 @@ module _ {t : List ℕ} (f : Fit t) where
           ]
 
   -- the last lead-out, L, is 1 to 449,849: a track starts before it
-  pub fit-lead-out : (1 ≤ leadOut (lastPart t)) × (leadOut (lastPart t) ≤ 449849)
+  pub fit-lead-out : (1 ≤ session_lead_out (last_part t)) × (session_lead_out (last_part t) ≤ 449849)
   fit-lead-out =
       let n = fit-numbered f in
       let h : last_session t - 1 < last_session t = omega arith in

@@ -14,7 +14,7 @@ use Rattle.table.specs.Row.{row_at, frames_of, names, simple, free, head_a0, hea
 use Rattle.table.specs.Asked.{kept, a0_kept, a1_kept, extra_kept, extra_passed, climbs, holds}
 use Rattle.sessions.specs.Session.{first, last, tracks, b0s, c0s, size, starts, session}
 use Rattle.sessions.specs.SessionLaws.{one_is}
-use Rattle.disc.specs.Rules.{rule1, rule2, isFit}
+use Rattle.disc.specs.Rules.{rule1, rule2, is_fit}
 use Rattle.disc.specs.Walk.{heads_kept, floor_at, track_kept, tracks_kept, extras_kept, session_kept, floor_of, next_of, step_kept, walk_kept}
 use Rattle.disc.specs.WalkFit.{walk_fit}
 use Rattle.disc.specs.Examples.{entry, extra, framed}
@@ -175,7 +175,7 @@ module _ (n : ℕ) where
       (and_both _ _ (eq-eqb ((length t - header) % row) 0 (omega arith)) (eq-eqb (data_length t) (length t - 2) (omega arith))))
 
   -- for every n from 1 to 99 the table is fit
-  pub sittings-fit : 1 ≤ n → n ≤ 99 → isFit (table_of n) ≡ true
+  pub sittings-fit : 1 ≤ n → n ≤ 99 → is_fit (table_of n) ≡ true
   unfolding rule2 walk_kept
   sittings-fit a b =
       sym (walk_fit (table_of n) (sittings-sized b) (and_both _ _ refl (and_both _ _ (le-leb _ _ a) (le-leb _ _ b))))
@@ -183,7 +183,7 @@ module _ (n : ℕ) where
 
 -- ---- the longest
 
-pub longest_fit : isFit longest ≡ true
+pub longest_fit : is_fit longest ≡ true
 longest_fit = sittings-fit 99 (omega arith) (omega arith)
 
 pub longest-length : length longest ≡ bound

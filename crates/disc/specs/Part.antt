@@ -4,7 +4,7 @@ use Rattle.std.specs.Borrow.{Bor}
 use Rattle.ground.specs.Tests.{◌and◌, if◌then◌else◌}
 use Rattle.table.specs.Layout.{header, descriptors, last_session}
 use Rattle.sessions.specs.Session.{size, starts, session}
-use Rattle.disc.specs.Rules.{fault, isFit}
+use Rattle.disc.specs.Rules.{fault, is_fit}
 use Rattle.disc.specs.declared.part.Refusal.{Refusal}
 
 abbrev pub unfit : ℕ
@@ -15,11 +15,11 @@ no_session = 10
 
 -- "The session part tests fitness (4, empty part) before 10": 10 where "a session asked for is 0 or over S"
 unfoldable pub part_refusal : List ℕ → ℕ → ℕ
-part_refusal t k = if isFit t then (if leb 1 k and leb k (last_session t) then 0 else no_session) else unfit
+part_refusal t k = if is_fit t then (if leb 1 k and leb k (last_session t) then 0 else no_session) else unfit
 
 -- K6: "Refusal 4 carries that number": the first broken rule of the table beside 4, and 0 beside every other number
-unfoldable pub ruleWith : ℕ → List ℕ → ℕ
-ruleWith number t = if eqb number unfit then fault t else 0
+unfoldable pub rule_with : ℕ → List ℕ → ℕ
+rule_with number t = if eqb number unfit then fault t else 0
 
 -- a number and the rule beside it
 abbrev pub refusal_with : ℕ → ℕ → Refusal
@@ -27,7 +27,7 @@ refusal_with number rule = record { number = number; rule = rule }
 
 -- what the caller is told who asks for it apart
 unfoldable pub part_refused : List ℕ → ℕ → Refusal
-part_refused t k = refusal_with (part_refusal t k) (ruleWith (part_refusal t k) t)
+part_refused t k = refusal_with (part_refusal t k) (rule_with (part_refusal t k) t)
 
 -- where the part begins and how long it is: exactly the session's descriptors, or empty at 0
 unfoldable pub part_start : List ℕ → ℕ → ℕ

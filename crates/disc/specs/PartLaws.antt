@@ -5,9 +5,9 @@ use Rattle.ground.specs.Memory.{rest_all}
 use Rattle.ground.specs.Tests.{◌and◌, and_head, and_tail, and_both, when, unless}
 use Rattle.table.specs.Layout.{header, descriptors, last_session}
 use Rattle.sessions.specs.Session.{size, starts, session}
-use Rattle.disc.specs.Rules.{fault, isFit}
-use Rattle.disc.specs.RulesLaws.{Fit, isFit-true, fit-is_fit, fit-least}
-use Rattle.disc.specs.Part.{unfit, no_session, part_refusal, ruleWith, refusal_with, part_refused, part_start, part_size}
+use Rattle.disc.specs.Rules.{fault, is_fit}
+use Rattle.disc.specs.RulesLaws.{Fit, is_fit_true, fit-is_fit, fit-least}
+use Rattle.disc.specs.Part.{unfit, no_session, part_refusal, rule_with, refusal_with, part_refused, part_start, part_size}
 use Rattle.disc.specs.declared.part.Refusal.{Refusal}
 
 -- the part of session k is given: the table is fit, and it has the session
@@ -18,10 +18,10 @@ pub record Given (t : List ℕ) (k : ℕ) : Type 0 where
 
 pub part_refusal-given : (t : List ℕ) (k : ℕ) → part_refusal t k ≡ 0 → Given t k
 unfolding part_refusal
-part_refusal-given t k h = decided (isFit t) (leb 1 k and leb k (last_session t)) refl refl
+part_refusal-given t k h = decided (is_fit t) (leb 1 k and leb k (last_session t)) refl refl
   where
-    decided : (a b : Bool) → isFit t ≡ a → (leb 1 k and leb k (last_session t)) ≡ b → Given t k
-    decided true true p q = record { fit = isFit-true p; low = leb-true _ _ (and_head _ _ q); high = leb-true _ _ (and_tail _ _ q) }
+    decided : (a b : Bool) → is_fit t ≡ a → (leb 1 k and leb k (last_session t)) ≡ b → Given t k
+    decided true true p q = record { fit = is_fit_true p; low = leb-true _ _ (and_head _ _ q); high = leb-true _ _ (and_tail _ _ q) }
     decided true false p q = let z : no_session ≡ 0 = sym (when _ _ _ p ∙ unless _ _ _ q) ∙ h in absurd (omega arith)
     decided false b p q = let z : unfit ≡ 0 = sym (unless _ _ _ p) ∙ h in absurd (omega arith)
 
@@ -32,30 +32,30 @@ given-part_refusal g = sym (when _ _ _ (fit-is_fit g.fit) ∙ when _ _ _ (and_bo
 -- ---- the rule beside the number
 
 -- beside any other number than 4 stands 0
-pub ruleWith-none : (number : ℕ) (t : List ℕ) → (number ≡ unfit → ⊥) → 0 ≡ ruleWith number t
-unfolding ruleWith
-ruleWith-none number t n = sym (unless _ _ _ (ne_eqb _ _ n))
+pub rule_with-none : (number : ℕ) (t : List ℕ) → (number ≡ unfit → ⊥) → 0 ≡ rule_with number t
+unfolding rule_with
+rule_with-none number t n = sym (unless _ _ _ (ne_eqb _ _ n))
 
 -- and beside 4 the first broken rule
-pub ruleWith-fault : (t : List ℕ) → fault t ≡ ruleWith unfit t
-unfolding ruleWith
-ruleWith-fault t = sym (when _ _ _ (eq-eqb unfit unfit refl))
+pub rule_with-fault : (t : List ℕ) → fault t ≡ rule_with unfit t
+unfolding rule_with
+rule_with-fault t = sym (when _ _ _ (eq-eqb unfit unfit refl))
 
 -- how the part of a session is refused: not, by 10, or by 4 with the rule
-part_refused_by : (t : List ℕ) (k : ℕ) {n r : ℕ} → part_refusal t k ≡ n → r ≡ ruleWith n t → refusal_with n r ≡ part_refused t k
+part_refused_by : (t : List ℕ) (k : ℕ) {n r : ℕ} → part_refusal t k ≡ n → r ≡ rule_with n t → refusal_with n r ≡ part_refused t k
 unfolding part_refused
 part_refused_by t k e h = rw (h, e)
 
 pub part_refused_not : {t : List ℕ} {k : ℕ} → Given t k → refusal_with 0 0 ≡ part_refused t k
-part_refused_not {t} {k} g = part_refused_by t k (sym (given-part_refusal g)) (ruleWith-none 0 t (λ e. omega arith))
+part_refused_not {t} {k} g = part_refused_by t k (sym (given-part_refusal g)) (rule_with-none 0 t (λ e. omega arith))
 
-pub part_refused_10 : (t : List ℕ) (k : ℕ) → isFit t ≡ true → leb 1 k and leb k (last_session t) ≡ false → refusal_with no_session 0 ≡ part_refused t k
+pub part_refused_10 : (t : List ℕ) (k : ℕ) → is_fit t ≡ true → leb 1 k and leb k (last_session t) ≡ false → refusal_with no_session 0 ≡ part_refused t k
 unfolding part_refusal
-part_refused_10 t k h n = part_refused_by t k (when _ _ _ h ∙ unless _ _ _ n) (ruleWith-none no_session t (λ e. omega arith))
+part_refused_10 t k h n = part_refused_by t k (when _ _ _ h ∙ unless _ _ _ n) (rule_with-none no_session t (λ e. omega arith))
 
-pub part_refused_4 : (t : List ℕ) (k : ℕ) → isFit t ≡ false → refusal_with unfit (fault t) ≡ part_refused t k
+pub part_refused_4 : (t : List ℕ) (k : ℕ) → is_fit t ≡ false → refusal_with unfit (fault t) ≡ part_refused t k
 unfolding part_refusal
-part_refused_4 t k h = part_refused_by t k (unless _ _ _ h) (ruleWith-fault t)
+part_refused_4 t k h = part_refused_by t k (unless _ _ _ h) (rule_with-fault t)
 
 pub part_refused_number : (t : List ℕ) (k : ℕ) {r : Refusal} → r ≡ part_refused t k → r.number ≡ part_refusal t k
 unfolding part_refused

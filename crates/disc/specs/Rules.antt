@@ -20,8 +20,8 @@ each_row n d = every (rows d) (λ j. row_test n (row_at d j))
 -- 4. `in_order` of sessions' Session
 
 -- of the session that s begins with: the lead-out, and where its track after i others starts
-abbrev pub leadOut : List ℕ → ℕ
-leadOut s = address_at s 2
+abbrev pub session_lead_out : List ℕ → ℕ
+session_lead_out s = address_at s 2
 
 abbrev pub track_start : List ℕ → ℕ → ℕ
 track_start s i = address_at s (3 + i)
@@ -29,12 +29,12 @@ track_start s i = address_at s (3 + i)
 -- 7. "track starts rise strictly, a session's last track starts before its lead-out": of the session that s begins with, with n tracks;
 -- K1: what stands after the tracks is passed over
 unfoldable pub rises : List ℕ → ℕ → Bool
-rises s n = every (n - 1) (λ i. ltb (track_start s i) (track_start s (i + 1))) and ltb (track_start s (n - 1)) (leadOut s)
+rises s n = every (n - 1) (λ i. ltb (track_start s i) (track_start s (i + 1))) and ltb (track_start s (n - 1)) (session_lead_out s)
 
 -- the lead-out of the session before
 unfoldable pub out_before : List ℕ → ℕ → ℕ
 out_before d zero = 0
-out_before d (suc k) = leadOut (session d k)
+out_before d (suc k) = session_lead_out (session d k)
 
 -- "and the next session's first track after that lead-out"
 unfoldable pub begins_after : ℕ → ℕ → ℕ → Bool
@@ -64,5 +64,5 @@ row_rules s d = each_row 3 d ∷ in_order s d ∷ late_rules s d
 unfoldable pub fault : List ℕ → ℕ
 fault t = first_broken 1 (rule1 t ∷ rule2 t ∷ row_rules (last_session t) (descriptors t))
 
-unfoldable pub isFit : List ℕ → Bool
-isFit t = eqb (fault t) 0
+unfoldable pub is_fit : List ℕ → Bool
+is_fit t = eqb (fault t) 0

@@ -12,7 +12,7 @@ use Rattle.table.specs.declared.row.Row.{Row}
 use Rattle.table.specs.Layout.{bound, data_length, first_session, last_session, header, row, descriptors, rows}
 use Rattle.sessions.specs.Session.{tracks, size, starts, session, in_place, in_order}
 use Rattle.sessions.specs.SessionLaws.{IsSession, size_least, Walked, walked_next, walked_all, starts-within, placed, in_order-places, in_order_end, rows_before, starts-rows}
-use Rattle.disc.specs.Rules.{rule1, rule2, each_row, leadOut, track_start, rises, out_before, begins_after, rising, rule7, first_broken, late_rules, row_rules, fault, isFit}
+use Rattle.disc.specs.Rules.{rule1, rule2, each_row, session_lead_out, track_start, rises, out_before, begins_after, rising, rule7, first_broken, late_rules, row_rules, fault, is_fit}
 
 -- ---- the first broken rule
 
@@ -135,7 +135,7 @@ pub record Risen (n : ℕ) (d : List ℕ) (k at out : ℕ) : Type 0 where
   pub passed : every k (rising d) ≡ true
   pub lead : out ≡ out_before d k
 
-pub out_before-next : (d : List ℕ) (k : ℕ) → out_before d (k + 1) ≡ leadOut (session d k)
+pub out_before-next : (d : List ℕ) (k : ℕ) → out_before d (k + 1) ≡ session_lead_out (session d k)
 unfolding out_before
 out_before-next d k = rw (add-one k)
 
@@ -148,12 +148,12 @@ risen-here r = rw (r.walked.place, r.lead)
 
 pub risen-next :
     {n : ℕ} {d : List ℕ} {k at out b o : ℕ} → Risen n d k at out → k < n → IsSession (k + 1) (drop at d) → b ≡ size (drop at d)
-    → o ≡ leadOut (drop at d) → (rises (drop at d) (tracks (drop at d)) and begins_after k out (track_start (drop at d) 0)) ≡ true
+    → o ≡ session_lead_out (drop at d) → (rises (drop at d) (tracks (drop at d)) and begins_after k out (track_start (drop at d) 0)) ≡ true
     → Risen n d (k + 1) (at + b) o
 risen-next {d = d} {k} r i s e l h = record {
   walked = walked_next r.walked i s e;
   passed = every_more k (rising d) r.passed (sym (risen-here r) ∙ h);
-  lead = l ∙ ap (λ (x : ℕ). leadOut (drop x d)) r.walked.place ∙ sym (out_before-next d k);
+  lead = l ∙ ap (λ (x : ℕ). session_lead_out (drop x d)) r.walked.place ∙ sym (out_before-next d k);
 }
 
 -- the first test that fails breaks the rule
@@ -243,26 +243,26 @@ fit-fault f =
     sym (first_broken_on _ _ _ f.rule1 (first_broken_on _ _ _ f.rule2 (first_broken_on _ _ _ f.rule3 (first_broken_on _ _ _ f.rule4
     (first_broken_on _ _ _ f.rule5 (first_broken_on _ _ _ f.rule6 (first_broken_on _ _ _ f.rule7 (first_broken-none _))))))))
 
-pub isFit-true : {t : List ℕ} → isFit t ≡ true → Fit t
-unfolding isFit
-isFit-true h = fault_fit (eqb-true _ _ h)
+pub is_fit_true : {t : List ℕ} → is_fit t ≡ true → Fit t
+unfolding is_fit
+is_fit_true h = fault_fit (eqb-true _ _ h)
 
-pub fit-is_fit : {t : List ℕ} → Fit t → isFit t ≡ true
-unfolding isFit
+pub fit-is_fit : {t : List ℕ} → Fit t → is_fit t ≡ true
+unfolding is_fit
 fit-is_fit f = eq-eqb _ _ (fit-fault f)
 
 -- ---- what a fit table has
 
 -- 4 to 6,538 bytes, S from 1 to 99
-pub fit-sized : {t : List ℕ} → Fit t → Sized t
-fit-sized f = rule1_parts f.rule1
+pub fit_sized : {t : List ℕ} → Fit t → Sized t
+fit_sized f = rule1_parts f.rule1
 
 pub fit-numbered : {t : List ℕ} → Fit t → Numbered t
 fit-numbered f = rule2_parts f.rule2
 
 -- whole descriptors
 pub fit-rows : {t : List ℕ} → Fit t → length (descriptors t) ≡ row * rows (descriptors t)
-fit-rows {t} f = let s = fit-sized f in let e = length-drop header t in omega arith
+fit-rows {t} f = let s = fit_sized f in let e = length-drop header t in omega arith
 
 module _ {t : List ℕ} (f : Fit t) where
   -- the sessions in their places, and nothing more

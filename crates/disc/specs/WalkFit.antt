@@ -12,8 +12,8 @@ use Rattle.table.specs.RowLaws.{start_of-frames, headed-A0, headed-A1, row_test_
 use Rattle.table.specs.AskedLaws.{climbs-low, range-climbs, range-holds, range_least}
 use Rattle.sessions.specs.Session.{first, tracks, count, starts, session, before, follows, in_place, in_order}
 use Rattle.sessions.specs.SessionLaws.{is_session_true, in_place-follows, rows_before, starts-rows}
-use Rattle.disc.specs.Rules.{rule1, rule2, each_row, leadOut, track_start, out_before, begins_after, rising, rule7, row_rules, fault, isFit}
-use Rattle.disc.specs.RulesLaws.{first_broken_on, first_broken_off, Fit, same_test, isFit-true, fit-is_fit, fit-places, fit-end, fit-session}
+use Rattle.disc.specs.Rules.{rule1, rule2, each_row, session_lead_out, track_start, out_before, begins_after, rising, rule7, row_rules, fault, is_fit}
+use Rattle.disc.specs.RulesLaws.{first_broken_on, first_broken_off, Fit, same_test, is_fit_true, fit-is_fit, fit-places, fit-end, fit-session}
 use Rattle.disc.specs.FitLaws.{row_at-session, locate, session-none, fit-listed, fit-rule, fit-range, fit-rises, fit-begins}
 use Rattle.disc.specs.Walk.{floor_at, floor_of, next_of, step_kept, walk_kept, rows_reading}
 use Rattle.disc.specs.Disc.{reading}
@@ -71,7 +71,7 @@ module _ (n : ℕ) (d : List ℕ) (w : every n (step_kept d) ≡ true) where
       let l = sound-lead (kept-sound {k = k} (omega arith)) (kept-floor k (omega arith)) in
       let p = start_of-frames (row_at (session d k) 2) in
       let q = start_of-frames (row_at (session d (suc k)) 3) in
-      or_right _ _ (lt-ltb (leadOut (session d k)) (track_start (session d (suc k)) 0) (omega arith))
+      or_right _ _ (lt-ltb (session_lead_out (session d k)) (track_start (session d (suc k)) 0) (omega arith))
 
   pub kept-rising : every n (rising d) ≡ true
   unfolding rising
@@ -111,7 +111,7 @@ module _ {t : List ℕ} (f : Fit t) where
   fit-floor zero h =
       let s = (fit-session f h).order in range_least _ (fit-range f {k = 0} {i = 3} h (omega arith) (omega arith))
   fit-floor (suc k) h =
-      let b : leadOut (session (descriptors t) k) < track_start (session (descriptors t) (suc k)) 0 = rw (add-one k) at
+      let b : session_lead_out (session (descriptors t) k) < track_start (session (descriptors t) (suc k)) 0 = rw (add-one k) at
       (fit-begins f k (omega arith)) in
       let p = start_of-frames (row_at (session (descriptors t) k) 2) in
       let q = start_of-frames (row_at (session (descriptors t) (suc k)) 3) in
@@ -158,7 +158,7 @@ module _ {t : List ℕ} (f : Fit t) where
 
 -- ---- the walk decides fitness
 
-pub walk_fit : (t : List ℕ) → rule1 t ≡ true → rule2 t ≡ true → walk_kept (last_session t) (descriptors t) ≡ isFit t
+pub walk_fit : (t : List ℕ) → rule1 t ≡ true → rule2 t ≡ true → walk_kept (last_session t) (descriptors t) ≡ is_fit t
 walk_fit t h g = same_test _ _
     (λ w. fit-is_fit (record {
       rule1 = h;
@@ -168,7 +168,7 @@ walk_fit t h g = same_test _ _
       rule5 = walk-rule _ _ w 5;
       rule6 = walk-rule _ _ w 6;
       rule7 = walk-rule7 _ _ w;
-    })) (λ e. fit-walk (isFit-true e))
+    })) (λ e. fit-walk (is_fit_true e))
 
 -- ---- what the walk answers is the reading
 

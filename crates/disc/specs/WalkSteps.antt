@@ -5,7 +5,7 @@ use Rattle.std.proofs.Common.{◌∙◌, add-one, add-zero, le-leb, eq-eqb, eqb-
 use native.Mathlib.Omega.{arith}
 use Rattle.std.proofs.Math.Decide.{ℕ_discrete}
 use Rattle.std.proofs.Math.ListN.{get_or-eq_default}
-use Rattle.ground.specs.Tests.{◌and◌, if◌then◌else◌, when, unless, every, and-on, and-off, and-late, and_both, and_head, and_tail, and_with, every-none, every_more, every-breaks}
+use Rattle.ground.specs.Tests.{◌and◌, if◌then◌else◌, when, unless, every, and_on, and_off, and_late, and_both, and_head, and_tail, and_with, every-none, every_more, every-breaks}
 use Rattle.table.specs.Layout.{row, point_at, B0, C0}
 use Rattle.table.specs.Row.{row_from, row_at, frames_of, frames_at, names}
 use Rattle.table.specs.RowLaws.{start_of-frames}
@@ -73,21 +73,21 @@ module _ {d : List ℕ} {k f l floor p at low : ℕ} (c : Climbed d k f l floor 
   unfolding tracks_end tracks_kept
   climbed-fails i h =
       let o = c.order in
-      sym (unless _ _ _ (sym (and-off _ _ (sym (every-breaks (l + 1 - f) (track_kept d k f floor) (p - f) (omega arith) h)))))
+      sym (unless _ _ _ (sym (and_off _ _ (sym (every-breaks (l + 1 - f) (track_kept d k f floor) (p - f) (omega arith) h)))))
 
   pub climbed-off : {r : Row} → p ≤ l → r ≡ row_from d at → kept r k p ≡ false → 0 ≡ tracks_end d k f (l + 1 - f) floor
   unfolding track_kept
-  climbed-off i e h = climbed-fails i (sym (and-off _ _ (next-kept e h)))
+  climbed-off i e h = climbed-fails i (sym (and_off _ _ (next-kept e h)))
 
   pub climbed-out : {r : Row} → p ≤ l → r ≡ row_from d at → climbs r low ≡ false → 0 ≡ tracks_end d k f (l + 1 - f) floor
   unfolding track_kept
-  climbed-out i e h = climbed-fails i (sym (and-late _ _ (sym (rw (next_row e, c.least) at h))))
+  climbed-out i e h = climbed-fails i (sym (and_late _ _ (sym (rw (next_row e, c.least) at h))))
 
   -- past the end stands no descriptor of session k
   pub climbed-short : p ≤ l → length d ≤ at → 1 ≤ k → 0 ≡ tracks_end d k f (l + 1 - f) floor
   unfolding kept names
   climbed-short i w g =
-      climbed-off i refl (sym (and-off _ _ (sym (and-off _ _ (ne_eqb (get_or d at 0) k
+      climbed-off i refl (sym (and_off _ _ (sym (and_off _ _ (ne_eqb (get_or d at 0) k
       (λ e. let z = get_or-eq_default d 0 {n = at} w in omega arith))))))
 
   -- all are passed: what is left to test is the lead-out
@@ -96,7 +96,7 @@ module _ {d : List ℕ} {k f l floor p at low : ℕ} (c : Climbed d k f l floor 
   climbed-end i {b} h =
       let t = c.turns in
       let n : p - f ≡ l + 1 - f = omega arith in
-      ap (λ (x : Bool). if x then at else 0) (sym h ∙ and-on _ _ (rw n at c.passed) (rw (c.least, n)))
+      ap (λ (x : Bool). if x then at else 0) (sym h ∙ and_on _ _ (rw n at c.passed) (rw (c.least, n)))
       ∙ ap (λ (x : ℕ). if tracks_kept d k f (l + 1 - f) floor then x else 0) (c.place ∙ ap (λ (x : ℕ). row * (3 + x)) n)
 
 -- ---- the B0h and the C0h
@@ -149,9 +149,9 @@ extras_end-rows d k = decided (extra_passed (row_at d (3 + tracks d)) k B0) refl
         unless _ _ _ (ne_eqb _ _ (λ z. let y = sym q ∙ z in omega arith))
         ∙ ap (λ (x : ℕ). extra_end d k x C0) q
         ∙ extra_end-rows d k (3 + tracks d + b0s d) C0
-        ∙ ap (λ (x : Bool). if x then size d else 0) (and-on _ _ e refl)
+        ∙ ap (λ (x : Bool). if x then size d else 0) (and_on _ _ e refl)
     decided false e =
-        when _ _ _ (eq-eqb _ _ (first-end ∙ unless _ _ _ e)) ∙ sym (unless _ _ _ (sym (and-off _ _ e)))
+        when _ _ _ (eq-eqb _ _ (first-end ∙ unless _ _ _ e)) ∙ sym (unless _ _ _ (sym (and_off _ _ e)))
 
 -- ---- one session
 
@@ -196,8 +196,8 @@ session_end_on k d next floor {end} w a n c e h g z b =
     let l : row * (3 + tracks d) ≤ length d = let q = u.1 in omega arith in
     ap (extras_end d k) u.1 ∙ extras_end-rows d k
     ∙ ap (λ (x : Bool). if x then size d else 0)
-    (and-on _ _ (le-leb _ _ (size-whole d w l)) (and-on _ _ (le-leb _ _ a) (and-on _ _ (le-leb _ _ c) (and-on _ _ (le-leb _ _ e)
-    (and-on _ _ h (and-on _ _ t refl)))))
+    (and_on _ _ (le-leb _ _ (size-whole d w l)) (and_on _ _ (le-leb _ _ a) (and_on _ _ (le-leb _ _ c) (and_on _ _ (le-leb _ _ e)
+    (and_on _ _ h (and_on _ _ t refl)))))
     ∙ and_with (session_kept k d floor) (eqb (first d) next) (eq-eqb _ _ n))
 
 -- what the end of a session tells that is not 0
@@ -260,14 +260,14 @@ module _ {n : ℕ} {d : List ℕ} {k at next floor : ℕ} (r : Trod n d k at nex
     pub trod-breaks : session_end (k + 1) (drop at d) next floor ≡ 0 → walk_kept n d ≡ false
     unfolding walk_kept step_kept
     trod-breaks h =
-        sym (and-off _ _ (sym (every-breaks n (step_kept d) k i
+        sym (and_off _ _ (sym (every-breaks n (step_kept d) k i
         (rw (r.walked.place, r.least, r.track) at (session_end-none (k + 1) (drop at d) next floor h)))))
 
   pub trod-end : n ≤ k → eqb at (length d) ≡ walk_kept n d
   unfolding walk_kept
   trod-end i =
       let e = walked_all r.walked i in
-      and-on _ _ (rw e at r.passed) (rw (r.walked.place, e))
+      and_on _ _ (rw e at r.passed) (rw (r.walked.place, e))
 
   -- ---- the rules from there on
 
@@ -391,19 +391,19 @@ module _ {n : ℕ} {d : List ℕ} {k at next : ℕ} (r : Reached n d k at next) 
   -- the first that is none puts the whole out of order
   pub reached-not : is_session (k + 1) (drop at d) ≡ false → false ≡ in_order n d
   unfolding in_order in_place
-  reached-not h = and-off _ _ (sym (every-breaks n (in_place d) k i (sym (and-off _ _ (rw r.walked.place at h)))))
+  reached-not h = and_off _ _ (sym (every-breaks n (in_place d) k i (sym (and_off _ _ (rw r.walked.place at h)))))
 
   -- and so does the first that begins with another track
   pub reached-off : {f l b : ℕ} → Told (k + 1) (drop at d) f l b → (f ≡ next → ⊥) → false ≡ in_order n d
   unfolding in_order in_place
-  reached-off t h = and-off _ _ (sym (every-breaks n (in_place d) k i (sym (and-late _ _ (sym (reached-track t (ne_eqb _ _ h)))))))
+  reached-off t h = and_off _ _ (sym (every-breaks n (in_place d) k i (sym (and_late _ _ (sym (reached-track t (ne_eqb _ _ h)))))))
 
 -- all are read: what is left to test is that nothing more stands there
 pub reached_end : {n : ℕ} {d : List ℕ} {k at next : ℕ} → Reached n d k at next → n ≤ k → eqb at (length d) ≡ in_order n d
 unfolding in_order
 reached_end r i =
     let e = walked_all r.walked i in
-    and-on _ _ (rw e at r.passed) (rw (r.walked.place, e))
+    and_on _ _ (rw e at r.passed) (rw (r.walked.place, e))
 
 -- ---- rule 7 from there on
 

@@ -9,12 +9,12 @@ use Rattle.drive.specs.declared.state.Moved.{Moved}
 use Rattle.attention.specs.Sense.{is_known}
 use Rattle.play.specs.Play.{is_play, moved_on}
 use Rattle.page.specs.Page.{is_setting}
-use Rattle.deck.specs.Deck.{pressed, is_event, isLoaded, opening, closing, with_disc, with_play, with_event, restarted}
+use Rattle.deck.specs.Deck.{pressed, is_event, is_loaded, opening, closing, with_disc, with_play, with_event, restarted}
 use Rattle.attention.specs.Unit.{powered_on, attend}
 
 -- the refusals of these calls
-abbrev pub unknownState : ℕ
-unknownState = 2
+abbrev pub unknown_state : ℕ
+unknown_state = 2
 
 abbrev pub locked : ℕ
 locked = 5
@@ -27,8 +27,8 @@ cannot_lift = 7
 
 -- "2: held sense is none of the ten"; K2: "2 also covers another status, a position past its end, or an end over 449,849"; K4: "refusal 2
 -- admits these triples, and covers a recovery byte outside the twenty"; K7: "2 also covers an event over 3": none of that
-unfoldable pub isKnownState : Drive → Bool
-isKnownState d =
+unfoldable pub is_known_state : Drive → Bool
+is_known_state d =
     is_known d.unit.sense and is_play d.deck.play and is_setting d.deck.page.recovery and is_event d.deck.event
 
 -- the state after the tray moved: a loading is attended to
@@ -57,7 +57,7 @@ power_on_with d change = record { unit = powered_on change; deck = restarted d.d
 
 -- K3: "Power-on with a loaded disc now leaves both attentions pending by default"; with any other drive, 01's "change attention not"
 unfoldable pub power_on : Drive → Drive
-power_on d = power_on_with d (isLoaded d.deck)
+power_on d = power_on_with d (is_loaded d.deck)
 
 -- K3: "A second form, which the listing program calls, keeps 01's behaviour": "change attention not"
 unfoldable pub power_on_without_change : Drive → Drive
@@ -73,7 +73,7 @@ moves d = record { number = 0; state = d }
 
 -- "Button, laying and lifting test 2 before 5 to 7."; K2: "An outside call, testing 2"
 abbrev pub tested : Drive → Moved → Moved
-tested d r = if isKnownState d then r else refuse unknownState d
+tested d r = if is_known_state d then r else refuse unknown_state d
 
 -- "Button: an open tray closes; a closed one opens, unless locked (5). The lock never stops closing."; K7: "A press under refusal 5 now
 -- changes that event only"

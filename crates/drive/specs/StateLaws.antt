@@ -12,8 +12,8 @@ use Rattle.attention.specs.Sense.{is_known}
 use Rattle.play.specs.Play.{moved_on}
 use Rattle.play.specs.PlayLaws.{Known, is_play_known, known-is_play}
 use Rattle.page.specs.Page.{is_setting}
-use Rattle.deck.specs.Deck.{pressed, is_event, isLoaded, opening, closing}
-use Rattle.drive.specs.State.{unknownState, locked, cannot_lay, cannot_lift, isKnownState, shift, holding, showing, noting, power_on_with, power_on, power_on_without_change, refuse, moves, button, lay, lift, move_on}
+use Rattle.deck.specs.Deck.{pressed, is_event, is_loaded, opening, closing}
+use Rattle.drive.specs.State.{unknown_state, locked, cannot_lay, cannot_lift, is_known_state, shift, holding, showing, noting, power_on_with, power_on, power_on_without_change, refuse, moves, button, lay, lift, move_on}
 
 -- a call with a number other than 0 hands back the state as it came
 abbrev pub Unmoved : Drive → Moved → Type 0
@@ -31,19 +31,19 @@ pub record KnownDeck (m : Deck) : Type 0 where
   pub page : is_setting m.page.recovery ≡ true
   pub event : is_event m.event ≡ true
 
-pub is_known_state_sense : (d : Drive) → isKnownState d ≡ true → is_known d.unit.sense ≡ true
-unfolding isKnownState
+pub is_known_state_sense : (d : Drive) → is_known_state d ≡ true → is_known d.unit.sense ≡ true
+unfolding is_known_state
 is_known_state_sense d h = and_head _ _ h
 
-pub is_known_state_deck : (d : Drive) → isKnownState d ≡ true → KnownDeck d.deck
-unfolding isKnownState
+pub is_known_state_deck : (d : Drive) → is_known_state d ≡ true → KnownDeck d.deck
+unfolding is_known_state
 is_known_state_deck d h =
     let t = and_tail _ _ h in
     let g = and_tail _ _ t in
     record { play = is_play_known _ (and_head _ _ t); page = and_head _ _ g; event = and_tail _ _ g }
 
-pub known-is_known_state : (d : Drive) → is_known d.unit.sense ≡ true → KnownDeck d.deck → isKnownState d ≡ true
-unfolding isKnownState
+pub known-is_known_state : (d : Drive) → is_known d.unit.sense ≡ true → KnownDeck d.deck → is_known_state d ≡ true
+unfolding is_known_state
 known-is_known_state d h k = and_both _ _ h (and_both _ _ (known-is_play k.play) (and_both _ _ k.page k.event))
 
 -- ---- the two ways in which a call ends
@@ -57,7 +57,7 @@ stood d n h = refl
 module _ (d : Drive) where
   -- ---- the two forms of power-on: the same but for the change attention
 
-  pub power_on-with : power_on d ≡ power_on_with d (isLoaded d.deck)
+  pub power_on-with : power_on d ≡ power_on_with d (is_loaded d.deck)
   unfolding power_on
   power_on-with = refl
 
@@ -67,23 +67,23 @@ module _ (d : Drive) where
 
   -- ---- each case of the other calls
 
-  pub button-unknown : isKnownState d ≡ false → button d ≡ refuse unknownState d
+  pub button-unknown : is_known_state d ≡ false → button d ≡ refuse unknown_state d
   unfolding button
   button-unknown h = unless _ _ _ h
 
-  pub lay-unknown : isKnownState d ≡ false → lay d ≡ refuse unknownState d
+  pub lay-unknown : is_known_state d ≡ false → lay d ≡ refuse unknown_state d
   unfolding lay
   lay-unknown h = unless _ _ _ h
 
-  pub lift-unknown : isKnownState d ≡ false → lift d ≡ refuse unknownState d
+  pub lift-unknown : is_known_state d ≡ false → lift d ≡ refuse unknown_state d
   unfolding lift
   lift-unknown h = unless _ _ _ h
 
-  pub move_on-unknown : (n : ℕ) → isKnownState d ≡ false → move_on n d ≡ refuse unknownState d
+  pub move_on-unknown : (n : ℕ) → is_known_state d ≡ false → move_on n d ≡ refuse unknown_state d
   unfolding move_on
   move_on-unknown n h = unless _ _ _ h
 
-  module _ (k : isKnownState d ≡ true) where
+  module _ (k : is_known_state d ≡ true) where
     pub move_on-moves : (n : ℕ) → move_on n d ≡ moves (showing d (moved_on n d.deck.play))
     unfolding move_on
     move_on-moves n = when _ _ _ k
@@ -128,9 +128,9 @@ module _ (d : Drive) where
 
   pub button-refused : Pressed d (button d)
   unfolding if◌then◌else◌
-  button-refused = go (isKnownState d) d.deck.tray_open d.deck.lock refl refl refl
+  button-refused = go (is_known_state d) d.deck.tray_open d.deck.lock refl refl refl
     where
-      go : (k t l : Bool) → isKnownState d ≡ k → d.deck.tray_open ≡ t → d.deck.lock ≡ l → Pressed d (button d)
+      go : (k t l : Bool) → is_known_state d ≡ k → d.deck.tray_open ≡ t → d.deck.lock ≡ l → Pressed d (button d)
       go false t l h i j = rw (button-unknown h) (λ n. refl)
       go true true l h i j = rw (button-closes h i) (λ n. absurd (n refl))
       go true false true h i j = rw (button-locked h i j) (λ n. refl)

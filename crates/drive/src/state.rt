@@ -1,6 +1,6 @@
 // The state: an attention unit beside the deck. Each call takes it by value and hands back the next one.
 ghost use Rattle.std.specs.Prelude.{◌≡◌};
-ghost use Rattle.drive.specs.State.{isKnownState, with_deck, shift, power_on_with, power_on, power_on_without_change, moves, refuse, button, lay, lift, move_on};
+ghost use Rattle.drive.specs.State.{is_known_state, with_deck, shift, power_on_with, power_on, power_on_without_change, moves, refuse, button, lay, lift, move_on};
 
 use attention::Unit;
 use attention::sense::is_known;
@@ -35,7 +35,7 @@ impl Drive {
     // Refusal 2 does not meet the state: the sense is one of the thirteen, the play status one of the four, the position not past the end, the
     // end not over the last address, the recovery byte one of the twenty, the event not over 3.
     pub fn is_known_state(self) -> bool
-        ensures { result ≡ isKnownState self }
+        ensures { result ≡ is_known_state self }
     {
         if is_known(self.unit.sense) {
             if self.deck.play.is_play() {

@@ -41,8 +41,8 @@ abbrev pub is_clearing : List ℕ → ℕ → Bool
 is_clearing full limit = eqb (byte full 2) media and leb 5 (min limit (length full))
 
 -- "Polled bit clear is 05/24/00": b1 is the packet's byte 1, asked its byte 4, limit its allocation length
-abbrev pub getEvent : ℕ → ℕ → ℕ → Deck → Result Deck
-getEvent b1 asked limit m =
+abbrev pub get_event : ℕ → ℕ → ℕ → Deck → Result Deck
+get_event b1 asked limit m =
     let class = class_for asked m.event in
     let full = event_bytes class m in
     answering (not (bit0 b1)) (cleared class (min limit (length full)) m) full limit

@@ -7,7 +7,7 @@ use Rattle.gate.specs.declared.fault.Fault.{Fault}
 use Rattle.gate.specs.declared.unit.Pending.{Pending}
 use Rattle.gate.specs.declared.unit.Pending.TheVariants.{Power, Change, Nothing}
 use Rattle.gate.specs.Fault.{sense_of}
-use Rattle.gate.specs.Unit.{hold, clear, pending_of, attentionSense, told, give}
+use Rattle.gate.specs.Unit.{hold, clear, pending_of, attention_sense, told, give}
 
 -- what a command comes to: it fails, or it goes well with the next deck, whether that was a loading, its full answer,
 -- how many bytes of it are asked for, and the blocks that it names
@@ -58,13 +58,13 @@ module _ {M : Type 0} where
 
   -- step 2: "CHECK CONDITION with 06/29/00 or 06/28/00. That one stops being pending. This is a telling."
   abbrev pub meet : Pending → Unit → M → Result M → Reply M
-  meet Power u m r = check (attentionSense Power) (told Power u) m
-  meet Change u m r = check (attentionSense Change) (told Change u) m
+  meet Power u m r = check (attention_sense Power) (told Power u) m
+  meet Change u m r = check (attention_sense Change) (told Change u) m
   meet Nothing u m r = settle u m r
 
   unfoldable pub gate : Unit → M → Result M → Reply M
   gate u m r = meet (pending_of u) u m r
 
   -- REQUEST SENSE, its length the limit
-  abbrev pub requestSense : ℕ → Unit → M → Reply M
-  requestSense limit u m = good (sense_bytes (give u).sense) limit 0 0 (give u).unit m
+  abbrev pub request_sense : ℕ → Unit → M → Reply M
+  request_sense limit u m = good (sense_bytes (give u).sense) limit 0 0 (give u).unit m

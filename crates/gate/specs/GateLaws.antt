@@ -4,11 +4,11 @@ use Rattle.std.proofs.Math.Path.{ap}
 use Rattle.attention.specs.declared.Unit.{Unit}
 use Rattle.gate.specs.declared.unit.Pending.{Pending}
 use Rattle.gate.specs.declared.unit.Pending.TheVariants.{Power, Change, Nothing}
-use Rattle.gate.specs.Unit.{pending_of, attentionSense, told}
+use Rattle.gate.specs.Unit.{pending_of, attention_sense, told}
 use Rattle.gate.specs.Gate.{Result, check, settle, meet, gate}
 
 module _ {M : Type 0} where
-  pub gate-tells : (a : Pending) (u : Unit) (m : M) (r : Result M) → pending_of u ≡ a → (a ≡ Nothing → ⊥) → gate u m r ≡ check (attentionSense a) (told a u) m
+  pub gate-tells : (a : Pending) (u : Unit) (m : M) (r : Result M) → pending_of u ≡ a → (a ≡ Nothing → ⊥) → gate u m r ≡ check (attention_sense a) (told a u) m
   unfolding gate
   gate-tells Power u m r e n = ap (λ (a : Pending). meet a u m r) e
   gate-tells Change u m r e n = ap (λ (a : Pending). meet a u m r) e

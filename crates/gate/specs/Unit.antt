@@ -21,10 +21,10 @@ unfoldable pub pending_of : Unit → Pending
 pending_of u = if u.power then Power else (if u.change then Change else Nothing)
 
 -- "06/29/00 or 06/28/00"
-abbrev pub attentionSense : Pending → Sense
-attentionSense Power = powered
-attentionSense Change = changed
-attentionSense Nothing = no_sense
+abbrev pub attention_sense : Pending → Sense
+attention_sense Power = powered
+attention_sense Change = changed
+attention_sense Nothing = no_sense
 
 -- "That one stops being pending."
 abbrev pub told : Pending → Unit → Unit
@@ -35,5 +35,5 @@ told Nothing u = u
 -- REQUEST SENSE: "A held sense other than 00/00/00 is given, then cleared, attentions untouched. Otherwise a pending attention, power first, is given and cleared"
 unfoldable pub give : Unit → Giving
 give u =
-    if same_sense u.sense no_sense then record { sense = attentionSense (pending_of u); unit = clear (told (pending_of u) u) }
+    if same_sense u.sense no_sense then record { sense = attention_sense (pending_of u); unit = clear (told (pending_of u) u) }
     else record { sense = u.sense; unit = clear u }

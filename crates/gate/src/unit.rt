@@ -1,6 +1,6 @@
 // What the gate does to the attention unit.
 ghost use Rattle.std.specs.Prelude.{◌≡◌};
-ghost use Rattle.gate.specs.Unit.{hold, clear, pending_of, attentionSense, told, give};
+ghost use Rattle.gate.specs.Unit.{hold, clear, pending_of, attention_sense, told, give};
 ghost use Rattle.gate.specs.Gate.{sense_bytes};
 
 use attention::Unit;
@@ -74,7 +74,7 @@ pub fn told(u: Unit, a: Pending) -> Unit
 
 // The triple of an attention; 00/00/00 for none.
 pub fn sense_of_pending(a: Pending) -> Sense
-    ensures { result ≡ attentionSense a }
+    ensures { result ≡ attention_sense a }
 {
     match a {
         Pending::Power => sense_at(POWERED),

@@ -32,20 +32,20 @@ every (suc n) p = every n p and p n
 -- ---- and
 
 -- this test holds: what is left decides
-pub and-on : (a b : Bool) {r : Bool} → a ≡ true → r ≡ b → r ≡ a and b
+pub and_on : (a b : Bool) {r : Bool} → a ≡ true → r ≡ b → r ≡ a and b
 unfolding ◌and◌
-and-on a b {r} h e = rw h e
+and_on a b {r} h e = rw h e
 
 -- this test fails: the whole fails
-pub and-off : (a b : Bool) → a ≡ false → false ≡ a and b
+pub and_off : (a b : Bool) → a ≡ false → false ≡ a and b
 unfolding ◌and◌
-and-off a b h = rw h
+and_off a b h = rw h
 
 -- a test further on fails: the whole fails
-pub and-late : (a b : Bool) → false ≡ b → false ≡ a and b
+pub and_late : (a b : Bool) → false ≡ b → false ≡ a and b
 unfolding ◌and◌
-and-late true b h = h
-and-late false b h = refl
+and_late true b h = h
+and_late false b h = refl
 
 pub and_head : (a b : Bool) → a and b ≡ true → a ≡ true
 unfolding ◌and◌
@@ -133,8 +133,8 @@ pub every-breaks : (n : ℕ) (p : ℕ → Bool) (i : ℕ) → i < n → p i ≡ 
 unfolding every
 every-breaks zero p i k h = absurd (omega arith)
 every-breaks (suc n) p i k h = elim (ℕ_discrete i n) [
-  | yes e ↦ and-late (every n p) (p n) (sym (rw e at h))
-  | no e ↦ and-off (every n p) (p n) (sym (every-breaks n p i (omega arith) h))
+  | yes e ↦ and_late (every n p) (p n) (sym (rw e at h))
+  | no e ↦ and_off (every n p) (p n) (sym (every-breaks n p i (omega arith) h))
 ]
 
 -- what holds at each number holds of all

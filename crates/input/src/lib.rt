@@ -1,7 +1,25 @@
-// A file that an argument names, read into lent memory. What a file holds is the system's to say, so of the bytes nothing is promised,
-// and of the count that it is not past the end.
+// What a program is given, and what it says where that fails: a file that an argument names, read into lent memory, and lines on standard
+// error. What a file holds is the system's to say, so of the bytes nothing is promised, and of the count that it is not past the end.
 #![tactic(auto)]
-ghost use Rattle.std.specs.Prelude.{◌≡◌, ◌≤◌, length};
+
+mod said;
+
+ghost use Rattle.std.specs.Prelude.{◌≡◌, ◌≤◌, length, IfOk};
+
+pub use said::{fail, say};
+use std::env::FillError;
+use std::fs::File;
+use std::io::Read;
+use std::rt::Env;
+use std::{io, str};
+
+// The system's numbers for a name that is too long, and for one that is no text.
+const TOO_LONG: i32 = 36;
+
+const NO_TEXT: i32 = 84;
+
+// The most bytes of a name.
+const NAME: usize = 4096;
 
 // How many bytes were read, and whether nothing failed.
 #[derive(Clone, Copy)]
@@ -19,47 +37,67 @@ fn failed() -> Loaded
     }
 }
 
+// There is an argument i; argument 0 is the program's name.
+pub fn is_given(rt: &HostRuntime, i: usize) -> bool {
+    let mut start = [0u8; 1];
+    match rt.arg(i, &mut start) {
+        Ok(_) => true,
+        Err(FillError::TooLong) => true,
+        Err(FillError::NotPresent) => false,
+    }
+}
+
 // Reads until the end of the file or of buf.
-fn read_all(fd: i32, buf: &mut [u8]) -> Loaded
-    ensures { result.count ≤ length buf.new }
+fn read_all(file: &mut File, buf: &mut [u8]) -> io::Result<usize>
+    ensures { IfOk result (λ n. n ≤ length buf.new) }
 {
     let mut at = 0;
     while at < buf.len() {
-        let got = libc::read(fd, &mut buf[at..]);
-        if got < 0 {
-            return failed();
-        }
-        let more = io::count(got, &buf[at..]);
+        let more = file.read(&mut buf[at..])?;
         if more == 0 {
             break;
         }
         at += more;
     }
-    Loaded {
-        count: at,
-        whole: true,
+    Ok(at)
+}
+
+// Reads the start of the file of that name, as much as buf holds.
+fn read_file(rt: &HostRuntime, name: &[u8], buf: &mut [u8]) -> io::Result<usize>
+    ensures { IfOk result (λ n. n ≤ length buf.new) }
+{
+    match str::from_utf8(name) {
+        Ok(path) => {
+            let mut file = File::open(rt, path)?;
+            read_all(&mut file, buf)
+        }
+        Err(_) => Err(io::Error::from_raw_os_error(NO_TEXT)),
+    }
+}
+
+// The same. Where that fails, a line on standard error says why.
+fn load_file(rt: &HostRuntime, name: &[u8], buf: &mut [u8]) -> Loaded
+    ensures { result.count ≤ length buf.new }
+{
+    match read_file(rt, name, buf) {
+        Ok(count) => Loaded { count, whole: true },
+        Err(e) => {
+            fail(rt, name, e);
+            failed()
+        }
     }
 }
 
 // Reads the start of the file that argument i names, as much as buf holds. Where that fails, a line on standard error says why.
-pub fn load(i: usize, buf: &mut [u8]) -> Loaded
+pub fn load(rt: &HostRuntime, i: usize, buf: &mut [u8]) -> Loaded
     ensures { result.count ≤ length buf.new }
 {
-    let mut path = io::buffer();
-    let n = os::arg(i, &mut path);
-    if os::errno() != 0 {
-        os::fail(b"argument");
-        return failed();
+    let mut name = [0u8; NAME];
+    match rt.arg(i, &mut name) {
+        Ok(n) => load_file(rt, &name[..n], buf),
+        Err(_) => {
+            fail(rt, b"argument", io::Error::from_raw_os_error(TOO_LONG));
+            failed()
+        }
     }
-    let fd = os::open_read(&path[..n]);
-    if fd < 0 {
-        os::fail(&path[..n]);
-        return failed();
-    }
-    let r = read_all(fd, buf);
-    if !r.whole {
-        os::fail(&path[..n]);
-    }
-    libc::close(fd);
-    r
 }

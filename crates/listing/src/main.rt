@@ -1,5 +1,6 @@
 // The listing program: meets a file of packets with a file that holds a disc table, and prints a line for each packet.
 #![tactic(auto)]
+
 mod line;
 
 ghost use Rattle.std.specs.Prelude.{◌≡◌, true, [], ◌*◌, ◌≤◌, length};
@@ -12,8 +13,7 @@ use attention::Unit;
 use attention::sense::{NO_SENSE, sense_at};
 use deck::{Deck, NO_EVENT};
 use drive::state::Drive;
-use input::load;
-use libc::{STDERR_FILENO, STDOUT_FILENO};
+use input::{fail, is_given, load, say};
 use line::put_line;
 use outcome::Outcome;
 use page::defaults;
@@ -29,12 +29,14 @@ const PACKET: usize = 12;
 const MOST: usize = 49152;
 
 // Writes to standard output, and answers whether that went well. Where not, a line on standard error says why.
-fn write(text: &[u8]) -> bool {
-    if io::write_all(STDOUT_FILENO, text) {
-        return true;
+fn write(rt: &HostRuntime, text: &[u8]) -> bool {
+    match rt.write_all(text) {
+        Ok(()) => true,
+        Err(e) => {
+            fail(rt, b"standard output", e);
+            false
+        }
     }
-    os::fail(b"standard output");
-    false
 }
 
 // The drive after the second form of power-on, tray closed and a disc in.
@@ -74,7 +76,7 @@ struct Listed {
 }
 
 // Meets the packets one after the other, each with the state that the one before left, and writes their lines.
-fn list(table: &[u8], packets: &[u8], mem: &mut [u8], line: &mut [u8]) -> Listed
+fn list(rt: &HostRuntime, table: &[u8], packets: &[u8], mem: &mut [u8], line: &mut [u8]) -> Listed
     requires { (length packets.now ≤ 49152) × (length mem.old ≡ bound) }
     ensures { (result.state ≡ state_after table.now packets.now result.met) × (result.whole ≡ true → length packets.now ≤ 12 * result.met) }
 {
@@ -87,7 +89,7 @@ fn list(table: &[u8], packets: &[u8], mem: &mut [u8], line: &mut [u8]) -> Listed
         let k = put_line(n, o, front(mem, o.len), line);
         state = o.state;
         at += PACKET;
-        if !write(front(line, k)) {
+        if !write(rt, front(line, k)) {
             return Listed {
                 met: n,
                 state,
@@ -102,31 +104,32 @@ fn list(table: &[u8], packets: &[u8], mem: &mut [u8], line: &mut [u8]) -> Listed
     }
 }
 
-fn main() {
-    if os::arg_count() != 3 {
-        io::write_all(STDERR_FILENO, b"usage: listing TABLE PACKETS\n");
+fn main(rt: HostRuntime) {
+    if !is_given(&rt, 2) || is_given(&rt, 3) {
+        say(&rt, b"usage: listing TABLE PACKETS\n");
         return;
     }
     let mut table = [0u8; BOUND + 1];
-    let t = load(1, &mut table);
+    let t = load(&rt, 1, &mut table);
     if !t.whole {
         return;
     }
     let mut packets = [0u8; MOST + 1];
-    let p = load(2, &mut packets);
+    let p = load(&rt, 2, &mut packets);
     if !p.whole {
         return;
     }
     if MOST < p.count {
-        write(b"too long\n");
+        write(&rt, b"too long\n");
         return;
     }
-    if !write(b"n st key asc ascq len data start count\n") {
+    if !write(&rt, b"n st key asc ascq len data start count\n") {
         return;
     }
     let mut mem = [0u8; BOUND];
     let mut line = [0u8; 14000];
     list(
+        &rt,
         front(&table, t.count),
         front(&packets, p.count),
         &mut mem,

@@ -23,8 +23,8 @@ selected code len recovery retry m =
     if is_page code len recovery then done (with_page m (page_of recovery retry)) else fails ListField
 
 -- "A list is 0 bytes (GOOD, nothing changes) or 16, its header not looked at."
-unfoldable pub modeSelect : ℕ → List ℕ → Deck → Result Deck
-modeSelect n l m =
+unfoldable pub mode_select : ℕ → List ℕ → Deck → Result Deck
+mode_select n l m =
     if is_list_length n (length l)
     then (if eqb n 0 then done m else selected (byte l 8) (byte l 9) (byte l 10) (byte l 11) m)
     else fails ListLength

@@ -55,5 +55,5 @@ gives (Fails f) limit m = fails f
 gives (Values g) limit m = answering false m (mode_bytes g) limit
 
 -- b is the packet's byte 2, limit its allocation length
-abbrev pub modeSense : ℕ → ℕ → Deck → Result Deck
-modeSense b limit m = gives (page_shown b m.page) limit m
+abbrev pub mode_sense : ℕ → ℕ → Deck → Result Deck
+mode_sense b limit m = gives (page_shown b m.page) limit m

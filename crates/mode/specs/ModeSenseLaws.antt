@@ -11,7 +11,7 @@ use Rattle.gate.specs.Gate.{Result, fails, goes}
 use Rattle.command.specs.Done.{answering-goes}
 use Rattle.mode.specs.declared.mode_sense.Shown.{Shown}
 use Rattle.mode.specs.declared.mode_sense.Shown.TheVariants.{Fails, Values}
-use Rattle.mode.specs.ModeSense.{control_in, page_in, asks_changeable, asks_default, asks_saved, changeable, values_of, page_shown, mode_bytes, gives, modeSense}
+use Rattle.mode.specs.ModeSense.{control_in, page_in, asks_changeable, asks_default, asks_saved, changeable, values_of, page_shown, mode_bytes, gives, mode_sense}
 
 module _ (control : ℕ) (current : Page) where
   pub values_of-changeable : control ≡ asks_changeable → values_of control current ≡ changeable
@@ -47,5 +47,5 @@ module _ (P : Result Deck → Type 0) (limit : ℕ) (m : Deck) where
   gives-ways (Fails f) a v = a f
   gives-ways (Values g) a v = rw (answering-goes m (mode_bytes g) limit {bad = false} refl) (v g)
 
-  pub mode_sense-ways : (b : ℕ) → ((f : Fault) → P (fails f)) → ((g : Page) → P (goes m false (mode_bytes g) limit 0 0)) → P (modeSense b limit m)
+  pub mode_sense-ways : (b : ℕ) → ((f : Fault) → P (fails f)) → ((g : Page) → P (goes m false (mode_bytes g) limit 0 0)) → P (mode_sense b limit m)
   mode_sense-ways b = gives-ways (page_shown b m.page)

@@ -1,7 +1,7 @@
 // MODE SELECT(10): page 01h, out of the lent parameter list.
 ghost use Rattle.std.specs.Prelude.{◌≡◌};
 ghost use Rattle.command.specs.Done.{done_of};
-ghost use Rattle.mode.specs.ModeSelect.{is_page, selected, modeSelect};
+ghost use Rattle.mode.specs.ModeSelect.{is_page, selected, mode_select};
 
 use command::done::{Done, done_with};
 use deck::Deck;
@@ -36,7 +36,7 @@ fn selected(code: u8, len: u8, recovery: u8, retry: u8, m: Deck) -> Done
 
 // MODE SELECT: n is the packet's list length, which is 0 or 16 and the lent list's. The list's header and its last four bytes are not looked at.
 pub fn mode_select(n: usize, list: &[u8], m: Deck) -> Done
-    ensures { result ≡ done_of (modeSelect n list.now m) }
+    ensures { result ≡ done_of (mode_select n list.now m) }
 {
     if n == list.len() {
         if n == 0 {

@@ -22,8 +22,8 @@ abbrev pub bytes_of : Reply Deck → List ℕ
 bytes_of a = take a.limit a.full
 
 -- what is handed back of an answer: its number and rule, status, how many bytes, start, count, and the state
-abbrev pub outcomeOf : Reply Deck → Outcome
-outcomeOf a = record {
+abbrev pub outcome_of : Reply Deck → Outcome
+outcome_of a = record {
   number = a.number;
   rule = a.rule;
   status = a.status;
@@ -35,7 +35,7 @@ outcomeOf a = record {
 
 -- the outcome r and the memory m' are what the answer says, of the memory m
 pub record Answered (a : Reply Deck) (m : List ℕ) (r : Outcome) (m' : List ℕ) : Type 0 where
-  pub outcome : r ≡ outcomeOf a
+  pub outcome : r ≡ outcome_of a
   pub memory : m' ≡ fill m (bytes_of a)
 
 -- ---- what each way out hands back

@@ -1,7 +1,7 @@
 // What a packet hands back: a refusal, CHECK CONDITION or GOOD.
 #![tactic(auto)]
 ghost use Rattle.std.specs.Prelude.{◌≡◌};
-ghost use Rattle.gate.specs.Unit.{attentionSense, told};
+ghost use Rattle.gate.specs.Unit.{attention_sense, told};
 ghost use Rattle.outcome.specs.Outcome.{refused, checked, granted, finished};
 
 use attention::Unit;
@@ -88,7 +88,7 @@ pub fn finish(u: Unit, v: Unit, deck: Deck, done: Done) -> Outcome
 
 // A telling: CHECK CONDITION with the attention's triple, and it stops being pending.
 pub fn tell(a: Pending, unit: Unit, deck: Deck) -> Outcome
-    ensures { result ≡ checked (attentionSense a) (told a unit) deck }
+    ensures { result ≡ checked (attention_sense a) (told a unit) deck }
 {
     check(sense_of_pending(a), told(unit, a), deck)
 }

@@ -5,7 +5,7 @@ use Rattle.std.proofs.Math.Nat.{pow-le-pow_right}
 use Rattle.std.proofs.Math.Decide.{dec_le}
 use Rattle.std.proofs.Math.Numerals.{unary_clauses}
 use Rattle.std.proofs.lemmas.Bool.{lt-leb}
-use Rattle.io.specs.Digits.{last_digits, IsDigitCount}
+use Rattle.print.specs.Digits.{last_digits, IsDigitCount}
 use Rattle.ground.specs.Tests.{if◌then◌else◌, when, unless, either}
 
 -- how many digits n has, at most `most`: one where it is below ten, else one more than a tenth of it has
@@ -41,7 +41,7 @@ places_fewest (suc most) n (suc (suc j)) h f =
     unless _ _ _ e ∙ ap suc (places_fewest most (n / 10) (suc j) (omega arith) rest)
 
 -- a number of 64 bits has at most twenty digits
-twenty : (n k : ℕ) → n < 2 ^ 64 → IsDigitCount 10 1 n k → k ≤ 20
+pub twenty : (n k : ℕ) → n < 2 ^ 64 → IsDigitCount 10 1 n k → k ≤ 20
 twenty n k h f = elim (dec_le k 20) [
   | yes p ↦ p
   | no p ↦ (let q : 20 < k = lt_of_not-le p in

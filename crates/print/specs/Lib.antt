@@ -1,4 +1,5 @@
 pub mod Decimal
+pub mod Digits
 pub mod Front
 pub mod Hex
 pub mod Joined

@@ -46,11 +46,11 @@ unique_put-hexes bytes = laid_once (hexes bytes)
 pub unique_put-shown : (bytes : List ℕ) → Once (shown bytes)
 unique_put-shown bytes = laid_once (shown bytes)
 
-pub unique-next_hex : (b : ℕ) → Once (spaced (hex_byte b))
-unique-next_hex b = laid_once (spaced (hex_byte b))
+pub unique_next_hex : (b : ℕ) → Once (spaced (hex_byte b))
+unique_next_hex b = laid_once (spaced (hex_byte b))
 
-pub unique-next_three : (a b c : ℕ) → Once (spaced (hex_byte a) next spaced (hex_byte b) next spaced (hex_byte c))
-unique-next_three a b c = laid_once (spaced (hex_byte a) next spaced (hex_byte b) next spaced (hex_byte c))
+pub unique_next_three : (a b c : ℕ) → Once (spaced (hex_byte a) next spaced (hex_byte b) next spaced (hex_byte c))
+unique_next_three a b c = laid_once (spaced (hex_byte a) next spaced (hex_byte b) next spaced (hex_byte c))
 
 pub unique-next-shown : (bytes : List ℕ) → Once (spaced (shown bytes))
 unique-next-shown bytes = laid_once (spaced (shown bytes))

@@ -29,6 +29,7 @@ module _ {C S A : Type 0} (answer : C → S → A) (next : C → S → S) (looks
   agree-from : (s : S) {cs ds : List C} → Pairwise Alike cs ds → (i : ℕ) {e f : Event C S A} → At (past s cs) i e → At (past s ds) i f
       → ((j : ℕ) (g : Event C S A) → j ≤ i → At (past s cs) j g → looks g.call g.old ≡ false)
       → Same e f
+  agree-from s Pairwise.nil i a _ w = elim a [ ]
   agree-from s (cons {c} {d} a p) zero here here w = blind c d s a (w zero _ (omega arith) here)
   agree-from s (cons {c} {d} {cs} {ds} a p) (suc i) {e} {f} (there x) (there y) w =
       let b = blind c d s a (w zero _ (omega arith) here) in

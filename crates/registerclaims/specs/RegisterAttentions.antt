@@ -6,7 +6,7 @@ use Rattle.std.proofs.lemmas.Bool.{false≢true}
 use mathlib.Core.List.{List, [], ◌∷◌, ◌++◌}
 use Rattle.ground.specs.Tests.{◌and◌}
 use Rattle.drive.specs.declared.state.Drive.{Drive}
-use Rattle.deck.specs.Deck.{isLoaded}
+use Rattle.deck.specs.Deck.{is_loaded}
 use Rattle.taskfile.specs.declared.TaskFile.{TaskFile}
 use Rattle.taskfile.specs.declared.Access.TheVariants.{Reset}
 use Rattle.taskfile.specs.declared.Due.{Due}
@@ -58,7 +58,7 @@ pub register_attentions-refused : (k : Attention) (c : Call) (s : Console) {b : 
 register_attentions-refused k c s {b} h n = attentions-refused k b s.drive (λ z. n (target_number c s h ∙ z))
 
 -- K3's "Power-on with a loaded disc now leaves both attentions pending by default", by reset
-pub register_attentions-reset : (k : Attention) (v : ℕ) (t m : List ℕ) (s : Console) → isLoaded s.drive.deck ≡ true
+pub register_attentions-reset : (k : Attention) (v : ℕ) (t m : List ℕ) (s : Console) → is_loaded s.drive.deck ≡ true
     → is_pending k (next (accessing Reset v t m) s).drive ≡ true
 register_attentions-reset k v t m s l = rw (target-reset s v t m).0 (attentions_greeted k s.drive l)
 

@@ -2,7 +2,7 @@
 use Rattle.std.specs.Prelude.{ℕ, ◌≡◌, Bool, true, false, not, List, [], ◌∷◌, ◌++◌, eqb}
 use Rattle.ground.specs.Tests.{◌and◌, ◌or◌}
 use Rattle.drive.specs.declared.state.Drive.{Drive}
-use Rattle.disc.specs.Rules.{isFit}
+use Rattle.disc.specs.Rules.{is_fit}
 use Rattle.taskfile.specs.declared.TaskFile.{TaskFile}
 use Rattle.taskfile.specs.declared.Phase.{Phase}
 use Rattle.taskfile.specs.declared.Phase.TheVariants.{Idle, PacketRun, ListRun, AnswerRun}
@@ -125,7 +125,7 @@ is_success e = completes is_needing e.call e.old and is_good e
 -- the same call, or the same access with the same byte and memory and two fit tables
 pub data Alike : Call → Call → Type 0 where
   same : (c : Call) → Alike c c
-  fitting : (a : Access) (v : ℕ) (m : List ℕ) {t u : List ℕ} → isFit t ≡ true → isFit u ≡ true → Alike (accessing a v t m) (accessing a v u m)
+  fitting : (a : Access) (v : ℕ) (m : List ℕ) {t u : List ℕ} → is_fit t ≡ true → is_fit u ≡ true → Alike (accessing a v t m) (accessing a v u m)
 
 -- the run is one of the answer
 abbrev pub gives_answer : Phase → Bool

@@ -35,7 +35,7 @@ made_by-reset f v d t m p l = reset-made f p l
 after-made : (f : TaskFile) (cs : List Call) → Made f → Made (after f cs)
 unfolding after
 after-made f [] h = h
-after-made f (c ∷ cs) h = after-made _ cs (step-made f c.access c.byte c.state c.table c.memory h c.small)
+after-made f (c ∷ cs) h = after-made (step_of f c.access c.byte c.state c.table c.memory).file cs (step-made f c.access c.byte c.state c.table c.memory h c.small)
 
 -- so along any accesses from the start every record is one
 pub made_always : (cs : List Call) → Made (after started cs)

@@ -9,7 +9,7 @@ use Rattle.std.proofs.Math.ListN.{length-set}
 use Rattle.ground.specs.Tests.{◌and◌, either, and_head, and_tail, and_both}
 use Rattle.drive.specs.declared.state.Drive as drive
 use Rattle.table.specs.Layout.{bound}
-use Rattle.outcome.specs.Outcome.{outcomeOf}
+use Rattle.outcome.specs.Outcome.{outcome_of}
 use Rattle.claims.specs.Call.{packet}
 use Rattle.claims.specs.Whole.{answers-bounded}
 use Rattle.taskfile.specs.declared.TaskFile.{TaskFile}
@@ -196,7 +196,7 @@ pub step-made : (f : TaskFile) (a : Access) (v : ℕ) (d : drive.Drive) (t m : L
 unfolding step_of gives
 step-made f a v d t m M small = go (turn_of f a v).due (turn_of f a v).file (turn-made f v M small a)
   where
-    bounded : (g : TaskFile) (l : List ℕ) → (outcomeOf (asks g l d t m)).len ≤ 6538
+    bounded : (g : TaskFile) (l : List ℕ) → (outcome_of (asks g l d t m)).len ≤ 6538
     bounded g l = let b = answers-bounded (packet g.packet t l m) d in omega arith
 
     go : (e : Due) (g : TaskFile) → MadeBy e g → Made (step_by e f g d t m).file

@@ -9,12 +9,12 @@ use Rattle.attention.specs.Sense.{triple, sense_at, same_sense, among, is_known}
 use Rattle.play.specs.Play.{is_status, is_play}
 use Rattle.page.specs.Page.{among as among_bytes, is_setting}
 use Rattle.attention.specs.Unit.{attend}
-use Rattle.drive.specs.State.{isKnownState, power_on}
+use Rattle.drive.specs.State.{is_known_state, power_on}
 use Rattle.table.specs.Layout.{bound, is_track, is_extra}
 use Rattle.table.specs.Row.{start_of, names, simple, free, plain, head_a0, head_a1, headed, addressed, row_test}
 use Rattle.sessions.specs.Session.{one, size, listed, numbered, is_session, starts, before, follows, in_place, in_order}
-use Rattle.disc.specs.Rules.{rule1, rule2, each_row, rises, out_before, begins_after, rising, rule7, first_broken, late_rules, row_rules, fault, isFit}
-use Rattle.tracks.specs.Track.{next_out, out_at, covers, wanted, next_found, found, trackOf, is_mode, in_mode, allIn}
+use Rattle.disc.specs.Rules.{rule1, rule2, each_row, rises, out_before, begins_after, rising, rule7, first_broken, late_rules, row_rules, fault, is_fit}
+use Rattle.tracks.specs.Track.{next_out, out_at, covers, wanted, next_found, found, track_of, is_mode, in_mode, all_in}
 use Rattle.gate.specs.Unit.{pending_of}
 use Rattle.gate.specs.Gate.{gate}
 use Rattle.command.specs.Command.{decode}
@@ -22,9 +22,9 @@ use Rattle.command.specs.Inquiry.{inquiry_bytes}
 use Rattle.command.specs.Done.{answering}
 use Rattle.blocks.specs.Range.{over, in_range, ranged}
 use Rattle.mode.specs.ModeSense.{values_of, page_shown}
-use Rattle.mode.specs.ModeSelect.{is_list_length, is_page, selected, modeSelect}
+use Rattle.mode.specs.ModeSelect.{is_list_length, is_page, selected, mode_select}
 use Rattle.target.specs.Perform.{perform}
-use Rattle.target.specs.Packet.{refusalOf, answer}
+use Rattle.target.specs.Packet.{refusal_of, answer}
 use Rattle.claims.specs.Marked.{table_e, loaded_e, same_bytes}
 use Rattle.taskfile.specs.declared.TaskFile.{TaskFile}
 use Rattle.taskfile.specs.TaskFile.{count_of, started}
@@ -323,5 +323,5 @@ abbrev handed : Board
 handed = record { file = started; state = loaded_e; memory = replicate bound 0xFF; number = 0; sizes = []; bytes = []; start = 0; blocks = 0 }
 
 pub register_marked : all_seen handed register_marks ≡ true
-unfolding all_seen is_seen stepped wrote drained touched step_of memory_of gives fill access_of gone answered packet_end packet_byte list_byte answer_byte turn_of limit_of is_limit is_run takes_list is_packet_run is_list_run is_answer_run phase_of left_of same_bytes ◌and◌ ◌or◌ if◌then◌else◌ every is_msf sense_at same_sense among is_known is_status is_play among_bytes is_setting isKnownState power_on attend is_track is_extra start_of names simple free plain head_a0 head_a1 headed addressed row_test one size listed numbered is_session starts before follows in_place in_order rule1 rule2 each_row rises out_before begins_after rising rule7 first_broken late_rules row_rules fault isFit next_out out_at covers wanted next_found found trackOf is_mode in_mode allIn pending_of gate decode answering over in_range ranged values_of page_shown is_list_length is_page selected modeSelect perform refusalOf answer
+unfolding all_seen is_seen stepped wrote drained touched step_of memory_of gives fill access_of gone answered packet_end packet_byte list_byte answer_byte turn_of limit_of is_limit is_run takes_list is_packet_run is_list_run is_answer_run phase_of left_of same_bytes ◌and◌ ◌or◌ if◌then◌else◌ every is_msf sense_at same_sense among is_known is_status is_play among_bytes is_setting is_known_state power_on attend is_track is_extra start_of names simple free plain head_a0 head_a1 headed addressed row_test one size listed numbered is_session starts before follows in_place in_order rule1 rule2 each_row rises out_before begins_after rising rule7 first_broken late_rules row_rules fault is_fit next_out out_at covers wanted next_found found track_of is_mode in_mode all_in pending_of gate decode answering over in_range ranged values_of page_shown is_list_length is_page selected mode_select perform refusal_of answer
 register_marked = refl

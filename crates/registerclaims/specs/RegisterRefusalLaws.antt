@@ -10,10 +10,10 @@ use Rattle.ground.specs.Tests.{◌and◌, ◌or◌, if◌then◌else◌, when, u
 use Rattle.ground.specs.Memory.{fill}
 use Rattle.deck.specs.declared.Deck.{Deck}
 use Rattle.drive.specs.declared.state.Drive.{Drive}
-use Rattle.deck.specs.Deck.{isLoaded}
-use Rattle.drive.specs.State.{isKnownState}
+use Rattle.deck.specs.Deck.{is_loaded}
+use Rattle.drive.specs.State.{is_known_state}
 use Rattle.table.specs.Layout.{bound}
-use Rattle.disc.specs.Rules.{isFit}
+use Rattle.disc.specs.Rules.{is_fit}
 use Rattle.gate.specs.Gate.{Reply}
 use Rattle.outcome.specs.Outcome.{state_of, bytes_of}
 use Rattle.target.specs.Packet.{answer}
@@ -102,10 +102,10 @@ ordered-handed {known} {short} {unfit} {n} o =
 
 module _ (f g : TaskFile) (d : Drive) (t m : List ℕ) (twelve : length g.packet ≡ 12) where
   asks-handed : (l : List ℕ)
-      → Handed (isKnownState d) (ltb (length m) bound) (isLoaded d.deck and not (isFit t)) false true (asks g l d t m).number
+      → Handed (is_known_state d) (ltb (length m) bound) (is_loaded d.deck and not (is_fit t)) false true (asks g l d t m).number
   asks-handed l = ordered-handed (rw twelve at (reply-ordered d g.packet t (length m) l))
 
-  gives-handed : Handed (isKnownState d) (ltb (length m) bound) (isLoaded d.deck and not (isFit t)) true false (gives f g d m).answer.number
+  gives-handed : Handed (is_known_state d) (ltb (length m) bound) (is_loaded d.deck and not (is_fit t)) true false (gives f g d m).answer.number
   unfolding ◌and◌ ◌or◌ if◌then◌else◌
   gives-handed =
       let N = gives-number f g d t m in
@@ -118,7 +118,7 @@ module _ (f g : TaskFile) (d : Drive) (t m : List ℕ) (twelve : length g.packet
       go false h i j k l = record { two = i; three = j; four = k; any = rw h }
 
   pub step-handed : (e : Due)
-      → Handed (isKnownState d) (ltb (length m) bound) (isLoaded d.deck and not (isFit t)) (is_given e) (is_performed e)
+      → Handed (is_known_state d) (ltb (length m) bound) (is_loaded d.deck and not (is_fit t)) (is_given e) (is_performed e)
       (step_by e f g d t m).answer.number
   unfolding ◌and◌ ◌or◌
   step-handed Refused = record { two = refl; three = refl; four = refl; any = refl }

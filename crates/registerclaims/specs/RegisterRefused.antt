@@ -6,9 +6,9 @@ use Rattle.std.proofs.Common.{sym, ◌∙◌}
 use Rattle.ground.specs.Tests.{◌and◌, ◌or◌, if◌then◌else◌, and_assoc}
 use Rattle.deck.specs.declared.Deck.{Deck}
 use Rattle.drive.specs.declared.state.Drive.{Drive}
-use Rattle.deck.specs.Deck.{isLoaded}
-use Rattle.drive.specs.State.{isKnownState, power_on}
-use Rattle.disc.specs.Rules.{isFit}
+use Rattle.deck.specs.Deck.{is_loaded}
+use Rattle.drive.specs.State.{is_known_state, power_on}
+use Rattle.disc.specs.Rules.{is_fit}
 use Rattle.gate.specs.Gate.{Reply}
 use Rattle.taskfile.specs.declared.TaskFile.{TaskFile}
 use Rattle.taskfile.specs.declared.Phase.TheVariants.{Idle, PacketRun}
@@ -65,7 +65,7 @@ module _ (f : TaskFile) (v : ℕ) (d : Drive) (t m : List ℕ) where
 
   -- 2 does not meet the state
   abbrev is_state : Bool
-  is_state = isKnownState d
+  is_state = is_known_state d
 
   -- the response memory is "under 6,538 bytes"
   abbrev is_under : Bool
@@ -73,7 +73,7 @@ module _ (f : TaskFile) (v : ℕ) (d : Drive) (t m : List ℕ) where
 
   -- "loaded .. and the table is not fit"
   abbrev is_unfit : Bool
-  is_unfit = isLoaded d.deck and not (isFit t)
+  is_unfit = is_loaded d.deck and not (is_fit t)
 
   -- ---- which number
 
@@ -218,10 +218,10 @@ asked_file f = record {
   at = 0;
 }
 
-pub register-idle_packet : (f : TaskFile) (d : Drive) (t m : List ℕ) → phase_of f ≡ Idle
+pub register_idle_packet : (f : TaskFile) (d : Drive) (t m : List ℕ) → phase_of f ≡ Idle
     → (step_of f Command 0xA0 d t m ≡ leaves (asked_file f) 0 d)
     × (memory_of f Command 0xA0 d t m ≡ m)
     × (phase_of (asked_file f) ≡ PacketRun)
     × (left_of (asked_file f) ≡ 12)
 unfolding step_of memory_of turn_of phase_of left_of is_packet_run if◌then◌else◌ ◌and◌
-register-idle_packet f d t m idle = rw idle (refl, refl, refl, refl)
+register_idle_packet f d t m idle = rw idle (refl, refl, refl, refl)

@@ -4,11 +4,11 @@ use Rattle.std.proofs.Common.{sym, ◌∙◌, ⊎_elim}
 use Rattle.std.proofs.Math.Path.{ap}
 use Rattle.std.proofs.lemmas.Bool.{false≢true, not-true, not-false}
 use mathlib.Core.List.{List, [], ◌∷◌, ◌++◌}
-use Rattle.ground.specs.Tests.{◌and◌, ◌or◌, and-late, and-off, or_left}
+use Rattle.ground.specs.Tests.{◌and◌, ◌or◌, and_late, and_off, or_left}
 use Rattle.ground.specs.Memory.{fill}
 use Rattle.deck.specs.declared.Deck.{Deck}
 use Rattle.drive.specs.declared.state.Drive.{Drive as State}
-use Rattle.disc.specs.Rules.{isFit}
+use Rattle.disc.specs.Rules.{is_fit}
 use Rattle.gate.specs.Gate.{Reply}
 use Rattle.outcome.specs.Outcome.{bytes_of}
 use Rattle.taskfile.specs.declared.TaskFile.{TaskFile}
@@ -36,7 +36,7 @@ use Rattle.registerclaims.specs.RegisterHistory.{target_state, target_exactly, d
 abbrev any_packet : List drives.Call → Bool
 any_packet = have_packet (λ p. true)
 
-module _ (f n : TaskFile) (d : State) (m t u : List ℕ) (p : isFit t ≡ true) (q : isFit u ≡ true) where
+module _ (f n : TaskFile) (d : State) (m t u : List ℕ) (p : is_fit t ≡ true) (q : is_fit u ≡ true) where
   due-blind : (w : Due) → any_packet (due_call w n t m) and not (is_attending d) ≡ false
       → (step_by w f n d t m ≡ step_by w f n d u m) × (memory_by w n d t m ≡ memory_by w n d u m)
   unfolding ◌and◌ ◌or◌
@@ -86,7 +86,7 @@ answer_quiet (outside c q) s h = rw (not-true (is_packet (λ p. true) c) q)
 
 live_quiet : (c : Call) (s : Console) → is_live s ≡ true → is_free c s ≡ false
 live_quiet c s h =
-    ⊎_elim (λ a. sym (and-late _ _ (sym (ap not a)))) (λ r. sym (and-off _ _ (answer_quiet c s r))) (or_cases _ _ h)
+    ⊎_elim (λ a. sym (and_late _ _ (sym (ap not a)))) (λ r. sym (and_off _ _ (answer_quiet c s r))) (or_cases _ _ h)
 
 -- a power-on, by reset too, or a loading leaves an attention pending
 cause-live : (c : Call) (s : Console) {b : drives.Call} → target_call c s ≡ b ∷ [] → is_cause (drives.event b s.drive) ≡ true → is_live (next c s) ≡ true
@@ -107,9 +107,9 @@ register-two-runs handed common c h k p i e f =
     handed common c (cause-live c (final handed common) h k) p i
 
 -- and the second run has an event at each place where the first has one
-pub register-two-runs_long : (handed : Console) (common : List Call) (c : Call) {cs ds : List Call} → Pairwise Alike cs ds
+pub register_two_runs_long : (handed : Console) (common : List Call) (c : Call) {cs ds : List Call} → Pairwise Alike cs ds
     → length (history handed (common ++ c ∷ cs)) ≡ length (history handed (common ++ c ∷ ds))
-register-two-runs_long handed common c p = runs_long answer next handed common c p
+register_two_runs_long handed common c p = runs_long answer next handed common c p
 
 -- ---- and with one response memory carried from call to call: "Until the transfer ends the response memory is handed on as it was left."
 
@@ -139,10 +139,10 @@ register-two-runs-carried handed common c h k p i e f =
 
 -- ---- "that call counts for demand 3": after any calls they agree for longer, until a call completes a packet with nothing pending
 
-pub register-two-runs_until : (handed : Console) (common : List Call) {cs ds : List Call} → Pairwise Alike cs ds
+pub register_two_runs_until : (handed : Console) (common : List Call) {cs ds : List Call} → Pairwise Alike cs ds
     → AgreeUntil answer next is_free handed common cs ds
-register-two-runs_until handed common p = agree-until answer next is_free Alike blind handed common p
+register_two_runs_until handed common p = agree-until answer next is_free Alike blind handed common p
 
-pub register-two-runs_until-carried : (handed : Board Console) (common : List Call) {cs ds : List Call} → Pairwise Alike cs ds
+pub register_two_runs_until-carried : (handed : Board Console) (common : List Call) {cs ds : List Call} → Pairwise Alike cs ds
     → AgreeUntil answers follows is_free_on handed common cs ds
-register-two-runs_until-carried handed common p = agree-until answers follows is_free_on Alike blind_on handed common p
+register_two_runs_until-carried handed common p = agree-until answers follows is_free_on Alike blind_on handed common p

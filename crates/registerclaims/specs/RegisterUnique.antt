@@ -62,8 +62,8 @@ unique_vosklubec-started r s = value_once
 pub unique_vosklubec_power_on : (d r s : Drive) → r ≡ power_on d → s ≡ power_on d → r ≡ s
 unique_vosklubec_power_on d r s = value_once
 
-pub unique_vosklubec_power_on-without_change : (d r s : Drive) → r ≡ power_on_without_change d → s ≡ power_on_without_change d → r ≡ s
-unique_vosklubec_power_on-without_change d r s = value_once
+pub unique_vosklubec_power_on_without_change : (d r s : Drive) → r ≡ power_on_without_change d → s ≡ power_on_without_change d → r ≡ s
+unique_vosklubec_power_on_without_change d r s = value_once
 
 pub unique_vosklubec-button : (d : Drive) (r s : Moved) → r ≡ button d → s ≡ button d → r ≡ s
 unique_vosklubec-button d r s = value_once

@@ -13,7 +13,7 @@ use Rattle.drive.specs.declared.state.Drive.{Drive}
 use Rattle.table.specs.Layout.{bound}
 use Rattle.gate.specs.Gate.{Reply}
 use Rattle.outcome.specs.Outcome.{state_of, bytes_of}
-use Rattle.target.specs.Packet.{refusalOf, answer}
+use Rattle.target.specs.Packet.{refusal_of, answer}
 use Rattle.taskfile.specs.declared.TaskFile.{TaskFile}
 use Rattle.taskfile.specs.declared.Access.{Access}
 use Rattle.taskfile.specs.declared.Due.{Due}
@@ -33,7 +33,7 @@ use Rattle.registerclaims.specs.RegisterTurnLaws.{performs-limit, listed-limit}
 reply-passed : (d : Drive) (p t l : List ℕ) (n : ℕ) → 0 < length (bytes_of (answer d p t l n)) → bound ≤ n
 unfolding answer
 reply-passed d p t l n =
-    either (λ (a : Reply Deck). 0 < length (bytes_of a) → bound ≤ n) (eqb (refusalOf d p t n) 0)
+    either (λ (a : Reply Deck). 0 < length (bytes_of a) → bound ≤ n) (eqb (refusal_of d p t n) 0)
     (λ e h. ltb-false n bound (not-true _ (and_head _ _ (and_tail _ _ (and_tail _ _ (sym (refusal-ordered d p t n).zero ∙ e))))))
     (λ e h. absurd (omega arith))
 

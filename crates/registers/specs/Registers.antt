@@ -7,8 +7,8 @@ use Rattle.drive.specs.declared.state.Drive.{Drive}
 use Rattle.drive.specs.State.{power_on}
 use Rattle.table.specs.Layout.{bound}
 use Rattle.gate.specs.Gate.{Reply}
-use Rattle.outcome.specs.Outcome.{outcomeOf, state_of, bytes_of}
-use Rattle.target.specs.Packet.{shortMemory, answer}
+use Rattle.outcome.specs.Outcome.{outcome_of, state_of, bytes_of}
+use Rattle.target.specs.Packet.{short_memory, answer}
 use Rattle.taskfile.specs.declared.TaskFile.{TaskFile}
 use Rattle.taskfile.specs.declared.Access.{Access}
 use Rattle.taskfile.specs.declared.Due.{Due}
@@ -37,14 +37,14 @@ asks f l d t m = answer d f.packet t l (length m)
 -- and ends the transfer", since it has no bytes; "READ's start and count reach the transport from the completing call"
 abbrev pub performed : Reply Deck → TaskFile → Stepped
 performed a f =
-    stands (answered f a.status (outcomeOf a).len)
+    stands (answered f a.status (outcome_of a).len)
     (record { number = a.number; rule = a.rule; byte = 0; start = a.start; count = a.count; state = state_of a })
 
 -- the next byte of the answer; "A data read in an answer run with response memory under 6,538 bytes is refused by 3, the record as it was";
 -- "the runs read the memory lent at that call"
 unfoldable pub gives : TaskFile → TaskFile → Drive → List ℕ → Stepped
 gives f next d m =
-    if ltb (length m) bound then stands f (plain shortMemory 0 d) else stands next (plain 0 (get_or m f.at 0) d)
+    if ltb (length m) bound then stands f (plain short_memory 0 d) else stands next (plain 0 (get_or m f.at 0) d)
 
 -- what an access comes to, by what is due at it; "Reset .. is also a power-on of the target, in the default form"
 abbrev pub step_by : Due → TaskFile → TaskFile → Drive → List ℕ → List ℕ → Stepped

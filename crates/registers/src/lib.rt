@@ -132,8 +132,7 @@ fn step(
 }
 
 // The interrupt routine: it is lent the one register record, and changes it where it stands.
-#[unsafe(no_mangle)]
-pub extern "C" fn vosklubec_interrupt(
+pub fn vosklubec_interrupt(
     file: &mut TaskFile,
     access: u8,
     value: u8,

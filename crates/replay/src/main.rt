@@ -1,5 +1,6 @@
 // Runs a recorded stream of calls from standard input, and prints a line for each.
 #![tactic(auto)]
+
 mod bench;
 mod given;
 mod host;
@@ -7,10 +8,12 @@ mod line;
 mod magazine;
 mod task;
 
+ghost use Rattle.std.specs.Prelude.{◌≤◌, length};
+
 use bench::{Bench, Turn, bad, empty, ended, meet};
 use ground::number::word16;
-use libc::{STDIN_FILENO, STDOUT_FILENO};
 use print::front::front;
+use std::io::Read;
 
 // The most bytes of a record's body, of a table, of a parameter list and of a response memory.
 const BODY: usize = 8191;
@@ -18,8 +21,23 @@ const BODY: usize = 8191;
 // The most slots.
 const SLOTS: usize = 255;
 
+// Reads until buf is full, the input ends or a read fails, and says how many bytes it put at the start of buf.
+fn read_full(rt: &HostRuntime, buf: &mut [u8]) -> usize
+    ensures { result ≤ length buf.new }
+{
+    let mut done = 0;
+    while done < buf.len() {
+        match rt.stdin().read(&mut buf[done..]) {
+            Ok(0) | Err(_) => break,
+            Ok(n) => done += n,
+        }
+    }
+    done
+}
+
 // Reads a record and meets it.
 fn turn(
+    rt: &HostRuntime,
     bench: Bench,
     table: &mut [u8],
     list: &mut [u8],
@@ -29,7 +47,7 @@ fn turn(
     line: &mut [u8],
 ) -> Turn {
     let mut head = [0u8; 3];
-    let got = io::read_full(STDIN_FILENO, &mut head);
+    let got = read_full(rt, &mut head);
     if got == 0 {
         return ended(bench);
     }
@@ -40,7 +58,7 @@ fn turn(
     if body.len() < n {
         return bad(bench, line);
     }
-    if io::read_full(STDIN_FILENO, &mut body[..n]) < n {
+    if read_full(rt, &mut body[..n]) < n {
         return bad(bench, line);
     }
     meet(
@@ -58,6 +76,7 @@ fn turn(
 // A proved loop has to end, and nothing says that the input does. So the loop counts its turns down, from a number that
 // no run uses up.
 fn run(
+    rt: &HostRuntime,
     table: &mut [u8],
     list: &mut [u8],
     memory: &mut [u8],
@@ -68,8 +87,8 @@ fn run(
     let mut bench = empty();
     let mut turns = u64::MAX;
     while turns > 0 {
-        let t = turn(bench, table, list, memory, slots, body, line);
-        if !io::write_all(STDOUT_FILENO, front(line, t.len)) {
+        let t = turn(rt, bench, table, list, memory, slots, body, line);
+        if rt.write_all(front(line, t.len)).is_err() {
             return;
         }
         if t.over {
@@ -80,7 +99,7 @@ fn run(
     }
 }
 
-fn main() {
+fn main(rt: HostRuntime) {
     let mut table = [0u8; BODY];
     let mut list = [0u8; BODY];
     let mut memory = [0u8; BODY];
@@ -88,6 +107,7 @@ fn main() {
     let mut body = [0u8; BODY];
     let mut line = [0u8; 17000];
     run(
+        &rt,
         &mut table,
         &mut list,
         &mut memory,

@@ -169,9 +169,9 @@ read_session-told k s {f} {l} {b} h = decided (is_session k s) refl
     decided true e = let q : Is f l b ≡ Is (first s) (last s) (size s) = h ∙ when _ _ _ e in record { is = e; low = cc; high = cc; bytes = cc }
     decided false e = let q : Is f l b ≡ Not = h ∙ unless _ _ _ e in let z : ◌≡◌ {A = ℕ} 0 1 = cc in absurd (omega arith)
 
-pub read_session-told_not : (k : ℕ) (s : List ℕ) → Not ≡ read_session k s → is_session k s ≡ false
+pub read_session_told_not : (k : ℕ) (s : List ℕ) → Not ≡ read_session k s → is_session k s ≡ false
 unfolding read_session
-read_session-told_not k s h = decided (is_session k s) refl
+read_session_told_not k s h = decided (is_session k s) refl
   where
     decided : (t : Bool) → is_session k s ≡ t → is_session k s ≡ false
     decided true e = let q : Not ≡ Is (first s) (last s) (size s) = h ∙ when _ _ _ e in let z : ◌≡◌ {A = ℕ} 0 1 = cc in absurd (omega arith)

@@ -7,18 +7,18 @@ use Prim.Native.Nat.{ℕ, zero, suc, ◌+◌, ◌-◌, ◌≤◌, ◌<◌}
 use native.Mathlib.Omega.{arith}
 use Rattle.std.proofs.Math.Decide.{dec_le, ℕ_discrete}
 use Rattle.std.proofs.lemmas.Bool.{lt-leb}
-use Rattle.ground.specs.Tests.{◌and◌, if◌then◌else◌, and-on, and-off, and-late, when, unless}
+use Rattle.ground.specs.Tests.{◌and◌, if◌then◌else◌, and_on, and_off, and_late, when, unless}
 use Rattle.table.specs.Layout.{last_session, descriptors, flags_at, point_at, A0, A1, A2, B0, C0, is_track}
 use Rattle.table.specs.Row.{address_at}
 use Rattle.table.specs.RowLaws.{is_track_true, is_track-over}
 use Rattle.table.specs.declared.row.Row.{Row}
 use Rattle.sessions.specs.Session.{first, last, tracks, count, size, session}
 use Rattle.sessions.specs.SessionLaws.{IsSession, placed_at, Walked, walked_none, walked_next, walked_all, rows_before, rows_before-next, starts_none, starts-rows}
-use Rattle.disc.specs.Rules.{leadOut, track_start, out_before}
+use Rattle.disc.specs.Rules.{session_lead_out, track_start, out_before}
 use Rattle.disc.specs.RulesLaws.{Fit, out_before-next, fit-places, fit-numbered, fit-session, fit-end-rows}
 use Rattle.disc.specs.FitLaws.{Rises, row_at-session, point_at-session, address_at-session, session-none, Kind, is_a0, is_a1, is_a2, is_track_after, is_b0, is_c0, fit_row, fit-listed, fit-kind, fit_next, fit-rises, fit-begins, fit_apart, fit-address}
-use Rattle.disc.specs.Disc.{lastPart}
-use Rattle.tracks.specs.Track.{is_data, flagged, out_at, no_track, track_at, trackOf, is_mode}
+use Rattle.disc.specs.Disc.{last_part}
+use Rattle.tracks.specs.Track.{is_data, flagged, out_at, no_track, track_at, track_of, is_mode}
 use Rattle.tracks.specs.TrackLaws.{track_of_of, track_of_no}
 use Rattle.tracks.specs.SpreadLaws.{TrackRow, fit-out, fit-track-row, fit-leads-rise, fit-spread}
 use Rattle.tracks.specs.declared.track.Track.{Track}
@@ -43,7 +43,7 @@ three false false = refl
 pub blocks_three : (t : List ℕ) → blocks_in (is_mode Data) t + blocks_in (is_mode Audio) t + blocks_in is_none t ≡ last_out t
 unfolding blocks_in is_mode is_none
 blocks_three t =
-    count_three (last_out t) _ _ _ (λ b l. three (is_track (trackOf (descriptors t) b).number) (is_data (trackOf (descriptors t) b).flags))
+    count_three (last_out t) _ _ _ (λ b l. three (is_track (track_of (descriptors t) b).number) (is_data (track_of (descriptors t) b).flags))
 
 -- ---- the track of each block of a fit table
 
@@ -105,7 +105,7 @@ module _ {t : List ℕ} (f : Fit t) where
       (k i b : ℕ) → k < last_session t → i < tracks (session (descriptors t) k)
       → edge (session (descriptors t) k) (tracks (session (descriptors t) k)) i ≤ b
       → b < edge (session (descriptors t) k) (tracks (session (descriptors t) k)) (i + 1)
-      → trackOf (descriptors t) b ≡ track_at (descriptors t) (row_of k i)
+      → track_of (descriptors t) b ≡ track_at (descriptors t) (row_of k i)
   fit-track-of k i b h l g e =
       let s = session (descriptors t) k in
       let q = edge_track s (tracks s) i l in
@@ -124,14 +124,14 @@ module _ {t : List ℕ} (f : Fit t) where
   -- one behind the lead-out before a session and before its first track belongs to none
   pub fit-none-of :
       (k b : ℕ) → k < last_session t → out_before (descriptors t) k ≤ b → b < track_start (session (descriptors t) k) 0
-      → trackOf (descriptors t) b ≡ no_track
+      → track_of (descriptors t) b ≡ no_track
   fit-none-of k b h g e =
       track_of_no (descriptors t) b (λ i w. earlier i (fit-track-row f i w.listed w.reaches.track) w.reaches.start)
     where
-      leads : (k : ℕ) → k < last_session t → out_before (descriptors t) k ≤ b → {n : ℕ} → n < k → leadOut (session (descriptors t) n) ≤ b
+      leads : (k : ℕ) → k < last_session t → out_before (descriptors t) k ≤ b → {n : ℕ} → n < k → session_lead_out (session (descriptors t) n) ≤ b
       leads zero h g l = absurd (omega arith)
       leads (suc k) h g {n} l =
-          let o : out_before (descriptors t) (suc k) ≡ leadOut (session (descriptors t) k) = rw (add-one k) at (out_before-next (descriptors t) k) in
+          let o : out_before (descriptors t) (suc k) ≡ session_lead_out (session (descriptors t) k) = rw (add-one k) at (out_before-next (descriptors t) k) in
           let u = fit-leads-rise f n k (omega arith) (omega arith) in omega arith
 
       own : (m : ℕ) {a : ℕ} → m < tracks (session (descriptors t) k) → a ≡ track_start (session (descriptors t) k) m → a ≤ b → ⊥
@@ -156,7 +156,7 @@ module _ {t : List ℕ} (f : Fit t) where
   unfolding out_before
   out-begins zero h = omega arith
   out-begins (suc k) h =
-      let u : leadOut (session (descriptors t) k) < track_start (session (descriptors t) (suc k)) 0 = rw (add-one k) at
+      let u : session_lead_out (session (descriptors t) k) < track_start (session (descriptors t) (suc k)) 0 = rw (add-one k) at
       (fit-begins f k (omega arith)) in omega arith
 
   pub out-most : (k : ℕ) → k ≤ last_session t → out_before (descriptors t) k ≤ 449849
@@ -180,7 +180,7 @@ module _ {t : List ℕ} (f : Fit t) where
         (if such no_track then gap_before (descriptors t) k else 0) + sum_below (tracks (session (descriptors t) k)) (track_such k)
 
     abbrev counts : ℕ → ℕ
-    counts e = count_below e (λ b. such (trackOf (descriptors t) b))
+    counts e = count_below e (λ b. such (track_of (descriptors t) b))
 
     -- up to a session's first track
     gap-counts : (k : ℕ) → k < last_session t
@@ -202,7 +202,7 @@ module _ {t : List ℕ} (f : Fit t) where
     track-counts k h (suc i) l =
         let s = session (descriptors t) k in
         let g = edge-rises s (tracks s) i (fit-rises f h) (omega arith) in
-        let c = count_run (λ b. such (trackOf (descriptors t) b)) (such (track_at (descriptors t) (row_of k i))) (edge s (tracks s) i)
+        let c = count_run (λ b. such (track_of (descriptors t) b)) (such (track_at (descriptors t) (row_of k i))) (edge s (tracks s) i)
         (edge s (tracks s) (i + 1)) (omega arith) (λ b u v. ap such (fit-track-of k i b h (omega arith) u v)) in
         let r = track-counts k h i (omega arith) in
         let n = sum-next i (track_such k) in
@@ -221,8 +221,8 @@ module _ {t : List ℕ} (f : Fit t) where
         let a = session-counts k (omega arith) in
         let b = gap-counts k h in
         let c = track-counts k h (tracks s) (omega arith) in
-        let d : counts (edge s (tracks s) (tracks s)) ≡ counts (leadOut s) = ap counts e in
-        let q : counts (out_before (descriptors t) (k + 1)) ≡ counts (leadOut s) = ap counts o in
+        let d : counts (edge s (tracks s) (tracks s)) ≡ counts (session_lead_out s) = ap counts e in
+        let q : counts (out_before (descriptors t) (k + 1)) ≡ counts (session_lead_out s) = ap counts o in
         let n = sum-next k session_such in
         rw (add-one k) at (let z : counts (out_before (descriptors t) (k + 1)) ≡ sum_below (k + 1) session_such = omega arith in z)
 
@@ -254,7 +254,7 @@ module _ {t : List ℕ} (f : Fit t) where
       mode-row : (k i : ℕ) → k < last_session t → i < tracks (session (descriptors t) k)
           → is_mode mode (track_at (descriptors t) (row_of k i)) ≡ flagged mode (flags_at (session (descriptors t) k) (3 + i))
       mode-row k i h l =
-          sym (and-on _ _ (row-track k i h l) refl) ∙ ap (λ (r : Row). flagged mode r.flags) (sym (row_at-session (descriptors t) k (3 + i)))
+          sym (and_on _ _ (row-track k i h l) refl) ∙ ap (λ (r : Row). flagged mode r.flags) (sym (row_at-session (descriptors t) k (3 + i)))
 
   such-none : (k : ℕ) → k < last_session t → session_such is_none k ≡ gap_before (descriptors t) k
   unfolding is_none is_track ◌and◌
@@ -265,7 +265,7 @@ module _ {t : List ℕ} (f : Fit t) where
 
   -- counting the blocks by their tracks comes to counting by the tracks' lengths
   pub fit-mode-to : (mode : Mode) (k : ℕ) → k ≤ last_session t
-      → count_below (out_before (descriptors t) k) (λ b. is_mode mode (trackOf (descriptors t) b))
+      → count_below (out_before (descriptors t) k) (λ b. is_mode mode (track_of (descriptors t) b))
       ≡ sum_below k (λ j. mode_blocks mode (session (descriptors t) j))
   fit-mode-to mode k l = session-counts (is_mode mode) k l ∙ sum_same k _ _ (λ j h. such-mode mode j (omega arith))
 
@@ -279,14 +279,14 @@ module _ {t : List ℕ} (f : Fit t) where
 
 -- which descriptors of a session are tracks
 kind_track : {s : List ℕ} {i : ℕ} → 1 ≤ first s → last s ≤ 99 → Kind s i → is_track (point_at s i) ≡ (leb 3 i and ltb i (3 + tracks s))
-kind_track {s} {i} l h (is_a0 e q) = ap is_track q ∙ is_track-over A0 (omega arith) ∙ and-off _ _ (lt-leb 3 i (omega arith))
-kind_track {s} {i} l h (is_a1 e q) = ap is_track q ∙ is_track-over A1 (omega arith) ∙ and-off _ _ (lt-leb 3 i (omega arith))
-kind_track {s} {i} l h (is_a2 e q) = ap is_track q ∙ is_track-over A2 (omega arith) ∙ and-off _ _ (lt-leb 3 i (omega arith))
+kind_track {s} {i} l h (is_a0 e q) = ap is_track q ∙ is_track-over A0 (omega arith) ∙ and_off _ _ (lt-leb 3 i (omega arith))
+kind_track {s} {i} l h (is_a1 e q) = ap is_track q ∙ is_track-over A1 (omega arith) ∙ and_off _ _ (lt-leb 3 i (omega arith))
+kind_track {s} {i} l h (is_a2 e q) = ap is_track q ∙ is_track-over A2 (omega arith) ∙ and_off _ _ (lt-leb 3 i (omega arith))
 kind_track {s} {i} l h (is_track_after m e b q) =
     ap is_track q ∙ is_track_true (first s + m) (omega arith) (omega arith)
-    ∙ and-on _ _ (le-leb 3 i (omega arith)) (sym (lt-ltb i (3 + tracks s) (omega arith)))
-kind_track l h (is_b0 e q) = ap is_track q ∙ is_track-over B0 (omega arith) ∙ and-late _ _ (sym (le-ltb _ _ e))
-kind_track l h (is_c0 e q) = ap is_track q ∙ is_track-over C0 (omega arith) ∙ and-late _ _ (sym (le-ltb _ _ e))
+    ∙ and_on _ _ (le-leb 3 i (omega arith)) (sym (lt-ltb i (3 + tracks s) (omega arith)))
+kind_track l h (is_b0 e q) = ap is_track q ∙ is_track-over B0 (omega arith) ∙ and_late _ _ (sym (le-ltb _ _ e))
+kind_track l h (is_c0 e q) = ap is_track q ∙ is_track-over C0 (omega arith) ∙ and_late _ _ (sym (le-ltb _ _ e))
 
 module _ {t : List ℕ} (f : Fit t) where
   abbrev tracks_to : ℕ → ℕ
@@ -307,14 +307,14 @@ module _ {t : List ℕ} (f : Fit t) where
       let n = rows_before-next (descriptors t) k in
       let place : (j : ℕ) → r ≤ j → r + (j - r) ≡ j = λ j l. omega arith in
       let a = count_run (λ i. is_track (point_at (descriptors t) i)) false r (r + 3) (omega arith) (λ j l g. rw (place j l) at
-      (row-kind k (j - r) h (omega arith) ∙ sym (and-off _ _ (lt-leb 3 (j - r) (omega arith))))) in
+      (row-kind k (j - r) h (omega arith) ∙ sym (and_off _ _ (lt-leb 3 (j - r) (omega arith))))) in
       let b = count_run (λ i. is_track (point_at (descriptors t) i)) true (r + 3) (r + 3 + tracks s) (omega arith) (λ j l g. rw
       (place j (omega arith)) at
       (row-kind k (j - r) h (omega arith)
-      ∙ sym (and-on _ _ (le-leb 3 (j - r) (omega arith)) (sym (lt-ltb (j - r) (3 + tracks s) (omega arith)))))) in
+      ∙ sym (and_on _ _ (le-leb 3 (j - r) (omega arith)) (sym (lt-ltb (j - r) (3 + tracks s) (omega arith)))))) in
       let c = count_run (λ i. is_track (point_at (descriptors t) i)) false (r + 3 + tracks s) (r + count s) (omega arith) (λ j l g. rw
       (place j (omega arith)) at
-      (row-kind k (j - r) h (omega arith) ∙ sym (and-late _ _ (sym (le-ltb (j - r) (3 + tracks s) (omega arith)))))) in
+      (row-kind k (j - r) h (omega arith) ∙ sym (and_late _ _ (sym (le-ltb (j - r) (3 + tracks s) (omega arith)))))) in
       let u = unless false (r + 3 - r) 0 refl in
       let v = when true (r + 3 + tracks s - (r + 3)) 0 refl in
       let w = unless false (r + count s - (r + 3 + tracks s)) 0 refl in
@@ -342,7 +342,7 @@ module _ {t : List ℕ} (f : Fit t) where
       (tracks-upto k (omega arith)) in
       omega arith
 
-  pub fit-tracks : tracks_in t + first (descriptors t) ≡ last (lastPart t) + 1
+  pub fit-tracks : tracks_in t + first (descriptors t) ≡ last (last_part t) + 1
   unfolding tracks_in
   fit-tracks =
       let n = fit-numbered f in
@@ -371,8 +371,8 @@ module _ {t : List ℕ} (f : Fit t) {k at out data_of of_no_track : ℕ} (c : Su
       let l = out-most f k w in
       let a = fit-mode-to f Data k w in
       let b = session-counts f is_none k w ∙ sum_same k _ _ (λ j h. such-none f j (omega arith)) in
-      let p = count_most (out_before (descriptors t) k) (λ b. is_mode Data (trackOf (descriptors t) b)) in
-      let q = count_most (out_before (descriptors t) k) (λ b. is_none (trackOf (descriptors t) b)) in
+      let p = count_most (out_before (descriptors t) k) (λ b. is_mode Data (track_of (descriptors t) b)) in
+      let q = count_most (out_before (descriptors t) k) (λ b. is_none (track_of (descriptors t) b)) in
       let u = c.data_blocks_in in
       let v = c.none_blocks in
       (omega arith, omega arith)
@@ -389,7 +389,7 @@ module _ {t : List ℕ} (f : Fit t) {k at out data_of of_no_track : ℕ} (c : Su
     summed-begins = rw (c.walked.place, c.lead) (out-begins f k i)
 
     pub summed-next :
-        {b o d g : ℕ} → b ≡ size (drop at (descriptors t)) → o ≡ leadOut (drop at (descriptors t)) → d ≡ mode_blocks Data (drop at (descriptors t))
+        {b o d g : ℕ} → b ≡ size (drop at (descriptors t)) → o ≡ session_lead_out (drop at (descriptors t)) → d ≡ mode_blocks Data (drop at (descriptors t))
         → g ≡ track_start (drop at (descriptors t)) 0 → Summed t (k + 1) (at + b) o (data_of + d) (of_no_track + (g - out))
     unfolding gap_before
     summed-next {b} {o} {d} {g} e p q r =
@@ -403,7 +403,7 @@ module _ {t : List ℕ} (f : Fit t) {k at out data_of of_no_track : ℕ} (c : Su
         let z = c.lead in
         record {
           walked = walked_next c.walked i summed-here e;
-          lead = p ∙ ap (λ (x : ℕ). leadOut (drop x (descriptors t))) w ∙ sym (out_before-next (descriptors t) k);
+          lead = p ∙ ap (λ (x : ℕ). session_lead_out (drop x (descriptors t))) w ∙ sym (out_before-next (descriptors t) k);
           data_blocks_in = omega arith;
           none_blocks = omega arith;
         }

@@ -6,9 +6,9 @@ use Rattle.address.specs.Address.{is_msf}
 use Rattle.table.specs.Layout.{is_track, is_extra}
 use Rattle.table.specs.Row.{start_of, names, simple, free, plain, head_a0, head_a1, headed, addressed, row_test}
 use Rattle.sessions.specs.Session.{one, size, listed, numbered, is_session, starts, before, follows, in_place, in_order}
-use Rattle.disc.specs.Rules.{rule1, rule2, each_row, rises, out_before, begins_after, rising, rule7, first_broken, late_rules, row_rules, fault, isFit}
+use Rattle.disc.specs.Rules.{rule1, rule2, each_row, rises, out_before, begins_after, rising, rule7, first_broken, late_rules, row_rules, fault, is_fit}
 use Rattle.disc.specs.Examples.{table_e, two}
-use Rattle.tracks.specs.Track.{next_out, out_at, covers, wanted, next_found, found, trackOf, is_mode}
+use Rattle.tracks.specs.Track.{next_out, out_at, covers, wanted, next_found, found, track_of, is_mode}
 use Rattle.shelf.specs.Count.{sum_below, one_if, count_below}
 use Rattle.shelf.specs.Content.{tracks_in, blocks_in, is_none}
 use Rattle.shelf.specs.Totals.{if_fit, of_table, totals_of}
@@ -37,5 +37,5 @@ example_totals = record {
 }
 
 pub example-tested : shelf example_shelf ≡ example_totals
-unfolding ◌and◌ ◌or◌ every if◌then◌else◌ is_msf is_track is_extra start_of names simple free plain head_a0 head_a1 headed addressed row_test one size listed numbered is_session starts before follows in_place in_order rule1 rule2 each_row rises out_before begins_after rising rule7 first_broken late_rules row_rules fault isFit next_out out_at covers wanted next_found found trackOf is_mode sum_below one_if count_below tracks_in blocks_in is_none if_fit of_table totals_of wholes_in rest_in wholes rest cut_off tables shelf
+unfolding ◌and◌ ◌or◌ every if◌then◌else◌ is_msf is_track is_extra start_of names simple free plain head_a0 head_a1 headed addressed row_test one size listed numbered is_session starts before follows in_place in_order rule1 rule2 each_row rises out_before begins_after rising rule7 first_broken late_rules row_rules fault is_fit next_out out_at covers wanted next_found found track_of is_mode sum_below one_if count_below tracks_in blocks_in is_none if_fit of_table totals_of wholes_in rest_in wholes rest cut_off tables shelf
 example-tested = refl

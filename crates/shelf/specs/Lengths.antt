@@ -3,7 +3,7 @@ use Rattle.std.specs.Prelude.{ℕ, zero, suc, ◌+◌, ◌-◌, Bool, true, fals
 use Rattle.ground.specs.Tests.{if◌then◌else◌}
 use Rattle.table.specs.Layout.{flags_at}
 use Rattle.sessions.specs.Session.{tracks, session}
-use Rattle.disc.specs.Rules.{leadOut, track_start, out_before}
+use Rattle.disc.specs.Rules.{session_lead_out, track_start, out_before}
 use Rattle.tracks.specs.Track.{is_data, flagged}
 use Rattle.tracks.specs.declared.track.Mode.{Mode}
 use Rattle.shelf.specs.Count.{sum_below}
@@ -11,7 +11,7 @@ use Rattle.shelf.specs.declared.content.Run.{Run}
 
 -- of the session that s begins with, with n tracks: where the track after i others starts, and past the last the lead-out
 unfoldable pub edge : List ℕ → ℕ → ℕ → ℕ
-edge s n i = if ltb i n then track_start s i else leadOut s
+edge s n i = if ltb i n then track_start s i else session_lead_out s
 
 -- the blocks of the track after i others, if it is of that mode
 unfoldable pub track_blocks : Mode → List ℕ → ℕ → ℕ → ℕ

@@ -5,7 +5,7 @@ use Rattle.std.proofs.Common.{subst, ◌∙◌, arith, add-one, lt_of_not-le, lt
 use Rattle.std.proofs.Math.Decide.{dec_le}
 use Rattle.ground.specs.Tests.{if◌then◌else◌, when, unless}
 use Rattle.table.specs.Layout.{flags_at}
-use Rattle.disc.specs.Rules.{leadOut, track_start}
+use Rattle.disc.specs.Rules.{session_lead_out, track_start}
 use Rattle.disc.specs.FitLaws.{Rises}
 use Rattle.tracks.specs.Track.{is_data}
 use Rattle.tracks.specs.declared.track.Mode.TheVariants.{Data}
@@ -20,7 +20,7 @@ pub edge_track : (s : List ℕ) (n i : ℕ) → i < n → edge s n i ≡ track_s
 unfolding edge
 edge_track s n i h = when _ _ _ (lt-ltb _ _ h)
 
-pub edge-out : (s : List ℕ) (n i : ℕ) → n ≤ i → edge s n i ≡ leadOut s
+pub edge-out : (s : List ℕ) (n i : ℕ) → n ≤ i → edge s n i ≡ session_lead_out s
 unfolding edge
 edge-out s n i h = unless _ _ _ (le-ltb _ _ h)
 
@@ -34,7 +34,7 @@ edge-rises s n i r h =
     ]
 
 -- none lies past it
-pub edge-most : (s : List ℕ) (n i : ℕ) → Rises s n → edge s n i ≤ leadOut s
+pub edge-most : (s : List ℕ) (n i : ℕ) → Rises s n → edge s n i ≤ session_lead_out s
 edge-most s n i r = elim (dec_le n i) [
   | yes g ↦ (let b = edge-out s n i g in omega arith)
   | no g ↦ (let b = edge_track s n i (lt_of_not-le g) in let l = r.lead i (lt_of_not-le g) in omega arith)
@@ -152,7 +152,7 @@ run-before s n i u h q =
 
 pub run-done :
     (s : List ℕ) (n i : ℕ) {r : Run} → Rises s n → i ≡ n → r ≡ run_at s i
-    → (r.from ≤ leadOut s) × (blocks_to (leadOut s) r ≤ leadOut s) × (blocks_to (leadOut s) r ≡ sum_below n (track_blocks Data s n))
+    → (r.from ≤ session_lead_out s) × (blocks_to (session_lead_out s) r ≤ session_lead_out s) × (blocks_to (session_lead_out s) r ≡ sum_below n (track_blocks Data s n))
 run-done s n i u z q =
     let c = come s n u n (omega arith) in
     let e = edge-out s n n (omega arith) in

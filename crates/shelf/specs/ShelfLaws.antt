@@ -3,9 +3,9 @@ use Rattle.std.specs.Prelude.{◌≡◌, refl, Bool, true, false, List, [], ◌�
 use Rattle.std.proofs.Common.{sym, ap, ◌∙◌, append_assoc, append-nil, arith, lt_of_not-le, length-drop, take-append-drop, ne_eqb}
 use Rattle.std.proofs.Math.Decide.{dec_le}
 use Rattle.std.proofs.lemmas.Bool.{lt-leb}
-use Rattle.ground.specs.Tests.{if◌then◌else◌, and-off, and-late}
+use Rattle.ground.specs.Tests.{if◌then◌else◌, and_off, and_late}
 use Rattle.table.specs.Layout.{bound, data_length, header}
-use Rattle.disc.specs.Rules.{rule1, fault, isFit, first_broken}
+use Rattle.disc.specs.Rules.{rule1, fault, is_fit, first_broken}
 use Rattle.disc.specs.RulesLaws.{fault-first}
 use Rattle.shelf.specs.Count.{one_if}
 use Rattle.shelf.specs.Content.{last_out}
@@ -48,29 +48,29 @@ rule1_broken t h = rw h
 -- a table without its four bytes of header
 pub short_broken : (t : List ℕ) → length t < header → fault t ≡ 1
 unfolding rule1
-short_broken t h = rule1_broken t (sym (and-off _ _ (lt-leb _ _ h)))
+short_broken t h = rule1_broken t (sym (and_off _ _ (lt-leb _ _ h)))
 
 -- a table that is cut off is shorter than it says
 pub cut_broken : (t : List ℕ) → length t < table_length t → fault t ≡ 1
 unfolding rule1
 cut_broken t h = elim (dec_le header (length t)) [
-  | yes l ↦ rule1_broken t (sym (and-late _ _ (and-late _ _ (and-late _ _ (sym (ne_eqb (data_length t) (length t - 2) (λ e. omega arith)))))))
+  | yes l ↦ rule1_broken t (sym (and_late _ _ (and_late _ _ (and_late _ _ (sym (ne_eqb (data_length t) (length t - 2) (λ e. omega arith)))))))
   | no l ↦ short_broken t (lt_of_not-le l)
 ]
 
 -- one over the bound is too long
 pub over_broken : (t : List ℕ) → bound < length t → fault t ≡ 1
 unfolding rule1
-over_broken t h = rule1_broken t (sym (and-late _ _ (and-off _ _ (lt-leb _ _ h))))
+over_broken t h = rule1_broken t (sym (and_late _ _ (and_off _ _ (lt-leb _ _ h))))
 
 -- ---- what one table adds
 
 -- its blocks, in all
 table-blocks : (t : List ℕ) → (of_table t).data_blocks + (of_table t).audio_blocks + (of_table t).trackless ≡ if_fit t (last_out t)
 unfolding of_table if_fit if◌then◌else◌
-table-blocks t = decided (isFit t) refl
+table-blocks t = decided (is_fit t) refl
   where
-    decided : (b : Bool) → isFit t ≡ b → (of_table t).data_blocks + (of_table t).audio_blocks + (of_table t).trackless ≡ if_fit t (last_out t)
+    decided : (b : Bool) → is_fit t ≡ b → (of_table t).data_blocks + (of_table t).audio_blocks + (of_table t).trackless ≡ if_fit t (last_out t)
     decided true e = rw e (blocks_three t)
     decided false e = rw e
 
@@ -79,7 +79,7 @@ table_each :
     (t : List ℕ)
     → (of_table t).fit
     + ((of_table t).rule1 + (of_table t).rule2 + (of_table t).rule3 + (of_table t).rule4 + (of_table t).rule5 + (of_table t).rule6 + (of_table t).rule7) ≡ 1
-unfolding of_table if_fit isFit one_if if◌then◌else◌
+unfolding of_table if_fit is_fit one_if if◌then◌else◌
 table_each t = which (fault t) refl (fault-first t).most
   where
     which : (n : ℕ) → fault t ≡ n → n ≤ 7

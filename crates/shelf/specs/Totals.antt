@@ -2,7 +2,7 @@
 -- blocks of no track".
 use Rattle.std.specs.Prelude.{ℕ, ◌+◌, ◌≤◌, Bool, List, [], ◌∷◌, leb, eqb}
 use Rattle.ground.specs.Tests.{◌and◌, if◌then◌else◌}
-use Rattle.disc.specs.Rules.{fault, isFit}
+use Rattle.disc.specs.Rules.{fault, is_fit}
 use Rattle.tracks.specs.Track.{is_mode}
 use Rattle.tracks.specs.declared.track.Mode.TheVariants.{Data, Audio}
 use Rattle.shelf.specs.Count.{one_if}
@@ -49,7 +49,7 @@ sum a b = record {
 
 -- a fit one adds that
 unfoldable pub if_fit : List ℕ → ℕ → ℕ
-if_fit t n = if isFit t then n else 0
+if_fit t n = if is_fit t then n else 0
 
 -- of one table; "unfit ones by K6's rule": the first that is broken
 unfoldable pub of_table : List ℕ → Totals

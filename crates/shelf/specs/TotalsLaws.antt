@@ -4,10 +4,10 @@ use Rattle.std.proofs.Common.{sym, ap, ◌∙◌, true≢false, inl, inr, ⊎_el
 use Rattle.std.proofs.Math.Decide.{dec_le}
 use Rattle.std.proofs.lemmas.Bool.{lt-leb}
 use Rattle.ground.specs.Tests.{◌and◌, if◌then◌else◌, and_head, and_tail, and_both, when, unless}
-use Rattle.disc.specs.Rules.{fault, isFit}
-use Rattle.disc.specs.RulesLaws.{isFit-true}
+use Rattle.disc.specs.Rules.{fault, is_fit}
+use Rattle.disc.specs.RulesLaws.{is_fit_true}
 use Rattle.disc.specs.FitLaws.{fit-span}
-use Rattle.disc.specs.Disc.{discOf}
+use Rattle.disc.specs.Disc.{disc_of}
 use Rattle.disc.specs.declared.disc.Disc.{Disc}
 use Rattle.tracks.specs.Track.{is_mode}
 use Rattle.tracks.specs.declared.track.Mode.TheVariants.{Data, Audio}
@@ -193,8 +193,8 @@ of_rule rule = record {
   trackless = 0;
 }
 
-pub of_table-unfit : (t : List ℕ) → isFit t ≡ false → of_table t ≡ of_rule (fault t)
-unfolding of_table if_fit isFit one_if if◌then◌else◌
+pub of_table-unfit : (t : List ℕ) → is_fit t ≡ false → of_table t ≡ of_rule (fault t)
+unfolding of_table if_fit is_fit one_if if◌then◌else◌
 of_table-unfit t h = rw h
 
 -- and one that is adds what it holds
@@ -216,9 +216,9 @@ of_fit n d a g = record {
 }
 
 pub of_table_fit :
-    (t : List ℕ) {n d a g : ℕ} → isFit t ≡ true → n ≡ tracks_in t → d ≡ blocks_in (is_mode Data) t → a ≡ blocks_in (is_mode Audio) t
+    (t : List ℕ) {n d a g : ℕ} → is_fit t ≡ true → n ≡ tracks_in t → d ≡ blocks_in (is_mode Data) t → a ≡ blocks_in (is_mode Audio) t
     → g ≡ blocks_in is_none t → of_fit n d a g ≡ of_table t
-unfolding of_table if_fit isFit one_if if◌then◌else◌
+unfolding of_table if_fit is_fit one_if if◌then◌else◌
 of_table_fit t h p q r s = let z : fault t ≡ 0 = eqb-true _ _ h in rw (z, p, q, r, s)
 
 -- what is read off the disc and counted in the table is what a fit table adds
@@ -229,9 +229,9 @@ pub record FitAdds (t : List ℕ) (disc : Disc) (h : Held) : Type 0 where
   pub same :
       of_fit (disc.last + 1 - disc.first) h.of_data (disc.lead_out - h.of_data - h.of_none) h.of_none ≡ of_table t
 
-pub fit_adds : (t : List ℕ) {disc : Disc} {h : Held} → isFit t ≡ true → disc ≡ discOf t → h ≡ held_by t → FitAdds t disc h
+pub fit_adds : (t : List ℕ) {disc : Disc} {h : Held} → is_fit t ≡ true → disc ≡ disc_of t → h ≡ held_by t → FitAdds t disc h
 fit_adds t i d e =
-    let f = isFit-true i in
+    let f = is_fit_true i in
     let s = fit-span f in
     let n = fit-tracks f in
     let o = s.order in

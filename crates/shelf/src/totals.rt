@@ -1,8 +1,8 @@
 // The thirteen totals, and one step: a table counted.
 ghost use Rattle.std.specs.Prelude.{◌≡◌, true, ◌+◌, leb};
 ghost use Rattle.ground.specs.Tests.{◌and◌};
-ghost use Rattle.disc.specs.Rules.{isFit};
-ghost use Rattle.disc.specs.Disc.{discOf};
+ghost use Rattle.disc.specs.Rules.{is_fit};
+ghost use Rattle.disc.specs.Disc.{disc_of};
 ghost use Rattle.shelf.specs.Count.{one_if};
 ghost use Rattle.shelf.specs.Totals.{nothing, sum, of_table, most, within, bounded, numbers_of, Within};
 ghost use Rattle.shelf.specs.TotalsLaws.{of_rule};
@@ -90,7 +90,7 @@ fn of_rule(rule: u8) -> Totals
 
 // Of a fit table: its tracks are numbered without a gap, and the blocks up to L that are no data and lie in a track are audio.
 fn of_fit(t: &[u8], disc: Disc) -> Totals
-    requires { (isFit t.now ≡ true) × (disc ≡ discOf t.now) }
+    requires { (is_fit t.now ≡ true) × (disc ≡ disc_of t.now) }
     ensures { result ≡ of_table t.now }
 {
     let h = held_by(t);

@@ -1,8 +1,11 @@
 // How far the reading is, on a terminal, where the input is long.
 use ground::memory::copy_front;
-use libc::STDERR_FILENO;
+use input::say;
 use print::decimal::put_decimal;
 use print::front::front;
+use std::fs::File;
+use std::io;
+use std::io::{IsTerminal, Write};
 
 // The bytes of a mebibyte, and how many are read between two shows.
 const MEBIBYTE: usize = 1048576;
@@ -10,31 +13,63 @@ const MEBIBYTE: usize = 1048576;
 const STEP: usize = 67108864;
 
 // The descriptor by which `./shelf` hands a terminal on: `.ci/program` catches the program's own standard error.
-const HANDED: i32 = 4;
+const HANDED: &str = "/dev/fd/4";
 
-// The terminal, or -1; the bytes read; and how many more until that is shown again.
+// The terminal that shows it: standard error, or what is handed on, or none.
+#[derive(Clone, Copy)]
+pub enum Terminal {
+    OfErrors,
+    Handed,
+    Nowhere,
+}
+
+// The terminal; the bytes read; and how many more until that is shown again.
 #[derive(Clone, Copy)]
 pub struct Progress {
-    pub terminal: i32,
+    pub terminal: Terminal,
     pub read: usize,
     pub left: usize,
 }
 
-// The terminal that shows it: standard error, or what is handed on, or none.
-fn terminal() -> i32 {
-    if libc::isatty(STDERR_FILENO) == 1 {
-        return STDERR_FILENO;
+// What is handed on, opened anew. It is opened for reading too, since a pipe that nobody reads would keep an opening for writing alone waiting.
+fn open_handed(rt: &HostRuntime) -> io::Result<File> {
+    File::options().read(true).write(true).open(rt, HANDED)
+}
+
+fn is_handed(rt: &HostRuntime) -> bool {
+    match open_handed(rt) {
+        Ok(file) => file.is_terminal(),
+        Err(_) => false,
     }
-    if libc::isatty(HANDED) == 1 {
-        return HANDED;
+}
+
+fn find_terminal(rt: &HostRuntime) -> Terminal {
+    if rt.stderr().is_terminal() {
+        return Terminal::OfErrors;
     }
-    -1
+    if is_handed(rt) {
+        return Terminal::Handed;
+    }
+    Terminal::Nowhere
+}
+
+// Writes to the terminal. Where that fails, nothing is shown.
+fn write(rt: &HostRuntime, terminal: Terminal, text: &[u8]) {
+    match terminal {
+        Terminal::OfErrors => say(rt, text),
+        Terminal::Handed => {
+            if let Ok(mut file) = open_handed(rt) {
+                let _ = file.write_all(text);
+            }
+        }
+        Terminal::Nowhere => {}
+    }
 }
 
 // Nothing is read yet.
-pub(crate) fn begin() -> Progress {
+pub(crate) fn begin(rt: &HostRuntime) -> Progress {
     Progress {
-        terminal: terminal(),
+        terminal: find_terminal(rt),
         read: 0,
         left: STEP,
     }
@@ -48,15 +83,22 @@ fn put_line(read: usize, out: &mut [u8]) -> usize {
     at
 }
 
-fn show(terminal: i32, read: usize) {
+fn show(rt: &HostRuntime, terminal: Terminal, read: usize) {
     let mut line = [0u8; 40];
     let n = put_line(read, &mut line);
-    io::write_all(terminal, front(&line, n));
+    write(rt, terminal, front(&line, n));
+}
+
+fn is_nowhere(terminal: Terminal) -> bool {
+    match terminal {
+        Terminal::Nowhere => true,
+        _ => false,
+    }
 }
 
 // So many bytes more are read.
-pub(crate) fn go_on(p: Progress, more: usize) -> Progress {
-    if p.terminal < 0 {
+pub(crate) fn go_on(rt: &HostRuntime, p: Progress, more: usize) -> Progress {
+    if is_nowhere(p.terminal) {
         return p;
     }
     if usize::MAX - p.read < more {
@@ -70,7 +112,7 @@ pub(crate) fn go_on(p: Progress, more: usize) -> Progress {
             left: p.left - more,
         };
     }
-    show(p.terminal, read);
+    show(rt, p.terminal, read);
     Progress {
         terminal: p.terminal,
         read,
@@ -79,10 +121,8 @@ pub(crate) fn go_on(p: Progress, more: usize) -> Progress {
 }
 
 // Ends the line, if one stands there.
-pub(crate) fn end(p: Progress) {
-    if 0 <= p.terminal {
-        if STEP <= p.read {
-            io::write_all(p.terminal, b"\n");
-        }
+pub(crate) fn end(rt: &HostRuntime, p: Progress) {
+    if STEP <= p.read {
+        write(rt, p.terminal, b"\n");
     }
 }

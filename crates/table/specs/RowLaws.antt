@@ -3,7 +3,7 @@ use Rattle.std.specs.Prelude.{◌≡◌, refl, Bool, true, false, not, List, ℕ
 use Rattle.std.proofs.Common.{sym, ap, ◌∙◌, arith, add-zero, le-leb, eq-eqb, eqb-true, ne_eqb, length-drop, get_or-drop, get_or-take, length-take-le}
 use Rattle.std.proofs.Math.Decide.{ℕ_discrete}
 use Rattle.std.proofs.lemmas.Bool.{lt-leb}
-use Rattle.ground.specs.Tests.{◌and◌, ◌or◌, if◌then◌else◌, and_head, and_both, and-off, and-late, or_left, or_right, or_else, when, unless}
+use Rattle.ground.specs.Tests.{◌and◌, ◌or◌, if◌then◌else◌, and_head, and_both, and_off, and_late, or_left, or_right, or_else, when, unless}
 use Rattle.address.specs.Address.{is_msf}
 use Rattle.address.specs.Laws.{InRange, is_msf_range}
 use Rattle.table.specs.Layout.{row, A0, A1, A2, B0, C0, is_track, is_extra}
@@ -59,7 +59,7 @@ is_track_true p h k = and_both _ _ (le-leb _ _ h) (le-leb _ _ k)
 -- none of A0h, A1h, A2h, B0h and C0h is one
 pub is_track-over : (p : ℕ) → 99 < p → is_track p ≡ false
 unfolding is_track
-is_track-over p h = sym (and-late _ _ (sym (lt-leb _ _ h)))
+is_track-over p h = sym (and_late _ _ (sym (lt-leb _ _ h)))
 
 pub is_extra-B0 : {p : ℕ} → p ≡ B0 → is_extra p ≡ true
 unfolding is_extra
@@ -113,7 +113,7 @@ unfolding plain free simple
 plain_unless r h = decided (is_extra r.point) refl
   where
     five : free r ≡ false
-    five = sym (and-off _ _ (ne_eqb (adr r) 5 (λ e. let z = eqb-true (adr r) 1 (and_head _ _ h) in omega arith)))
+    five = sym (and_off _ _ (ne_eqb (adr r) 5 (λ e. let z = eqb-true (adr r) 1 (and_head _ _ h) in omega arith)))
 
     decided : (b : Bool) → is_extra r.point ≡ b → not (is_extra r.point) ≡ plain r
     decided true e = ap not e ∙ sym (when _ _ _ e ∙ five)

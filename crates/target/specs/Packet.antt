@@ -4,12 +4,12 @@ use Rattle.ground.specs.Tests.{◌and◌, if◌then◌else◌}
 use Rattle.attention.specs.declared.Unit.{Unit}
 use Rattle.deck.specs.declared.Deck.{Deck}
 use Rattle.drive.specs.declared.state.Drive.{Drive}
-use Rattle.deck.specs.Deck.{isLoaded}
-use Rattle.drive.specs.State.{isKnownState, unknownState}
+use Rattle.deck.specs.Deck.{is_loaded}
+use Rattle.drive.specs.State.{is_known_state, unknown_state}
 use Rattle.table.specs.Layout.{bound}
-use Rattle.disc.specs.Rules.{isFit}
-use Rattle.disc.specs.Part.{unfit, ruleWith}
-use Rattle.gate.specs.Gate.{Reply, refuse, gate, pass, requestSense}
+use Rattle.disc.specs.Rules.{is_fit}
+use Rattle.disc.specs.Part.{unfit, rule_with}
+use Rattle.gate.specs.Gate.{Reply, refuse, gate, pass, request_sense}
 use Rattle.command.specs.declared.decode.Command.{Command}
 use Rattle.command.specs.declared.decode.Kind.{Kind}
 use Rattle.command.specs.declared.decode.Kind.TheVariants.{Asks, Passes, Gates}
@@ -17,15 +17,15 @@ use Rattle.command.specs.Command.{byte, code_of, decode, kind_of}
 use Rattle.target.specs.Perform.{perform}
 
 -- the refusals that only packets give
-abbrev pub notTwelve : ℕ
-notTwelve = 1
+abbrev pub not_twelve : ℕ
+not_twelve = 1
 
-abbrev pub shortMemory : ℕ
-shortMemory = 3
+abbrev pub short_memory : ℕ
+short_memory = 3
 
 -- steps 1 and 2, by how the command meets a pending attention
 abbrev pub steps_by : Kind → Command → Unit → Deck → List ℕ → List ℕ → List ℕ → Reply Deck
-steps_by Asks c u m p t l = requestSense (byte p 4) u m
+steps_by Asks c u m p t l = request_sense (byte p 4) u m
 steps_by Passes c u m p t l = pass u m (perform c p m t l)
 steps_by Gates c u m p t l = gate u m (perform c p m t l)
 
@@ -33,16 +33,16 @@ abbrev pub steps : Command → Unit → Deck → List ℕ → List ℕ → List 
 steps c u m p t l = steps_by (kind_of c) c u m p t l
 
 -- "Packets test 1, 2, 3, 4, then the steps below": n is the length of the response memory. "When not loaded, the table isn't looked at."
-unfoldable pub refusalOf : Drive → List ℕ → List ℕ → ℕ → ℕ
-refusalOf d p t n =
-    if not (eqb (length p) 12) then notTwelve
-    else (if not (isKnownState d) then unknownState
-    else (if ltb n bound then shortMemory
-    else (if isLoaded d.deck and not (isFit t) then unfit else 0)))
+unfoldable pub refusal_of : Drive → List ℕ → List ℕ → ℕ → ℕ
+refusal_of d p t n =
+    if not (eqb (length p) 12) then not_twelve
+    else (if not (is_known_state d) then unknown_state
+    else (if ltb n bound then short_memory
+    else (if is_loaded d.deck and not (is_fit t) then unfit else 0)))
 
 -- the answer to the packet p with the table t, K4's parameter list l and a response memory of n bytes; K6: "Refusal 4 carries that number";
 -- K9: no number is tested after the steps (claims' Whole: no full answer passes the bound)
 unfoldable pub answer : Drive → List ℕ → List ℕ → List ℕ → ℕ → Reply Deck
 answer d p t l n =
-    if eqb (refusalOf d p t n) 0 then steps (decode (code_of p)) d.unit d.deck p t l
-    else refuse (refusalOf d p t n) (ruleWith (refusalOf d p t n) t) d.unit d.deck
+    if eqb (refusal_of d p t n) 0 then steps (decode (code_of p)) d.unit d.deck p t l
+    else refuse (refusal_of d p t n) (rule_with (refusal_of d p t n) t) d.unit d.deck

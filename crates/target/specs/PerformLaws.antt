@@ -2,26 +2,26 @@
 use Rattle.std.specs.Prelude.{◌≡◌, refl, Bool, true, false, not, List, [], ℕ, ◌+◌, ◌≤◌, min, length, take}
 use Rattle.std.proofs.Common.{sym, ap, ◌∙◌, arith, length-take, length-drop}
 use Rattle.std.proofs.Math.Seq.{take-nil}
-use Rattle.ground.specs.Tests.{when, unless, either, and_both, and-off, and-late}
+use Rattle.ground.specs.Tests.{when, unless, either, and_both, and_off, and_late}
 use Rattle.disc.specs.declared.disc.Disc.{Disc}
 use Rattle.table.specs.Layout.{bound, header, descriptors}
 use Rattle.ground.specs.Memory.{Laid, fill, fill_none}
 use Rattle.deck.specs.declared.Deck.{Deck}
-use Rattle.deck.specs.Deck.{isLoaded}
+use Rattle.deck.specs.Deck.{is_loaded}
 use Rattle.gate.specs.declared.fault.Fault.{Fault}
 use Rattle.gate.specs.declared.fault.Fault.TheVariants.{BadField}
 use Rattle.gate.specs.Gate.{Result, fails, goes}
 use Rattle.command.specs.declared.decode.Command.{Command}
 use Rattle.command.specs.declared.done.Done.{Done}
 use Rattle.command.specs.declared.done.Done.TheVariants.{Fails, Goes}
-use Rattle.command.specs.Command.{needsDisc}
-use Rattle.command.specs.Tray.{eject, load, startStop, noMedium}
+use Rattle.command.specs.Command.{needs_disc}
+use Rattle.command.specs.Tray.{eject, load, start_stop, no_medium}
 use Rattle.command.specs.Done.{done_of, answering, answering-fails, answering-goes}
 use Rattle.blocks.specs.Range.{ranged}
 use Rattle.blocks.specs.Blocks.{seek}
-use Rattle.audio.specs.Audio.{pauseResume}
-use Rattle.mode.specs.ModeSelect.{modeSelect}
-use Rattle.mode.specs.ModeSelectLaws.{modeSelect-ways}
+use Rattle.audio.specs.Audio.{pause_resume}
+use Rattle.mode.specs.ModeSelect.{mode_select}
+use Rattle.mode.specs.ModeSelectLaws.{mode_select_ways}
 use Rattle.target.specs.FitFacts.{ReadOff}
 use Rattle.target.specs.Perform.{written, Performed, L, work, perform}
 
@@ -31,21 +31,21 @@ use Rattle.target.specs.Perform.{written, Performed, L, work, perform}
 pub record Met (c : Command) (p t : List ℕ) (disc : Disc) (mem : List ℕ) : Type 0 where
   pub twelve : length p ≡ 12
   pub room : bound ≤ length mem
-  pub ready : needsDisc c p ≡ true → ReadOff t disc
+  pub ready : needs_disc c p ≡ true → ReadOff t disc
 
 -- the same before the disc is asked for: a loaded drive's table was read
 pub record Ready (m : Deck) (p t : List ℕ) (disc : Disc) (mem : List ℕ) : Type 0 where
   pub twelve : length p ≡ 12
   pub room : bound ≤ length mem
-  pub ready : isLoaded m ≡ true → ReadOff t disc
+  pub ready : is_loaded m ≡ true → ReadOff t disc
 
 -- the lead-out that was read off is the table's
-pub readOff-leads : {t : List ℕ} {disc : Disc} → ReadOff t disc → disc.lead_out ≡ L t
-readOff-leads r = ap (λ (d : Disc). d.lead_out) r.same
+pub read_off_leads : {t : List ℕ} {disc : Disc} → ReadOff t disc → disc.lead_out ≡ L t
+read_off_leads r = ap (λ (d : Disc). d.lead_out) r.same
 
 -- its descriptors are what its header leaves of the bound
-pub readOff-length : {t : List ℕ} {disc : Disc} → ReadOff t disc → header + length (descriptors t) ≤ bound
-readOff-length {t} r = let l = length-drop header t in let a = r.fits.head in let b = r.fits.most in omega arith
+pub read_off-length : {t : List ℕ} {disc : Disc} → ReadOff t disc → header + length (descriptors t) ≤ bound
+read_off-length {t} r = let l = length-drop header t in let a = r.fits.head in let b = r.fits.most in omega arith
 
 -- ---- Performed
 
@@ -87,39 +87,39 @@ written_quiet : (r : Result Deck) → Quiet r → written r ≡ []
 written_quiet (fails f) q = refl
 written_quiet (goes next loading full limit start count) q = ap (take limit) q ∙ take-nil limit
 
-pub performed-quiet : {r : Result Deck} {o : Done} (m : List ℕ) → Quiet r → o ≡ done_of r → Performed r m o m
-performed-quiet {r} m q e = record { outcome = e; memory = sym (fill_none m) ∙ ap (fill m) (sym (written_quiet r q)) }
+pub performed_quiet : {r : Result Deck} {o : Done} (m : List ℕ) → Quiet r → o ≡ done_of r → Performed r m o m
+performed_quiet {r} m q e = record { outcome = e; memory = sym (fill_none m) ∙ ap (fill m) (sym (written_quiet r q)) }
 
-pub startStop-quiet : (b : ℕ) (m : Deck) → Quiet (startStop b m)
-unfolding startStop load eject
-startStop-quiet b m =
+pub start_stop_quiet : (b : ℕ) (m : Deck) → Quiet (start_stop b m)
+unfolding start_stop load eject
+start_stop_quiet b m =
     either Quiet _ (λ h. either Quiet _ (λ k. either Quiet _ (λ o. refl) (λ o. refl)) (λ k. either Quiet _ (λ o. refl) (λ o. either Quiet _ (λ l. refl) (λ l. refl)))) (λ h. refl)
 
-pub seek-quiet : (a l : ℕ) (m : Deck) → Quiet (seek a l m)
+pub seek_quiet : (a l : ℕ) (m : Deck) → Quiet (seek a l m)
 unfolding seek
-seek-quiet a l m = either Quiet _ (λ h. refl) (λ h. refl)
+seek_quiet a l m = either Quiet _ (λ h. refl) (λ h. refl)
 
-pub ranged-quiet : (all : Bool) (a n l : ℕ) (r : Result Deck) → Quiet r → Quiet (ranged all a n l r)
+pub ranged_quiet : (all : Bool) (a n l : ℕ) (r : Result Deck) → Quiet r → Quiet (ranged all a n l r)
 unfolding ranged
-ranged-quiet all a n l r q = either Quiet _ (λ h. either Quiet _ (λ k. q) (λ k. refl)) (λ h. refl)
+ranged_quiet all a n l r q = either Quiet _ (λ h. either Quiet _ (λ k. q) (λ k. refl)) (λ h. refl)
 
-pub pauseResume-quiet : (resume : Bool) (m : Deck) → Quiet (pauseResume resume m)
-unfolding pauseResume
-pauseResume-quiet resume m = either Quiet _ (λ h. refl) (λ h. refl)
+pub pause_resume_quiet : (resume : Bool) (m : Deck) → Quiet (pause_resume resume m)
+unfolding pause_resume
+pause_resume_quiet resume m = either Quiet _ (λ h. refl) (λ h. refl)
 
-pub modeSelect-quiet : (n : ℕ) (l : List ℕ) (m : Deck) → Quiet (modeSelect n l m)
-modeSelect-quiet n l m = modeSelect-ways Quiet n l m refl refl (λ h. refl) refl
+pub mode_select_quiet : (n : ℕ) (l : List ℕ) (m : Deck) → Quiet (mode_select n l m)
+mode_select_quiet n l m = mode_select_ways Quiet n l m refl refl (λ h. refl) refl
 
 -- ---- steps 3 and 4
 
-pub perform-empty : (c : Command) (p : List ℕ) (m : Deck) (t l : List ℕ) → needsDisc c p ≡ true → isLoaded m ≡ false → perform c p m t l ≡ fails (noMedium m)
+pub perform_empty : (c : Command) (p : List ℕ) (m : Deck) (t l : List ℕ) → needs_disc c p ≡ true → is_loaded m ≡ false → perform c p m t l ≡ fails (no_medium m)
 unfolding perform
-perform-empty c p m t l h k = when _ _ _ (and_both _ _ h (ap not k))
+perform_empty c p m t l h k = when _ _ _ (and_both _ _ h (ap not k))
 
-pub perform-loaded : (c : Command) (p : List ℕ) (m : Deck) (t l : List ℕ) → isLoaded m ≡ true → perform c p m t l ≡ work c p m t l
+pub perform-loaded : (c : Command) (p : List ℕ) (m : Deck) (t l : List ℕ) → is_loaded m ≡ true → perform c p m t l ≡ work c p m t l
 unfolding perform
-perform-loaded c p m t l k = unless _ _ _ (sym (and-late _ _ (sym (ap not k))))
+perform-loaded c p m t l k = unless _ _ _ (sym (and_late _ _ (sym (ap not k))))
 
-pub perform-free : (c : Command) (p : List ℕ) (m : Deck) (t l : List ℕ) → needsDisc c p ≡ false → perform c p m t l ≡ work c p m t l
+pub perform-free : (c : Command) (p : List ℕ) (m : Deck) (t l : List ℕ) → needs_disc c p ≡ false → perform c p m t l ≡ work c p m t l
 unfolding perform
-perform-free c p m t l h = unless _ _ _ (sym (and-off _ _ h))
+perform-free c p m t l h = unless _ _ _ (sym (and_off _ _ h))

@@ -1,8 +1,8 @@
 // GET EVENT STATUS NOTIFICATION: what the packet asks for, and the answer.
 ghost use Rattle.std.specs.Prelude.{◌≡◌, ◌≤◌, length};
 ghost use Rattle.table.specs.Layout.{bound};
-ghost use Rattle.command.specs.Command.{byte, lengthIn};
-ghost use Rattle.event.specs.EventAnswer.{getEvent};
+ghost use Rattle.command.specs.Command.{byte, length_in};
+ghost use Rattle.event.specs.EventAnswer.{get_event};
 ghost use Rattle.target.specs.Perform.{Performed};
 
 use crate::perform::answer;
@@ -16,7 +16,7 @@ use ground::number::word16;
 // A packet that does not poll is a bad field; else the class picked is answered, cut to the allocation length.
 pub(crate) fn get_event(p: &[u8], m: Deck, mem: &mut [u8]) -> Done
     requires { (length p.now ≡ 12) × (bound ≤ length mem.old) }
-    ensures { Performed (getEvent (byte p.now 1) (byte p.now 4) (lengthIn p.now) m) mem.old result mem.new }
+    ensures { Performed (get_event (byte p.now 1) (byte p.now 4) (length_in p.now) m) mem.old result mem.new }
 {
     let bad = !bit0(p[1]);
     let limit = word16(p[7], p[8]);

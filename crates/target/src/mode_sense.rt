@@ -1,8 +1,8 @@
 // MODE SENSE: what the packet asks for, and the answer.
 ghost use Rattle.std.specs.Prelude.{◌≡◌, ◌≤◌, length};
 ghost use Rattle.table.specs.Layout.{bound};
-ghost use Rattle.command.specs.Command.{byte, lengthIn};
-ghost use Rattle.mode.specs.ModeSense.{modeSense};
+ghost use Rattle.command.specs.Command.{byte, length_in};
+ghost use Rattle.mode.specs.ModeSense.{mode_sense};
 ghost use Rattle.target.specs.Perform.{Performed};
 
 use crate::perform::answer;
@@ -14,7 +14,7 @@ use mode::mode_sense::{Shown, mode_bytes, page_shown};
 // The packet's byte 2 decides; the values that it asks for are laid, cut to the allocation length.
 pub(crate) fn mode_sense(p: &[u8], m: Deck, mem: &mut [u8]) -> Done
     requires { (length p.now ≡ 12) × (bound ≤ length mem.old) }
-    ensures { Performed (modeSense (byte p.now 2) (lengthIn p.now) m) mem.old result mem.new }
+    ensures { Performed (mode_sense (byte p.now 2) (length_in p.now) m) mem.old result mem.new }
 {
     match page_shown(p[2], m.page) {
         Shown::Fails(f) => Done::Fails(f),

@@ -1,8 +1,8 @@
 // One packet met by the drive, its lent table, its parameter list and its response memory.
 ghost use Rattle.std.specs.Prelude.{◌≡◌, true, ◌≤◌, length};
-ghost use Rattle.drive.specs.State.{isKnownState};
+ghost use Rattle.drive.specs.State.{is_known_state};
 ghost use Rattle.table.specs.Layout.{bound};
-ghost use Rattle.gate.specs.Gate.{requestSense, pass, gate};
+ghost use Rattle.gate.specs.Gate.{request_sense, pass, gate};
 ghost use Rattle.target.specs.Perform.{perform};
 ghost use Rattle.outcome.specs.Outcome.{Answered};
 ghost use Rattle.target.specs.Packet.{answer};
@@ -28,7 +28,7 @@ pub const SHORT_MEMORY: u8 = 3;
 // REQUEST SENSE: the 18 bytes, cut to the length asked for.
 fn ask_sense(d: Drive, limit: usize, mem: &mut [u8]) -> Outcome
     requires { bound ≤ length mem.old }
-    ensures { Answered (requestSense limit d.unit d.deck) mem.old result mem.new }
+    ensures { Answered (request_sense limit d.unit d.deck) mem.old result mem.new }
 {
     let deck = d.deck;
     let g = give(d.unit);
@@ -114,7 +114,7 @@ fn unread() -> Disc
 
 // Refusal 4, with the broken rule: a loaded drive's table is read first.
 fn meet(d: Drive, p: &[u8], t: &[u8], list: &[u8], mem: &mut [u8]) -> Outcome
-    requires { (length p.now ≡ 12) × (isKnownState d ≡ true) × (bound ≤ length mem.old) }
+    requires { (length p.now ≡ 12) × (is_known_state d ≡ true) × (bound ≤ length mem.old) }
     ensures { Answered (answer d p.now t.now list.now (length mem.old)) mem.old result mem.new }
 {
     if d.deck.is_loaded() {

@@ -2,7 +2,7 @@
 ghost use Rattle.std.specs.Prelude.{◌≡◌, ◌+◌, ◌≤◌, length};
 ghost use Rattle.ground.specs.Tests.{◌and◌};
 ghost use Rattle.table.specs.Layout.{descriptors};
-ghost use Rattle.tracks.specs.Track.{allIn};
+ghost use Rattle.tracks.specs.Track.{all_in};
 ghost use Rattle.blocks.specs.Range.{in_range};
 ghost use Rattle.command.specs.Command.{word_at};
 ghost use Rattle.command.specs.Done.{answering, done_of};
@@ -60,7 +60,7 @@ fn word_at(p: &[u8], i: usize) -> usize
 // Every one of the n blocks from a on lies in a track of the mode; a run that is out of range is not looked at.
 fn lies_in(mode: Mode, a: usize, n: usize, t: &[u8], disc: Disc) -> bool
     requires { ReadOff t.now disc }
-    ensures { result ≡ in_range a n (L t.now) and allIn mode (descriptors t.now) a n }
+    ensures { result ≡ in_range a n (L t.now) and all_in mode (descriptors t.now) a n }
 {
     if in_range(a, n, disc.lead_out) {
         return run_is(mode, t, a, n);

@@ -1,8 +1,8 @@
 // READ SUB-CHANNEL: what the packet asks for, and the answer.
 ghost use Rattle.std.specs.Prelude.{◌≡◌, ◌≤◌, length};
 ghost use Rattle.table.specs.Layout.{bound};
-ghost use Rattle.command.specs.Command.{lengthIn};
-ghost use Rattle.audio.specs.SubChannel.{subAskIn};
+ghost use Rattle.command.specs.Command.{length_in};
+ghost use Rattle.audio.specs.SubChannel.{sub_ask_in};
 ghost use Rattle.target.specs.Perform.{Performed, tells};
 
 use crate::perform::answer;
@@ -15,7 +15,7 @@ use tracks::track::track_of;
 // The position's track is that of the table lent now.
 pub(crate) fn read_sub_channel(p: &[u8], m: Deck, t: &[u8], mem: &mut [u8]) -> Done
     requires { (length p.now ≡ 12) × (bound ≤ length mem.old) }
-    ensures { Performed (tells (subAskIn p.now) (lengthIn p.now) m t.now) mem.old result mem.new }
+    ensures { Performed (tells (sub_ask_in p.now) (length_in p.now) m t.now) mem.old result mem.new }
 {
     let ask = sub_ask(p[1], p[2], p[3]);
     let limit = word16(p[7], p[8]);

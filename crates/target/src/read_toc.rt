@@ -1,7 +1,7 @@
 // READ TOC: what the packet asks for, and the answer.
 ghost use Rattle.std.specs.Prelude.{◌≡◌, ◌≤◌, length};
 ghost use Rattle.table.specs.Layout.{bound};
-ghost use Rattle.target.specs.ReadToc.{askOf, readToc};
+ghost use Rattle.target.specs.ReadToc.{ask_of, read_toc};
 ghost use Rattle.target.specs.FitFacts.{ReadOff};
 ghost use Rattle.target.specs.Perform.{Performed};
 
@@ -17,7 +17,7 @@ use toc::answer::{TocAsk, put_toc, toc_bad};
 // What the packet asks for.
 fn toc_ask(p: &[u8]) -> TocAsk
     requires { length p.now ≡ 12 }
-    ensures { result ≡ askOf p.now }
+    ensures { result ≡ ask_of p.now }
 {
     TocAsk {
         format: wide(p[2]) % 16,
@@ -29,7 +29,7 @@ fn toc_ask(p: &[u8]) -> TocAsk
 // READ TOC, of a fit table.
 pub(crate) fn read_toc(p: &[u8], m: Deck, t: &[u8], disc: Disc, mem: &mut [u8]) -> Done
     requires { ReadOff t.now disc × (length p.now ≡ 12) × (bound ≤ length mem.old) }
-    ensures { Performed (readToc p.now m t.now) mem.old result mem.new }
+    ensures { Performed (read_toc p.now m t.now) mem.old result mem.new }
 {
     let ask = toc_ask(p);
     if toc_bad(disc, ask) {

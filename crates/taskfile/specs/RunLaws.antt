@@ -6,7 +6,7 @@ use Rattle.std.proofs.Math.Bool.{true, false}
 use native.Mathlib.Omega.{arith}
 use Rattle.std.proofs.Math.Dec.{eqb}
 use borrow.Author.Tests.{eqb-true, ltb-true, leb-true, eq-eqb, lt-ltb}
-use Rattle.ground.specs.Tests.{◌and◌, if◌then◌else◌, when, unless, and_head, and_tail, and-off, and_both}
+use Rattle.ground.specs.Tests.{◌and◌, if◌then◌else◌, when, unless, and_head, and_tail, and_off, and_both}
 use Rattle.taskfile.specs.declared.TaskFile.{TaskFile}
 use Rattle.taskfile.specs.declared.Phase.{Phase}
 use Rattle.taskfile.specs.declared.Phase.TheVariants.{Idle, PacketRun, ListRun, AnswerRun}
@@ -66,15 +66,15 @@ module _ (f : TaskFile) where
   -- and with another reason it fails
   is_packet_run-other : eqb f.reason takes_packet_reason ≡ false → is_packet_run f ≡ false
   unfolding is_packet_run
-  is_packet_run-other h = sym (and-off _ _ h)
+  is_packet_run-other h = sym (and_off _ _ h)
 
   pub is_list_run-other : eqb f.reason takes_list_reason ≡ false → is_list_run f ≡ false
   unfolding is_list_run
-  is_list_run-other h = sym (and-off _ _ h)
+  is_list_run-other h = sym (and_off _ _ h)
 
   is_answer_run-other : eqb f.reason gives_answer_reason ≡ false → is_answer_run f ≡ false
   unfolding is_answer_run
-  is_answer_run-other h = sym (and-off _ _ h)
+  is_answer_run-other h = sym (and_off _ _ h)
 
   -- the tests, by the phase
   pub record Tested (s : Phase) : Type 0 where

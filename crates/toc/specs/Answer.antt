@@ -36,12 +36,12 @@ unfoldable pub format2 : Disc → ℕ → List ℕ → List ℕ
 format2 disc n d = headed 1 disc.sessions (whole (session d (n - 1)))
 
 -- the full answer of a format
-unfoldable pub tocBytes : Disc → ℕ → Bool → ℕ → List ℕ → List ℕ
-tocBytes disc f msf n d =
+unfoldable pub toc_bytes : Disc → ℕ → Bool → ℕ → List ℕ → List ℕ
+toc_bytes disc f msf n d =
     if eqb f 0 then format0 disc msf n d else (if eqb f 1 then format1 disc msf else format2 disc n d)
 
 -- "N over the last track and not AAh: 05/24/00", "N over S is 05/24/00", "Other formats: 05/24/00."
-unfoldable pub tocBad : Disc → ℕ → ℕ → Bool
-tocBad disc f n =
+unfoldable pub toc_bad : Disc → ℕ → ℕ → Bool
+toc_bad disc f n =
     if eqb f 0 then ltb disc.last n and not (eqb n AA)
     else (if eqb f 1 then false else (if eqb f 2 then ltb disc.sessions n else true))

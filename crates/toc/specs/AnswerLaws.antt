@@ -12,7 +12,7 @@ use Rattle.disc.specs.RulesLaws.{Fit, fit-rows}
 use Rattle.toc.specs.declared.shown.Show.TheVariants.{Tracks, Whole}
 use Rattle.toc.specs.Shown.{described, shown_tracks}
 use Rattle.toc.specs.ShownLaws.{shown_count, shown_count-within, shown_tracks-length, described-length, listed, listed-tracks, listed-whole}
-use Rattle.toc.specs.Answer.{AA, headed, format0, format1, whole, format2, tocBytes}
+use Rattle.toc.specs.Answer.{AA, headed, format0, format1, whole, format2, toc_bytes}
 
 -- ---- an answer is a header and what follows it
 
@@ -98,17 +98,17 @@ drop-held k l = elim (dec_le k (length l)) [
 
 -- ---- the bytes of each format
 
-pub toc_bytes_0 : (disc : Disc) (f : ℕ) (msf : Bool) (n : ℕ) (d : List ℕ) → f ≡ 0 → tocBytes disc f msf n d ≡ format0 disc msf n d
-unfolding tocBytes
+pub toc_bytes_0 : (disc : Disc) (f : ℕ) (msf : Bool) (n : ℕ) (d : List ℕ) → f ≡ 0 → toc_bytes disc f msf n d ≡ format0 disc msf n d
+unfolding toc_bytes
 toc_bytes_0 disc f msf n d e = when _ _ _ (eq-eqb _ _ e)
 
-pub toc_bytes_1 : (disc : Disc) (f : ℕ) (msf : Bool) (n : ℕ) (d : List ℕ) → f ≡ 1 → tocBytes disc f msf n d ≡ format1 disc msf
-unfolding tocBytes
+pub toc_bytes_1 : (disc : Disc) (f : ℕ) (msf : Bool) (n : ℕ) (d : List ℕ) → f ≡ 1 → toc_bytes disc f msf n d ≡ format1 disc msf
+unfolding toc_bytes
 toc_bytes_1 disc f msf n d e = unless _ _ _ (ne_eqb f 0 (λ z. omega arith)) ∙ when _ _ _ (eq-eqb f 1 e)
 
 pub toc_bytes_2 :
-    (disc : Disc) (f : ℕ) (msf : Bool) (n : ℕ) (d : List ℕ) → (f ≡ 0 → ⊥) → (f ≡ 1 → ⊥) → tocBytes disc f msf n d ≡ format2 disc n d
-unfolding tocBytes
+    (disc : Disc) (f : ℕ) (msf : Bool) (n : ℕ) (d : List ℕ) → (f ≡ 0 → ⊥) → (f ≡ 1 → ⊥) → toc_bytes disc f msf n d ≡ format2 disc n d
+unfolding toc_bytes
 toc_bytes_2 disc f msf n d a b = unless _ _ _ (ne_eqb f 0 a) ∙ unless _ _ _ (ne_eqb f 1 b)
 
 -- ---- no answer of a table within the bound passes it
@@ -141,9 +141,9 @@ format2-within disc n d m =
     let q = length-drop (starts d (n - 1)) d in
     omega arith
 
-pub tocBytes-within :
-    (disc : Disc) (f : ℕ) (msf : Bool) (n : ℕ) (d : List ℕ) → header + length d ≤ bound → length (tocBytes disc f msf n d) ≤ bound
-unfolding tocBytes
-tocBytes-within disc f msf n d m =
+pub toc_bytes-within :
+    (disc : Disc) (f : ℕ) (msf : Bool) (n : ℕ) (d : List ℕ) → header + length d ≤ bound → length (toc_bytes disc f msf n d) ≤ bound
+unfolding toc_bytes
+toc_bytes-within disc f msf n d m =
     either (λ (l : List ℕ). length l ≤ bound) (eqb f 0) (λ h. format0-within disc msf n d m)
     (λ h. either (λ (l : List ℕ). length l ≤ bound) (eqb f 1) (λ k. format1-within disc msf) (λ k. format2-within disc n d m))

@@ -2,7 +2,7 @@
 ghost use Rattle.std.specs.Prelude.{◌≡◌, ◌-◌, take};
 ghost use Rattle.ground.specs.Memory.{Laid};
 ghost use Rattle.sessions.specs.Session.{session};
-ghost use Rattle.toc.specs.Answer.{format0, format1, format2, tocBytes, tocBad};
+ghost use Rattle.toc.specs.Answer.{format0, format1, format2, toc_bytes, toc_bad};
 ghost use Rattle.toc.specs.AnswerLaws.{head_of};
 
 use crate::shown::{Show, put_all, put_described, shown_count};
@@ -25,7 +25,7 @@ pub struct TocAsk {
 
 // The field checks: a number over the last track or session, or an unknown format.
 pub fn toc_bad(disc: Disc, ask: TocAsk) -> bool
-    ensures { result ≡ tocBad disc ask.format ask.number }
+    ensures { result ≡ toc_bad disc ask.format ask.number }
 {
     if ask.format == 0 {
         if disc.last < ask.number {
@@ -108,7 +108,7 @@ fn put_format2(d: &[u8], disc: Disc, n: u8, part: &mut [u8]) -> usize
 
 // The full answer of a format, as far as the part holds it.
 fn put_full(d: &[u8], disc: Disc, ask: TocAsk, part: &mut [u8]) -> usize
-    ensures { Laid part.old (tocBytes disc ask.format ask.msf ask.number d.now) result part.new }
+    ensures { Laid part.old (toc_bytes disc ask.format ask.msf ask.number d.now) result part.new }
 {
     if ask.format == 0 {
         return put_format0(d, disc, ask.msf, ask.number, part);
@@ -121,7 +121,7 @@ fn put_full(d: &[u8], disc: Disc, ask: TocAsk, part: &mut [u8]) -> usize
 
 // The answer cut to the allocation length.
 pub fn put_toc(d: &[u8], disc: Disc, ask: TocAsk, room: usize, mem: &mut [u8]) -> usize
-    ensures { Laid mem.old (take room (tocBytes disc ask.format ask.msf ask.number d.now)) result mem.new }
+    ensures { Laid mem.old (take room (toc_bytes disc ask.format ask.msf ask.number d.now)) result mem.new }
 {
     let e = smaller(room, mem.len());
     put_full(d, disc, ask, &mut mem[..e])

@@ -3,10 +3,10 @@ use Rattle.std.specs.Prelude.{◌≡◌, refl, Bool, true, false, not, List, ℕ
 use Rattle.std.proofs.Common.{sym, ◌∙◌, arith, lt_of_not-le, le-leb, lt-ltb, le-ltb, eq-eqb, ne_eqb}
 use Rattle.std.proofs.lemmas.Bool.{false≢true, lt-leb}
 use Rattle.std.proofs.Math.Decide.{dec_le, ℕ_discrete}
-use Rattle.ground.specs.Tests.{◌and◌, ◌or◌, every, and-on, and-off, and-late, and_head, and_tail, and_both, when, unless, every-at, every-all}
+use Rattle.ground.specs.Tests.{◌and◌, ◌or◌, every, and_on, and_off, and_late, and_head, and_tail, and_both, when, unless, every-at, every-all}
 use Rattle.table.specs.Layout.{rows, flags_at, point_at, A2, is_track}
 use Rattle.table.specs.Row.{address_at}
-use Rattle.tracks.specs.Track.{flagged, out_at, track_with, track_at, found, trackOf, is_mode, in_mode, allIn, passes, all_pass, runIs}
+use Rattle.tracks.specs.Track.{flagged, out_at, track_with, track_at, found, track_of, is_mode, in_mode, all_in, passes, all_pass, run_is}
 use Rattle.disc.specs.RulesLaws.{same_test}
 use Rattle.tracks.specs.TrackLaws.{next_out-here, next_out_on, Greatest, Found, here, none, only_greatest, found_greatest, Belongs, below, past, outside, track_of_belongs, track_of_of}
 use Rattle.tracks.specs.declared.track.Track.{Track}
@@ -18,12 +18,12 @@ use Rattle.tracks.specs.declared.track.Ask.TheVariants.{Block}
 -- the descriptor's address is before the run
 pub passes-before : (mode : Mode) (c : Track) (a e : ℕ) → c.start < a → passes mode c a e ≡ true
 unfolding passes
-passes-before mode c a e h = unless _ _ _ (sym (and-off _ _ (lt-leb _ _ h)))
+passes-before mode c a e h = unless _ _ _ (sym (and_off _ _ (lt-leb _ _ h)))
 
 -- the descriptor's address is past the run
 pub passes-past : (mode : Mode) (c : Track) (a e : ℕ) → e ≤ c.start → passes mode c a e ≡ true
 unfolding passes
-passes-past mode c a e h = unless _ _ _ (sym (and-late _ _ (sym (le-ltb _ _ h))))
+passes-past mode c a e h = unless _ _ _ (sym (and_late _ _ (sym (le-ltb _ _ h))))
 
 -- a track that starts within the run has to be of that mode
 pub passes_track : (mode : Mode) (c : Track) (a e : ℕ) → a ≤ c.start → c.start < e → is_track c.number ≡ true → passes mode c a e ≡ flagged mode c.flags
@@ -41,22 +41,22 @@ unfolding passes
 passes-read mode d j a e h = rw h
 
 -- an empty run passes
-pub run_none : (mode : Mode) (d : List ℕ) (a n : ℕ) → n ≡ 0 → runIs mode d a n ≡ true
-unfolding runIs ◌or◌
+pub run_none : (mode : Mode) (d : List ℕ) (a n : ℕ) → n ≡ 0 → run_is mode d a n ≡ true
+unfolding run_is ◌or◌
 run_none mode d a n h = rw (eq-eqb n 0 h)
 
 -- a run of some blocks: the first one and every descriptor decide
-pub run_some : (mode : Mode) (d : List ℕ) (a n : ℕ) → (n ≡ 0 → ⊥) → runIs mode d a n ≡ in_mode mode d a and all_pass mode d a (a + n)
-unfolding runIs ◌or◌
+pub run_some : (mode : Mode) (d : List ℕ) (a n : ℕ) → (n ≡ 0 → ⊥) → run_is mode d a n ≡ in_mode mode d a and all_pass mode d a (a + n)
+unfolding run_is ◌or◌
 run_some mode d a n h = rw (ne_eqb n 0 h)
 
 -- the first block lies in no track of that mode: the run does not
-pub run_off : (mode : Mode) (d : List ℕ) (a n : ℕ) → (n ≡ 0 → ⊥) → in_mode mode d a ≡ false → runIs mode d a n ≡ false
-run_off mode d a n h k = run_some mode d a n h ∙ sym (and-off _ _ k)
+pub run_off : (mode : Mode) (d : List ℕ) (a n : ℕ) → (n ≡ 0 → ⊥) → in_mode mode d a ≡ false → run_is mode d a n ≡ false
+run_off mode d a n h k = run_some mode d a n h ∙ sym (and_off _ _ k)
 
 -- the first block lies in a track of that mode: the descriptors decide
-pub run_on : (mode : Mode) (d : List ℕ) (a n : ℕ) → (n ≡ 0 → ⊥) → in_mode mode d a ≡ true → runIs mode d a n ≡ all_pass mode d a (a + n)
-run_on mode d a n h k = run_some mode d a n h ∙ sym (and-on _ _ k refl)
+pub run_on : (mode : Mode) (d : List ℕ) (a n : ℕ) → (n ≡ 0 → ⊥) → in_mode mode d a ≡ true → run_is mode d a n ≡ all_pass mode d a (a + n)
+run_on mode d a n h k = run_some mode d a n h ∙ sym (and_on _ _ k refl)
 
 -- ---- a block in a track of that mode
 
@@ -78,7 +78,7 @@ in_mode_track mode d b h = told (track_of_belongs d b)
     never : is_track 0 ≡ true → ModeTrack mode d b
     never e = absurd (false≢true (sym no_track_number ∙ e))
 
-    told : Belongs d b (trackOf d b) → ModeTrack mode d b
+    told : Belongs d b (track_of d b) → ModeTrack mode d b
     told (below k f l q) = record { index = k; greatest = f; below = l; flagged = rw q at (and_tail _ _ h) }
     told (past k f l q) = never (rw q at (and_head _ _ h))
     told (outside f q) = never (rw q at (and_head _ _ h))
@@ -201,19 +201,19 @@ module _ (mode : Mode) (d : List ℕ) (s : Spread d) (a e : ℕ) where
       ]
 
 -- the run test is that every one of the n blocks from a on lies in a track of that mode
-pub run_agrees : (mode : Mode) (d : List ℕ) → Spread d → (a n : ℕ) → runIs mode d a n ≡ allIn mode d a n
-unfolding allIn
+pub run_agrees : (mode : Mode) (d : List ℕ) → Spread d → (a n : ℕ) → run_is mode d a n ≡ all_in mode d a n
+unfolding all_in
 run_agrees mode d s a n = elim (ℕ_discrete n 0) [
   | yes e ↦ run_none mode d a n e ∙ sym (every-all n _ (λ i k. absurd (omega arith)))
   | no e ↦ same_test _ _ (λ h. all e h) (λ h. run e (every-at n _ h))
 ]
   where
-    all : (n ≡ 0 → ⊥) → runIs mode d a n ≡ true → every n (λ i. in_mode mode d (a + i)) ≡ true
+    all : (n ≡ 0 → ⊥) → run_is mode d a n ≡ true → every n (λ i. in_mode mode d (a + i)) ≡ true
     all e h =
         let b = sym (run_some mode d a n e) ∙ h in
         every-all n _ (λ i k. run-blocks mode d s a (a + n) (and_head _ _ b) (and_tail _ _ b) (a + i) (omega arith) (omega arith))
 
-    run : (n ≡ 0 → ⊥) → ((i : ℕ) → i < n → in_mode mode d (a + i) ≡ true) → runIs mode d a n ≡ true
+    run : (n ≡ 0 → ⊥) → ((i : ℕ) → i < n → in_mode mode d (a + i) ≡ true) → run_is mode d a n ≡ true
     run e f =
         let each : (b : ℕ) → a ≤ b → b < a + n → in_mode mode d b ≡ true = λ b h k. let q : a + (b - a) ≡ b = omega arith in rw q at (f (b - a) (omega arith)) in
         run_on mode d a n e (each a (omega arith) (omega arith)) ∙ every-all (rows d) _ (blocks-pass mode d s a (a + n) each)

@@ -7,10 +7,10 @@ use Rattle.table.specs.Row.{address_at}
 use Rattle.table.specs.RowLaws.{is_track-over}
 use Rattle.sessions.specs.Session.{tracks, session}
 use Rattle.sessions.specs.SessionLaws.{rows_before}
-use Rattle.disc.specs.Rules.{leadOut, track_start}
+use Rattle.disc.specs.Rules.{session_lead_out, track_start}
 use Rattle.disc.specs.RulesLaws.{Fit, fit-session}
 use Rattle.disc.specs.FitLaws.{point_at-session, address_at-session, Place, Kind, is_a0, is_a1, is_a2, is_track_after, is_b0, is_c0, fit-locate, fit-listed, fit-kind, fit-rises, fit_apart}
-use Rattle.tracks.specs.Track.{out_at, allIn, runIs}
+use Rattle.tracks.specs.Track.{out_at, all_in, run_is}
 use Rattle.tracks.specs.declared.track.Mode.{Mode}
 use Rattle.tracks.specs.TrackLaws.{next_out-here, next_out_on, out_at-next}
 use Rattle.tracks.specs.RunLaws.{Spread, run_agrees}
@@ -23,19 +23,19 @@ pub record TrackRow (t : List ℕ) (j : ℕ) : Type 0 where
   pub inside : m < tracks (session (descriptors t) k)
   pub place : j ≡ rows_before (descriptors t) k + (3 + m)
   pub start : address_at (descriptors t) j ≡ track_start (session (descriptors t) k) m
-  pub out : out_at (descriptors t) j ≡ leadOut (session (descriptors t) k)
+  pub out : out_at (descriptors t) j ≡ session_lead_out (session (descriptors t) k)
 
 -- descriptor j is the lead-out of the session after k others
 pub record LeadRow (t : List ℕ) (j : ℕ) : Type 0 where
   pub k : ℕ
   pub below : k < last_session t
-  pub lead : address_at (descriptors t) j ≡ leadOut (session (descriptors t) k)
+  pub lead : address_at (descriptors t) j ≡ session_lead_out (session (descriptors t) k)
 
 module _ {t : List ℕ} (f : Fit t) where
   -- from a session's A2 on its address is the lead-out of each descriptor
   pub fit-out :
       {k : ℕ} → k < last_session t → (m : ℕ) → m ≤ tracks (session (descriptors t) k)
-      → out_at (descriptors t) (rows_before (descriptors t) k + (3 + m)) ≡ leadOut (session (descriptors t) k)
+      → out_at (descriptors t) (rows_before (descriptors t) k + (3 + m)) ≡ session_lead_out (session (descriptors t) k)
   fit-out {k} h zero l =
       let e : rows_before (descriptors t) k + (3 + 0) ≡ rows_before (descriptors t) k + 2 + 1 = omega arith in
       rw e (out_at-next (descriptors t) (rows_before (descriptors t) k + 2)
@@ -107,11 +107,11 @@ module _ {t : List ℕ} (f : Fit t) where
       told (is_c0 e q) = let w = point in absurd (omega arith)
 
   -- a track starts before its session's lead-out
-  row-lead : {j : ℕ} → (r : TrackRow t j) → address_at (descriptors t) j < leadOut (session (descriptors t) r.k)
+  row-lead : {j : ℕ} → (r : TrackRow t j) → address_at (descriptors t) j < session_lead_out (session (descriptors t) r.k)
   row-lead r = rw r.start ((fit-rises f r.below).lead r.m r.inside)
 
   -- and after the lead-out of every session before
-  row-after : {j : ℕ} → (r : TrackRow t j) → (k : ℕ) → k < r.k → leadOut (session (descriptors t) k) < address_at (descriptors t) j
+  row-after : {j : ℕ} → (r : TrackRow t j) → (k : ℕ) → k < r.k → session_lead_out (session (descriptors t) k) < address_at (descriptors t) j
   row-after r k h = rw r.start (fit_apart f k r.k h r.below r.m r.inside)
 
   -- a later track of a session starts later
@@ -141,7 +141,7 @@ module _ {t : List ℕ} (f : Fit t) where
   ]
 
   -- a session's lead-out is no later than that of a session after it
-  pub fit-leads-rise : (k n : ℕ) → k ≤ n → n < last_session t → leadOut (session (descriptors t) k) ≤ leadOut (session (descriptors t) n)
+  pub fit-leads-rise : (k n : ℕ) → k ≤ n → n < last_session t → session_lead_out (session (descriptors t) k) ≤ session_lead_out (session (descriptors t) n)
   fit-leads-rise k n h l = elim (ℕ_discrete k n) [
     | yes e ↦ rw e (omega arith)
     | no e ↦ let s = fit-session f l in
@@ -166,5 +166,5 @@ module _ {t : List ℕ} (f : Fit t) where
   }
 
   -- of a fit table the run test is that every one of the n blocks from a on lies in a track of the mode
-  pub fit-run-agrees : (mode : Mode) (a n : ℕ) → runIs mode (descriptors t) a n ≡ allIn mode (descriptors t) a n
+  pub fit-run-agrees : (mode : Mode) (a n : ℕ) → run_is mode (descriptors t) a n ≡ all_in mode (descriptors t) a n
   fit-run-agrees mode = run_agrees mode (descriptors t) fit-spread

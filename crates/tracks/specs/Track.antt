@@ -58,8 +58,8 @@ found a d zero = no_track
 found a d (suc j) = next_found a (track_at d j) (found a d j)
 
 -- the track to which a block belongs, or no track (number 0): "if it lies below that track's session's lead-out"
-unfoldable pub trackOf : List ℕ → ℕ → Track
-trackOf d b = if ltb b (found (Block b) d (rows d)).out then found (Block b) d (rows d) else no_track
+unfoldable pub track_of : List ℕ → ℕ → Track
+track_of d b = if ltb b (found (Block b) d (rows d)).out then found (Block b) d (rows d) else no_track
 
 -- the track of that number, or no track
 unfoldable pub track_numbered : List ℕ → ℕ → Track
@@ -71,11 +71,11 @@ is_mode mode u = is_track u.number and flagged mode u.flags
 
 -- the block lies in a track of that mode
 unfoldable pub in_mode : Mode → List ℕ → ℕ → Bool
-in_mode mode d b = is_mode mode (trackOf d b)
+in_mode mode d b = is_mode mode (track_of d b)
 
 -- every block of the n from a on lies in a track of that mode
-unfoldable pub allIn : Mode → List ℕ → ℕ → ℕ → Bool
-allIn mode d a n = every n (λ i. in_mode mode d (a + i))
+unfoldable pub all_in : Mode → List ℕ → ℕ → ℕ → Bool
+all_in mode d a n = every n (λ i. in_mode mode d (a + i))
 
 -- descriptor c lets the run from a up to e pass: a track that starts within it is of that mode, and no lead-out stands within it
 unfoldable pub passes : Mode → Track → ℕ → ℕ → Bool
@@ -89,5 +89,5 @@ abbrev pub all_pass : Mode → List ℕ → ℕ → ℕ → Bool
 all_pass mode d a e = every (rows d) (λ j. passes mode (track_at d j) a e)
 
 -- the same without going from block to block: the first block lies in a track of that mode, and every descriptor lets the run pass
-unfoldable pub runIs : Mode → List ℕ → ℕ → ℕ → Bool
-runIs mode d a n = eqb n 0 or (in_mode mode d a and all_pass mode d a (a + n))
+unfoldable pub run_is : Mode → List ℕ → ℕ → ℕ → Bool
+run_is mode d a n = eqb n 0 or (in_mode mode d a and all_pass mode d a (a + n))

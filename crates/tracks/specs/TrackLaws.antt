@@ -2,10 +2,10 @@
 use Rattle.std.specs.Prelude.{◌≡◌, refl, true, false, List, ℕ, zero, suc, ◌+◌, ◌≤◌, ◌<◌, eqb}
 use Rattle.std.proofs.Common.{sym, ap, ◌∙◌, add-one, arith, lt_of_not-le, le-leb, lt-ltb, le-ltb, eq-eqb, ne_eqb, leb-true, leb-false}
 use Rattle.std.proofs.Math.Decide.{dec_le, ℕ_discrete}
-use Rattle.ground.specs.Tests.{and-on, and-off, and_head, and_tail, when, unless, either}
+use Rattle.ground.specs.Tests.{and_on, and_off, and_head, and_tail, when, unless, either}
 use Rattle.table.specs.Layout.{rows, point_at, A2, is_track}
 use Rattle.table.specs.Row.{address_at}
-use Rattle.tracks.specs.Track.{next_out, out_at, no_track, track_at, covers, wanted, next_found, found, trackOf}
+use Rattle.tracks.specs.Track.{next_out, out_at, no_track, track_at, covers, wanted, next_found, found, track_of}
 use Rattle.tracks.specs.declared.track.Track.{Track}
 use Rattle.tracks.specs.declared.track.Ask.{Ask}
 use Rattle.tracks.specs.declared.track.Ask.TheVariants.{Block, Number}
@@ -34,16 +34,16 @@ out_at-next d j = ap (out_at d) (add-one j)
 
 pub wanted_not : (a : Ask) (c u : Track) → is_track c.number ≡ false → false ≡ wanted a c u
 unfolding wanted
-wanted_not (Block b) c u h = and-off _ _ h
-wanted_not (Number n) c u h = and-off _ _ h
+wanted_not (Block b) c u h = and_off _ _ h
+wanted_not (Number n) c u h = and_off _ _ h
 
 pub wanted_block : (b : ℕ) (c u : Track) → is_track c.number ≡ true → covers c.start b u.start ≡ wanted (Block b) c u
 unfolding wanted
-wanted_block b c u h = and-on _ _ h refl
+wanted_block b c u h = and_on _ _ h refl
 
 pub wanted_number : (n : ℕ) (c u : Track) → is_track c.number ≡ true → eqb c.number n ≡ wanted (Number n) c u
 unfolding wanted
-wanted_number n c u h = and-on _ _ h refl
+wanted_number n c u h = and_on _ _ h refl
 
 pub next_found-here : (a : Ask) (c u : Track) → wanted a c u ≡ true → next_found a c u ≡ c
 unfolding next_found
@@ -64,13 +64,13 @@ found-next a d j p q = rw (add-one, p, q)
 -- ---- the track of a block
 
 -- the block lies below the lead-out of the track found: it belongs to it
-pub track_of_below : (d : List ℕ) (b : ℕ) {u : Track} → u ≡ found (Block b) d (rows d) → b < u.out → u ≡ trackOf d b
-unfolding trackOf
+pub track_of_below : (d : List ℕ) (b : ℕ) {u : Track} → u ≡ found (Block b) d (rows d) → b < u.out → u ≡ track_of d b
+unfolding track_of
 track_of_below d b {u} e h = e ∙ sym (when _ _ _ (lt-ltb _ _ (rw e at h)))
 
 -- it does not: it belongs to no track
-pub track_of-past : (d : List ℕ) (b : ℕ) {u : Track} → u ≡ found (Block b) d (rows d) → u.out ≤ b → trackOf d b ≡ no_track
-unfolding trackOf
+pub track_of-past : (d : List ℕ) (b : ℕ) {u : Track} → u ≡ found (Block b) d (rows d) → u.out ≤ b → track_of d b ≡ no_track
+unfolding track_of
 track_of-past d b {u} e h = unless _ _ _ (le-ltb _ _ (rw e at h))
 
 -- ---- "the track with the greatest start not above it"
@@ -112,7 +112,7 @@ wanted_greatest d b j u h = leb-true _ _ (and_tail _ _ (and_tail _ _ h))
 
 unwanted_less : (d : List ℕ) (b j : ℕ) (u : Track) → wanted (Block b) (track_at d j) u ≡ false → Reaches d b j → address_at d j < u.start
 unfolding wanted covers
-unwanted_less d b j u h r = leb-false _ _ (and-on _ _ r.track (and-on _ _ (le-leb _ _ r.start) refl) ∙ h)
+unwanted_less d b j u h r = leb-false _ _ (and_on _ _ r.track (and_on _ _ (le-leb _ _ r.start) refl) ∙ h)
 
 -- so a track of the first n that starts at block b or before it starts no later than the one found
 pub found_reaches : {d : List ℕ} {b n : ℕ} {u : Track} → Found d b n u → (j : ℕ) → j < n → Reaches d b j → address_at d j ≤ u.start
@@ -165,10 +165,10 @@ pub data Belongs (d : List ℕ) (b : ℕ) (u : Track) : Type 0 where
   past : (i : ℕ) → Greatest d b (rows d) i → out_at d i ≤ b → u ≡ no_track → Belongs d b u
   outside : ((j : ℕ) → j < rows d → Reaches d b j → ⊥) → u ≡ no_track → Belongs d b u
 
-pub track_of_belongs : (d : List ℕ) (b : ℕ) → Belongs d b (trackOf d b)
+pub track_of_belongs : (d : List ℕ) (b : ℕ) → Belongs d b (track_of d b)
 track_of_belongs d b = told (found_greatest d b (rows d))
   where
-    told : Found d b (rows d) (found (Block b) d (rows d)) → Belongs d b (trackOf d b)
+    told : Found d b (rows d) (found (Block b) d (rows d)) → Belongs d b (track_of d b)
     told (here i g q) = elim (dec_le (out_at d i) b) [
       | yes h ↦ past i g h (track_of-past d b (sym q) h)
       | no h ↦ below i g (lt_of_not-le h) (sym (track_of_below d b (sym q) (lt_of_not-le h)))
@@ -176,25 +176,25 @@ track_of_belongs d b = told (found_greatest d b (rows d))
     told (none f q) = outside f (track_of-past d b (sym q) (omega arith))
 
 -- below the lead-out of the track with the greatest start not above it, that is its track
-pub track_of_of : (d : List ℕ) (b i : ℕ) → Greatest d b (rows d) i → b < out_at d i → trackOf d b ≡ track_at d i
+pub track_of_of : (d : List ℕ) (b i : ℕ) → Greatest d b (rows d) i → b < out_at d i → track_of d b ≡ track_at d i
 track_of_of d b i g h = told (track_of_belongs d b)
   where
-    told : Belongs d b (trackOf d b) → trackOf d b ≡ track_at d i
+    told : Belongs d b (track_of d b) → track_of d b ≡ track_at d i
     told (below k f l q) = q ∙ ap (track_at d) (only_greatest f g)
     told (past k f l q) = let e = only_greatest f g in absurd (let m : out_at d i ≤ b = rw e at l in omega arith)
     told (outside f q) = absurd (f i g.listed g.reaches)
 
 -- no such track, or none below whose lead-out it lies: no track, number 0
-pub track_of_no : (d : List ℕ) (b : ℕ) → ((i : ℕ) → Greatest d b (rows d) i → out_at d i ≤ b) → trackOf d b ≡ no_track
+pub track_of_no : (d : List ℕ) (b : ℕ) → ((i : ℕ) → Greatest d b (rows d) i → out_at d i ≤ b) → track_of d b ≡ no_track
 track_of_no d b h = told (track_of_belongs d b)
   where
-    told : Belongs d b (trackOf d b) → trackOf d b ≡ no_track
+    told : Belongs d b (track_of d b) → track_of d b ≡ no_track
     told (below k f l q) = let m = h k f in absurd (omega arith)
     told (past k f l q) = q
     told (outside f q) = q
 
 -- and number 0 only then
-pub number-none : (d : List ℕ) (b : ℕ) → (trackOf d b).number ≡ 0 → (i : ℕ) → Greatest d b (rows d) i → out_at d i ≤ b
+pub number-none : (d : List ℕ) (b : ℕ) → (track_of d b).number ≡ 0 → (i : ℕ) → Greatest d b (rows d) i → out_at d i ≤ b
 unfolding is_track
 number-none d b h i g = elim (dec_le (out_at d i) b) [
   | yes k ↦ k

@@ -1,7 +1,7 @@
 // A run of blocks: whether it lies wholly in tracks of one mode, told by descriptors and not by blocks.
 ghost use Rattle.std.specs.Prelude.{◌≡◌, ◌+◌};
 ghost use Rattle.table.specs.Layout.{descriptors};
-ghost use Rattle.tracks.specs.Track.{passes, all_pass, runIs};
+ghost use Rattle.tracks.specs.Track.{passes, all_pass, run_is};
 
 use crate::track::{Mode, Track, descriptors, is_flagged, is_mode, track_at, track_of};
 use ground::number::wide;
@@ -41,7 +41,7 @@ fn all_pass(mode: Mode, d: &[u8], a: usize, n: usize) -> bool
 
 // Every one of the n blocks from a on lies in a track of the mode.
 pub fn run_is(mode: Mode, t: &[u8], a: usize, n: usize) -> bool
-    ensures { result ≡ runIs mode (descriptors t.now) a n }
+    ensures { result ≡ run_is mode (descriptors t.now) a n }
 {
     if n == 0 {
         return true;

@@ -1,7 +1,7 @@
 // Tracks: each descriptor is read once, and what is asked for is told from that.
 ghost use Rattle.std.specs.Prelude.{◌≡◌, ◌+◌, ◌*◌, ◌≤◌, length};
 ghost use Rattle.table.specs.Layout.{row, rows, descriptors};
-ghost use Rattle.tracks.specs.Track.{is_data, flagged, is_mode, covers, wanted, track_with, next_out, next_found, found, trackOf, track_numbered, no_track};
+ghost use Rattle.tracks.specs.Track.{is_data, flagged, is_mode, covers, wanted, track_with, next_out, next_found, found, track_of, track_numbered, no_track};
 
 use address::address_of;
 use ground::number::wide;
@@ -154,7 +154,7 @@ pub(crate) fn descriptors(t: &[u8]) -> &[u8]
 
 // The track to which a block belongs, or no track.
 pub fn track_of(t: &[u8], block: usize) -> Track
-    ensures { result ≡ trackOf (descriptors t.now) block }
+    ensures { result ≡ track_of (descriptors t.now) block }
 {
     let u = found(Ask::Block(block), descriptors(t));
     if block < u.out {

@@ -1,0 +1,6 @@
+-- `changer::meet::refused` meets its contract: the number and its rule, and no slot changes.
+use borrow.Author.Rules.{rules}
+use Rattle.changer.proofs.meet.refused.Goals as goal
+
+pub returns : goal.returns
+returns c = rw c.staying.ensures

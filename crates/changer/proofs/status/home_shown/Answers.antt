@@ -1,0 +1,10 @@
+-- `changer::status::home_shown` meets its contract: by whether a disc is in the drive.
+use mathlib.Core.Path.{sym}
+use Rattle.ground.specs.Tests.{when, unless}
+use Rattle.changer.proofs.status.home_shown.Goals as goal
+
+pub returns-then-deck : goal.returns-then-deck
+returns-then-deck c = sym (when _ _ _ c.if-deck.true)
+
+pub returns : goal.returns
+returns c = sym (unless _ _ _ c.if-deck.false)

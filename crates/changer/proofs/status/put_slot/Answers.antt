@@ -1,0 +1,6 @@
+-- `changer::status::put_slot` meets its contract: the slot's byte and three zeros are laid.
+use borrow.Author.Rules.{rules}
+use Rattle.changer.proofs.status.put_slot.Goals as goal
+
+pub returns : goal.returns
+returns c = rw (← c.flags_of.ensures) c.copy_front.ensures

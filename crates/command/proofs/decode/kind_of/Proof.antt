@@ -1,9 +1,0 @@
--- `command::decode::kind_of` meets its contract: each arm answers what the definition says of its command.
-use borrow.Author.Rules.{rules}
-use Rattle.command.proofs.decode.kind_of.Statement.{statement}
-use Rattle.command.proofs.decode.kind_of.Tie as tie
-
-pub kind-of-spec : {M : Type 1} → statement M
-kind-of-spec =
-    tie.close
-    (tie.spec (λ c. search rules) (λ c. search rules) (λ c. search rules) (λ c. search rules) (λ c. search rules) (λ c. search rules) (λ c. search rules) (λ c. search rules) (λ c. search rules) (λ c. search rules) (λ c. search rules) (λ c. search rules) (λ c. search rules) (λ c. search rules) (λ c. search rules) (λ c. search rules) (λ c. search rules) (λ c. rw c.enum_told.given.1) (λ c. rw c.enum-told2.given.1) (λ c. rw c.enum-told3.given.1) (λ c. rw c.enum-told4.given.1) (λ c. rw c.enum-told5.given.1) (λ c. rw c.enum-told6.given.1) (λ c. rw c.enum-told7.given.1) (λ c. rw c.enum-told8.given.1) (λ c. rw c.enum-told9.given.1) (λ c. rw c.enum-told10.given.1) (λ c. rw c.enum-told11.given.1) (λ c. rw c.enum-told12.given.1) (λ c. rw c.enum-told13.given.1) (λ c. rw c.enum-told14.given.1) (λ c. rw c.enum-told15.given.1) (λ c. rw c.enum-told16.given.1) (λ c. rw c.enum-told17.given.1))

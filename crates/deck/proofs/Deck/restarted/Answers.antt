@@ -1,0 +1,6 @@
+-- `deck::Deck::restarted` meets its contract: nothing is played, the page has its default values, and there is no event.
+use borrow.Author.Rules.{rules}
+use Rattle.deck.proofs.Deck.restarted.Goals as goal
+
+pub returns : goal.returns
+returns c = rw (c.no_play-play.ensures, c.defaults-page.ensures)

@@ -1,0 +1,18 @@
+-- `mode::mode_sense::page_shown` meets its contract: page and control are the byte's, and each way out is one law of the definition.
+use mathlib.Core.Path.{sym}
+use Rattle.mode.specs.ModeSenseLaws.{page_shown-other, page_shown-saved, page_shown-values}
+use borrow.Author.Rules.{rules}
+use Rattle.mode.proofs.mode_sense.page_shown.Goals as goal
+
+pub returns-then-control-eq-SAVED : goal.returns-then-control-eq-SAVED
+returns-then-control-eq-SAVED c = let w = c.wide-control.ensures.same in
+    let v = c.wide.ensures.same in
+    sym (page_shown-saved _ _ (rw v at c.if-wide-eq-PAGE.true) (rw w at c.if-control-eq-SAVED.true))
+
+pub returns-then-wide-eq-PAGE : goal.returns-then-wide-eq-PAGE
+returns-then-wide-eq-PAGE c = let w = c.wide-control.ensures.same in
+    let v = c.wide.ensures.same in
+    rw (c.values_of.ensures, w) (sym (page_shown-values _ _ (rw v at c.if-wide-eq-PAGE.true) (rw w at c.if-control-eq-SAVED.false)))
+
+pub returns : goal.returns
+returns c = sym (page_shown-other _ _ (rw c.wide.ensures.same at c.if-wide-eq-PAGE.false))

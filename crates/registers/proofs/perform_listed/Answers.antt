@@ -1,0 +1,6 @@
+-- `registers::perform_listed` meets its contract: the list is the record's own.
+use borrow.Author.Rules.{rules}
+use Rattle.registers.proofs.perform_listed.Goals as goal
+
+pub returns : goal.returns
+returns c = c.perform.ensures

@@ -1,0 +1,6 @@
+-- `target::read_toc::toc_ask` meets its contract: each field is the packet's byte.
+use borrow.Author.Rules.{rules}
+use Rattle.target.proofs.read_toc.toc_ask.Goals as goal
+
+pub returns : goal.returns
+returns c = rw (c.wide.ensures.same, c.bit1.ensures)

@@ -1,0 +1,7 @@
+-- `taskfile::host::reset` meets its contract: the registers are put, and the transfer is ended.
+use mathlib.Core.Path.{◌∙◌, ap}
+use borrow.Author.Rules.{rules}
+use Rattle.taskfile.proofs.host.reset.Goals as goal
+
+pub returns : goal.returns
+returns c = c.ended.ensures ∙ rw c.holding.ensures

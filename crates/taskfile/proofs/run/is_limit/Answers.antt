@@ -1,0 +1,16 @@
+-- `taskfile::run::is_limit` meets its contract: the number is one of 16 bits, and its own limit.
+use mathlib.Core.Path.{ap}
+use lib.Dec.{eqb}
+use borrow.Author.Tests.{lt-ltb, le-ltb}
+use Rattle.ground.specs.Tests.{and_on, and_off}
+use Rattle.taskfile.specs.Run.{is_limit}
+use borrow.Author.Rules.{rules}
+use Rattle.taskfile.proofs.run.is_limit.Goals as goal
+
+pub returns-then-m-lt65536 : goal.returns-then-m-lt65536
+unfolding is_limit
+returns-then-m-lt65536 c = and_on _ _ (lt-ltb _ _ c.if-m-lt65536.true) (ap (λ n. eqb n c.args.m) c.limit_of.ensures)
+
+pub returns : goal.returns
+unfolding is_limit
+returns c = and_off _ _ (le-ltb _ _ c.if-m-lt65536.false)

@@ -1,0 +1,19 @@
+-- `tracks::run::passes` meets its contract: each way out is one law of the definition, and start - a < n says start < a + n.
+use mathlib.Core.Path.{sym, ap, ◌∙◌}
+use native.Mathlib.Omega.{arith}
+use Rattle.table.specs.Layout.{is_track}
+use Rattle.tracks.specs.RunLaws.{passes-before, passes-past, passes_track, passes_other}
+use borrow.Author.Rules.{rules}
+use Rattle.tracks.proofs.run.passes.Goals as goal
+
+pub returns-then-c-a : goal.returns-then-c-a
+returns-then-c-a c = sym (passes-before _ _ _ _ c.if-c-a.true)
+
+pub returns-then-n-c : goal.returns-then-n-c
+returns-then-n-c c = sym (passes-past _ _ _ _ (omega arith))
+
+pub returns-then-is_track : goal.returns-then-is_track
+returns-then-is_track c = c.is_flagged.ensures ∙ sym (passes_track _ _ _ _ (omega arith) (omega arith) (ap is_track (sym c.wide.ensures.same) ∙ sym c.is_track.ensures ∙ c.if-is_track.true))
+
+pub returns : goal.returns
+returns c = sym (passes_other _ _ _ _ (omega arith) (omega arith) (ap is_track (sym c.wide.ensures.same) ∙ sym c.is_track.ensures ∙ c.if-is_track.false))
