@@ -55,10 +55,10 @@ def declared(text):
 
 def names():
     """LANDED's declared names beside today's, file by file in order, for those that differ; and files whose lists do not run along."""
-    out, odd = {}, []
+    out, odd, chosen = {}, [], {}
     if os.path.exists("tools/respelled.json"):
         with open("tools/respelled.json") as f:
-            out = json.load(f)
+            chosen = json.load(f)
     files = [p for p in landed_files() if "/specs/" in p and p.endswith(".antt")]
     for p in files:
         old = declared(shown(p))
@@ -84,6 +84,14 @@ def names():
                 odd.append(f"{p}: {x} | {y}")
             elif out.setdefault(x, y) != y:
                 odd.append(f"{p}: {x} is {y} here, and {out[x]}")
+    for x in chosen:
+        # a name may have been respelled more than once
+        y, seen = chosen[x], {x}
+        while y in chosen and y not in seen:
+            seen.add(y)
+            y = chosen[y]
+        if out.setdefault(x, y) != y:
+            odd.append(f"tools/respelled.json: {x} is {y} here, and {out[x]}")
     return out, odd
 
 
