@@ -6,7 +6,7 @@ use Rattle.std.proofs.Math.Bool.{true, false, not}
 use Rattle.std.proofs.lemmas.Bool.{false≢true, lt-leb}
 use Rattle.std.proofs.Math.Decide.{dec_le}
 use native.Mathlib.Omega.{arith}
-use Rattle.ground.specs.Tests.{◌and◌, ◌or◌, if◌then◌else◌, when, unless, and_head, and_tail, and_both, and_off, and_late, or_else}
+use Rattle.ground.specs.Tests.{◌and◌, if◌then◌else◌, when, unless, and_head, and_tail, and_both, and_off, and_late, or_else}
 use Rattle.ground.specs.Memory.{fill, fill_none}
 use Rattle.attention.specs.declared.Unit.{Unit}
 use Rattle.deck.specs.declared.Deck.{Deck}

@@ -1,6 +1,7 @@
 // The changer: a drive and up to 31 slots, whose records stand beside one another in memory that the caller lends. Only this room holds a
 // reference to them: they are read into a row by value, and what a packet comes to is written in two places.
 #![tactic(auto)]
+
 mod load;
 mod meet;
 mod slots;

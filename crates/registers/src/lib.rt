@@ -1,6 +1,7 @@
 // The registers around the target: each access of the host is met by the task file, and the packet that it completes by the drive. Only the
 // interrupt routine holds a reference to the record; all that it means is the by-value `step`.
 #![tactic(auto)]
+
 pub mod board;
 
 ghost use Rattle.std.specs.Prelude.{◌≡◌, ◌<◌};

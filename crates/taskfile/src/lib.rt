@@ -1,6 +1,7 @@
 // The task file: the registers of 004 around the target, and what a transfer needs, as one record. Here it is by value: which run it is in,
 // and what becomes of it at each access of the host. What the target has to do with it is the `registers` room's.
 #![tactic(auto)]
+
 pub mod host;
 pub mod run;
 

@@ -1,5 +1,4 @@
 -- `changer::emptied` meets its contract: the disc goes, and the tray closes over nothing.
-use borrow.Author.Rules.{rules}
 use Rattle.changer.proofs.emptied.Goals as goal
 
 pub returns : goal.returns

@@ -2,7 +2,6 @@
 use borrow.Author.Tests.{lt-ltb, le-ltb}
 use Rattle.ground.specs.Tests.{if◌then◌else◌}
 use Rattle.registers.specs.Registers.{gives}
-use borrow.Author.Rules.{rules}
 use Rattle.registers.proofs.give.Goals as goal
 
 pub returns-then-mem-lt-BOUND : goal.returns-then-mem-lt-BOUND

@@ -1,5 +1,4 @@
 -- `registers::perform` meets its contract: what the target hands back is what the definition takes.
-use borrow.Author.Rules.{rules}
 use Rattle.registers.proofs.perform.Goals as goal
 
 pub returns : goal.returns

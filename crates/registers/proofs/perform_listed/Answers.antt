@@ -1,5 +1,4 @@
 -- `registers::perform_listed` meets its contract: the list is the record's own.
-use borrow.Author.Rules.{rules}
 use Rattle.registers.proofs.perform_listed.Goals as goal
 
 pub returns : goal.returns

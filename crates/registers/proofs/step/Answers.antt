@@ -3,7 +3,6 @@ use mathlib.Core.Path.{refl, sym, ap, ◌∙◌}
 use Rattle.taskfile.specs.Host.{access_of, turn_of}
 use Rattle.taskfile.specs.HostLaws.{turn_of-gives}
 use Rattle.registers.specs.RegistersLaws.{step_of-due, memory_of-due}
-use borrow.Author.Rules.{rules}
 use Rattle.registers.proofs.step.Goals as goal
 
 pub give-requires : goal.give-requires

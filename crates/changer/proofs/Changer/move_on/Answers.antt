@@ -1,5 +1,4 @@
 -- `changer::Changer::move_on` meets its contract: the drive's own call, and the home stays.
-use borrow.Author.Rules.{rules}
 use Rattle.changer.specs.Changer.{moves_on}
 use Rattle.changer.proofs.Changer.move_on.Goals as goal
 

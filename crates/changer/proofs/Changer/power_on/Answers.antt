@@ -1,5 +1,4 @@
 -- `changer::Changer::power_on` meets its contract: the drive's own power-on, of an empty closed drive.
-use borrow.Author.Rules.{rules}
 use Rattle.changer.specs.Changer.{power_on}
 use Rattle.changer.proofs.Changer.power_on.Goals as goal
 

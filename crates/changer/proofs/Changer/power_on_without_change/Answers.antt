@@ -1,5 +1,4 @@
 -- `changer::Changer::power_on_without_change` meets its contract: the drive's own power-on, of an empty closed drive.
-use borrow.Author.Rules.{rules}
 use Rattle.changer.specs.Changer.{power_on_without_change}
 use Rattle.changer.proofs.Changer.power_on_without_change.Goals as goal
 

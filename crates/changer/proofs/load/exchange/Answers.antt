@@ -1,7 +1,6 @@
 -- `changer::load::exchange` meets its contract: the home and the named slot change where that one then holds a disc, else the home alone.
 use mathlib.Core.Path.{sym, ◌∙◌}
 use Rattle.changer.specs.MechanismLaws.{mechanism, acted-exchange, loads-none}
-use borrow.Author.Rules.{rules}
 use Rattle.changer.proofs.load.exchange.Goals as goal
 
 pub holds-requires : goal.holds-requires

@@ -1,5 +1,4 @@
 -- `changer::load::failed` meets its contract: the fault, and no slot changes.
-use borrow.Author.Rules.{rules}
 use Rattle.changer.proofs.load.failed.Goals as goal
 
 pub returns : goal.returns

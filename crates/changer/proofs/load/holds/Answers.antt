@@ -3,7 +3,6 @@ use mathlib.Core.Path.{sym, ap, ◌∙◌}
 use Rattle.changer.specs.declared.Slot.{Slot}
 use Rattle.changer.specs.RowLaws.{slots_of}
 use Rattle.changer.specs.MechanismLaws.{put_back-home, put_back-other}
-use borrow.Author.Rules.{rules}
 use Rattle.changer.proofs.load.holds.Goals as goal
 
 pub returns-then-i-home : goal.returns-then-i-home

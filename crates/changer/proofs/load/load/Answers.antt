@@ -1,6 +1,5 @@
 -- `changer::load::load` meets its contract: with a disc in the drive it is exchanged, else the named slot alone changes, if it holds one.
 use Rattle.changer.specs.MechanismLaws.{mechanism, acted-take, acted-no-take}
-use borrow.Author.Rules.{rules}
 use Rattle.changer.proofs.load.load.Goals as goal
 
 pub returns-then-s : goal.returns-then-s

@@ -1,6 +1,5 @@
 -- `changer::load::load_unload` meets its contract: the pair, the slot and the lock stop it in this order.
 use Rattle.changer.specs.MechanismLaws.{mechanism, acted-fails, load_unload-pair, load_unload-slot, load_unload-locked, load_unload-loads, load_unload-unloads}
-use borrow.Author.Rules.{rules}
 use Rattle.changer.proofs.load.load_unload.Goals as goal
 
 pub returns-then-deck : goal.returns-then-deck

@@ -1,5 +1,4 @@
 -- `changer::load::returned_deck` meets its contract: the deck opens, its disc goes, and it closes again.
-use borrow.Author.Rules.{rules}
 use Rattle.changer.proofs.load.returned_deck.Goals as goal
 
 pub returns : goal.returns

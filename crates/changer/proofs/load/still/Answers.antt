@@ -1,5 +1,4 @@
 -- `changer::load::still` meets its contract: GOOD with the deck as it is, and no slot changes.
-use borrow.Author.Rules.{rules}
 use Rattle.changer.proofs.load.still.Goals as goal
 
 pub returns : goal.returns

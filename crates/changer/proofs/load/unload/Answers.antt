@@ -1,6 +1,5 @@
 -- `changer::load::unload` meets its contract: with a disc in the drive its home alone changes, with none nothing does.
 use Rattle.changer.specs.MechanismLaws.{mechanism, acted-unload, acted-unmoved}
-use borrow.Author.Rules.{rules}
 use Rattle.changer.proofs.load.unload.Goals as goal
 
 pub returns-then-deck : goal.returns-then-deck

@@ -10,7 +10,6 @@ use Rattle.outcome.specs.Outcome.{checked, finished}
 use Rattle.changer.specs.RowLaws.{slots_of}
 use Rattle.changer.specs.ChangerPacket.{mechanism_of}
 use Rattle.changer.specs.ChangerPacketLaws.{answered_by-tells, answered_by-settles}
-use borrow.Author.Rules.{rules}
 use Rattle.changer.proofs.meet.gated.Goals as goal
 
 pub returns-in-Power : goal.returns-in-Power

@@ -1,6 +1,5 @@
 -- `changer::meet::is_own` meets its contract: each test that stops it is one of the three, by the packet's code.
 use mathlib.Core.Path.{refl}
-use borrow.Author.Rules.{rules}
 use borrow.Author.Tests.{eq-eqb, ne_eqb}
 use Rattle.ground.specs.Tests.{◌and◌, ◌or◌}
 use Rattle.changer.specs.ChangerPacket.{is_own}

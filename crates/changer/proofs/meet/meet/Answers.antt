@@ -2,7 +2,6 @@
 use mathlib.Core.Path.{sym, ◌∙◌}
 use Rattle.changer.specs.RowLaws.{slots_of}
 use Rattle.changer.specs.ChangerPacketLaws.{changer-1, changer-2, changer-3, changer-11, answered_by-refused}
-use borrow.Author.Rules.{rules}
 use Rattle.changer.proofs.meet.meet.Goals as goal
 
 pub returns-then-mem-lt-BOUND : goal.returns-then-mem-lt-BOUND

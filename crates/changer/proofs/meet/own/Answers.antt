@@ -3,7 +3,6 @@ use mathlib.Core.Path.{refl}
 use Rattle.gate.specs.declared.fault.Fault.TheVariants.{BadField}
 use Rattle.changer.specs.ChangerPacketLaws.{own-load, own-status, own-tray}
 use Rattle.changer.specs.MechanismLaws.{mechanism, acted-fails, acted_on_quiet, load_unload_quiet}
-use borrow.Author.Rules.{rules}
 use Rattle.changer.proofs.meet.own.Goals as goal
 
 pub returns-then-code : goal.returns-then-code

@@ -7,7 +7,6 @@ use Rattle.disc.specs.Rules.{is_fit}
 use Rattle.disc.specs.Part.{unfit}
 use Rattle.changer.specs.RowLaws.{slots_of}
 use Rattle.changer.specs.ChangerPacketLaws.{refused_with, changer-4, changer-own, in_order_homed, answered_by-refused}
-use borrow.Author.Rules.{rules}
 use Rattle.changer.proofs.meet.own_packet.Goals as goal
 
 pub gated-requires : goal.gated-requires

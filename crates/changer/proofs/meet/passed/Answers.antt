@@ -3,7 +3,6 @@ use mathlib.Core.Path.{sym, ◌∙◌}
 use Rattle.changer.specs.RowLaws.{slots_of}
 use Rattle.changer.specs.ChangerPacket.{mechanism_of}
 use Rattle.changer.specs.ChangerPacketLaws.{changer-carried, answered_by-carried}
-use borrow.Author.Rules.{rules}
 use Rattle.changer.proofs.meet.passed.Goals as goal
 
 pub returns : goal.returns

@@ -1,5 +1,4 @@
 -- `changer::meet::refused` meets its contract: the number and its rule, and no slot changes.
-use borrow.Author.Rules.{rules}
 use Rattle.changer.proofs.meet.refused.Goals as goal
 
 pub returns : goal.returns

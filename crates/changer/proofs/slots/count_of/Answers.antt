@@ -1,6 +1,5 @@
 -- `changer::slots::count_of` meets its contract: a row has room for 32 slots.
 use mathlib.Core.Path.{◌∙◌}
-use borrow.Author.Rules.{rules}
 use Rattle.changer.specs.RowLaws.{slots_of-count}
 use Rattle.changer.proofs.slots.count_of.Goals as goal
 

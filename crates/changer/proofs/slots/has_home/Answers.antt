@@ -4,7 +4,6 @@ use mathlib.Core.Bool.{not}
 use borrow.Author.Tests.{lt-ltb, le-ltb}
 use Rattle.ground.specs.Tests.{and_on, and_off}
 use Rattle.changer.specs.declared.Slot.{Slot}
-use borrow.Author.Rules.{rules}
 use Rattle.changer.proofs.slots.has_home.Goals as goal
 
 pub returns-then-home-count_of : goal.returns-then-home-count_of

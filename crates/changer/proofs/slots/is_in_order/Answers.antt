@@ -7,7 +7,6 @@ use borrow.Author.Tests.{le-leb, lt-leb}
 use Rattle.ground.specs.Tests.{and_on, and_off, and_late, or_left, or_else}
 use Rattle.changer.specs.Changer.{is_in_order}
 use Rattle.changer.specs.RowLaws.{slots_of}
-use borrow.Author.Rules.{rules}
 use Rattle.changer.proofs.slots.is_in_order.Goals as goal
 
 pub returns-then-n-eq0 : goal.returns-then-n-eq0

@@ -1,7 +1,6 @@
 -- `changer::slots::slot_of` meets its contract: a slot that the row has is read, and past the last stands an empty one.
 use mathlib.Core.Path.{◌∙◌}
 use mathlib.Core.Logic.{inl, inr}
-use borrow.Author.Rules.{rules}
 use Rattle.changer.specs.RowLaws.{slots_of-at, slots_of-past}
 use Rattle.changer.proofs.slots.slot_of.Goals as goal
 

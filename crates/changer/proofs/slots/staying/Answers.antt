@@ -1,5 +1,4 @@
 -- `changer::slots::staying` meets its contract: what would go to the places is an empty slot.
-use borrow.Author.Rules.{rules}
 use Rattle.changer.proofs.slots.staying.Goals as goal
 
 pub returns : goal.returns

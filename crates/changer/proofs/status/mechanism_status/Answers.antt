@@ -6,7 +6,6 @@ use Rattle.changer.specs.Status.{status_bytes, home_shown}
 use Rattle.changer.specs.StatusLaws.{status_bytes-length}
 use Rattle.changer.specs.RowLaws.{slots_of, slots_of-count}
 use Rattle.changer.specs.MechanismLaws.{mechanism, acted_on_status}
-use borrow.Author.Rules.{rules}
 use Rattle.changer.proofs.status.mechanism_status.Goals as goal
 
 pub returns : goal.returns

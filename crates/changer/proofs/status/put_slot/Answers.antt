@@ -1,5 +1,4 @@
 -- `changer::status::put_slot` meets its contract: the slot's byte and three zeros are laid.
-use borrow.Author.Rules.{rules}
 use Rattle.changer.proofs.status.put_slot.Goals as goal
 
 pub returns : goal.returns

@@ -1,12 +1,9 @@
 -- `changer::status::put_slots` meets its contract: the tables of the first j slots are laid, and the next one goes into the rest that begins
 -- where they ended (`laid_more`).
 use mathlib.Core.Path.{◌≡◌, refl}
-use Prim.Native.Nat.{◌≤◌, ◌-◌}
 use native.Mathlib.Omega.{arith}
-use borrow.Author.Rules.{rules}
 use lib.ListN.{length}
-use Rattle.ground.specs.Memory.{Laid, laid_none, laid-within, laid_more, laid-length}
-use Rattle.changer.specs.Status.{slot_tables}
+use Rattle.ground.specs.Memory.{laid_none, laid-within, laid_more, laid-length}
 use Rattle.changer.specs.StatusLaws.{slot_tables-none, slot_tables_more}
 use Rattle.changer.specs.RowLaws.{slots_of}
 use Rattle.changer.proofs.status.put_slots.Goals as goal

@@ -3,7 +3,6 @@ use mathlib.Core.Path.{sym}
 use native.Mathlib.Omega.{arith}
 use lib.Seq.{length-take-le}
 use Rattle.ground.specs.Memory.{laid-cut}
-use borrow.Author.Rules.{rules}
 use Rattle.changer.proofs.status.put_status.Goals as goal
 
 pub slice_bounds-put_full-end-2 : goal.slice_bounds-put_full-end-2

@@ -2,7 +2,6 @@
 use borrow.Author.Tests.{eq-eqb, ne_eqb}
 use Rattle.ground.specs.Tests.{if◌then◌else◌}
 use Rattle.taskfile.specs.Host.{answer_byte}
-use borrow.Author.Rules.{rules}
 use Rattle.taskfile.proofs.host.answer_byte.Goals as goal
 
 pub returns-then-f : goal.returns-then-f

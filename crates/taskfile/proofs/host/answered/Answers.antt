@@ -1,9 +1,8 @@
 -- `taskfile::host::answered` meets its contract: bytes begin a run, and none end the transfer.
 use mathlib.Core.Path.{◌∙◌}
-use borrow.Author.Tests.{eq-eqb, ne_eqb}
+use borrow.Author.Tests.{ne_eqb}
 use Rattle.ground.specs.Tests.{if◌then◌else◌}
 use Rattle.taskfile.specs.Host.{answered}
-use borrow.Author.Rules.{rules}
 use Rattle.taskfile.proofs.host.answered.Goals as goal
 
 pub returns-then-n-eq0 : goal.returns-then-n-eq0

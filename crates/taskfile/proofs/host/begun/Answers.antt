@@ -1,6 +1,5 @@
 -- `taskfile::host::begun` meets its contract: the transfer is placed, and its first run counted.
 use mathlib.Core.Path.{◌∙◌}
-use borrow.Author.Rules.{rules}
 use Rattle.taskfile.proofs.host.begun.Goals as goal
 
 pub returns : goal.returns

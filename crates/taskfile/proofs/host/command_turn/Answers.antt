@@ -1,10 +1,9 @@
 -- `taskfile::host::command_turn` meets its contract: A0h is held while idle, and another command is refused in every phase.
 use mathlib.Core.Path.{sym, ◌∙◌}
-use borrow.Author.Tests.{eq-eqb, ne_eqb}
+use borrow.Author.Tests.{ne_eqb}
 use Rattle.ground.specs.Tests.{if◌then◌else◌}
 use Rattle.taskfile.specs.Run.{phase_of}
 use Rattle.taskfile.specs.HostLaws.{write_turn-refused}
-use borrow.Author.Rules.{rules}
 use Rattle.taskfile.proofs.host.command_turn.Goals as goal
 
 pub returns-then-v-eq-PACKET_COMMAND : goal.returns-then-v-eq-PACKET_COMMAND

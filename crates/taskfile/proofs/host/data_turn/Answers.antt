@@ -1,7 +1,6 @@
 -- `taskfile::host::data_turn` meets its contract: each arm knows the phase, and a record in a run has a next byte.
 use mathlib.Core.Path.{sym, ◌∙◌}
 use Rattle.taskfile.specs.RunLaws.{phase_of-packet, phase_of-list}
-use borrow.Author.Rules.{rules}
 use Rattle.taskfile.proofs.host.data_turn.Goals as goal
 
 pub packet_byte-requires : goal.packet_byte-requires

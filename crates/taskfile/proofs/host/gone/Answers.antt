@@ -3,7 +3,6 @@ use mathlib.Core.Path.{sym, ◌∙◌}
 use borrow.Author.Tests.{eq-eqb, ne_eqb}
 use Rattle.ground.specs.Tests.{if◌then◌else◌}
 use Rattle.taskfile.specs.Host.{gone}
-use borrow.Author.Rules.{rules}
 use Rattle.taskfile.proofs.host.gone.Goals as goal
 
 pub returns-then-into_run-eq0 : goal.returns-then-into_run-eq0

@@ -2,7 +2,6 @@
 use borrow.Author.Tests.{eq-eqb, ne_eqb}
 use Rattle.ground.specs.Tests.{if◌then◌else◌}
 use Rattle.taskfile.specs.Host.{list_byte}
-use borrow.Author.Rules.{rules}
 use Rattle.taskfile.proofs.host.list_byte.Goals as goal
 
 pub returns-then-at-eq-LIST : goal.returns-then-at-eq-LIST

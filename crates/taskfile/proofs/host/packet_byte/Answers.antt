@@ -3,7 +3,6 @@ use mathlib.Core.Path.{◌∙◌}
 use borrow.Author.Tests.{eq-eqb, ne_eqb}
 use Rattle.ground.specs.Tests.{if◌then◌else◌}
 use Rattle.taskfile.specs.Host.{packet_byte}
-use borrow.Author.Rules.{rules}
 use Rattle.taskfile.proofs.host.packet_byte.Goals as goal
 
 pub returns-then-at-eq-PACKET : goal.returns-then-at-eq-PACKET

@@ -2,7 +2,6 @@
 use mathlib.Core.Path.{sym, ◌∙◌}
 use Rattle.ground.specs.Tests.{if◌then◌else◌}
 use Rattle.taskfile.specs.Host.{packet_end}
-use borrow.Author.Rules.{rules}
 use Rattle.taskfile.proofs.host.packet_end.Goals as goal
 
 pub returns-then-takes_list : goal.returns-then-takes_list

@@ -1,7 +1,6 @@
 -- `taskfile::host::read_turn` meets its contract: each arm knows the phase, and a record in a run has a next byte.
 use mathlib.Core.Path.{sym, ◌∙◌}
 use Rattle.taskfile.specs.RunLaws.{phase_of-answer}
-use borrow.Author.Rules.{rules}
 use Rattle.taskfile.proofs.host.read_turn.Goals as goal
 
 pub answer_byte-requires : goal.answer_byte-requires

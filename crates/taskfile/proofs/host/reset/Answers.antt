@@ -1,6 +1,5 @@
 -- `taskfile::host::reset` meets its contract: the registers are put, and the transfer is ended.
-use mathlib.Core.Path.{◌∙◌, ap}
-use borrow.Author.Rules.{rules}
+use mathlib.Core.Path.{◌∙◌}
 use Rattle.taskfile.proofs.host.reset.Goals as goal
 
 pub returns : goal.returns

@@ -1,7 +1,6 @@
 -- `taskfile::host::turn_of` meets its contract: each arm does what the definition says of its access.
 use mathlib.Core.Path.{◌∙◌}
 use Rattle.taskfile.specs.Host.{turn_of}
-use borrow.Author.Rules.{rules}
 use Rattle.taskfile.proofs.host.turn_of.Goals as goal
 
 pub returns-in-Data : goal.returns-in-Data

@@ -1,6 +1,5 @@
 -- `taskfile::host::write_turn` meets its contract: each arm knows the phase.
 use mathlib.Core.Path.{sym, ◌∙◌}
-use borrow.Author.Rules.{rules}
 use Rattle.taskfile.proofs.host.write_turn.Goals as goal
 
 pub returns-in-Idle : goal.returns-in-Idle

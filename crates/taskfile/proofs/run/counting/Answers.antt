@@ -1,6 +1,4 @@
 -- `taskfile::run::counting` meets its contract: the two bytes of the number go where the byte count is.
-use lib.ListN.{get_or}
-use borrow.Author.Rules.{rules}
 use Rattle.taskfile.proofs.run.counting.Goals as goal
 
 pub returns : goal.returns

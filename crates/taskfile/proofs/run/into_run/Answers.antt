@@ -1,7 +1,6 @@
 -- `taskfile::run::into_run` meets its contract: of no limit the whole number is left over.
-use mathlib.Core.Path.{sym, ◌∙◌}
+use mathlib.Core.Path.{sym}
 use native.Mathlib.Nat.{mod-zero}
-use borrow.Author.Rules.{rules}
 use Rattle.taskfile.proofs.run.into_run.Goals as goal
 
 pub returns-then-limit-eq0 : goal.returns-then-limit-eq0

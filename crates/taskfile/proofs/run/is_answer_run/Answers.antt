@@ -2,7 +2,6 @@
 use borrow.Author.Tests.{eq-eqb, ne_eqb, le-leb, lt-leb}
 use Rattle.ground.specs.Tests.{and_on, and_off, and_late}
 use Rattle.taskfile.specs.Run.{is_answer_run}
-use borrow.Author.Rules.{rules}
 use Rattle.taskfile.proofs.run.is_answer_run.Goals as goal
 
 pub returns-then-f-le-BOUND : goal.returns-then-f-le-BOUND

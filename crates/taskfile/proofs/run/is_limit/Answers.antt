@@ -4,7 +4,6 @@ use lib.Dec.{eqb}
 use borrow.Author.Tests.{lt-ltb, le-ltb}
 use Rattle.ground.specs.Tests.{and_on, and_off}
 use Rattle.taskfile.specs.Run.{is_limit}
-use borrow.Author.Rules.{rules}
 use Rattle.taskfile.proofs.run.is_limit.Goals as goal
 
 pub returns-then-m-lt65536 : goal.returns-then-m-lt65536

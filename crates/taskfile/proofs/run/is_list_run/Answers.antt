@@ -1,11 +1,8 @@
 -- `taskfile::run::is_list_run` meets its contract: each test that stops it is the definition's.
-use mathlib.Core.Path.{sym, ap, ◌∙◌}
-use mathlib.Core.List.{List}
-use Prim.Native.Nat.{ℕ}
+use mathlib.Core.Path.{sym, ◌∙◌}
 use borrow.Author.Tests.{eq-eqb, ne_eqb}
 use Rattle.ground.specs.Tests.{and_on, and_off, and_late}
-use Rattle.taskfile.specs.Run.{is_list_run, takes_list}
-use borrow.Author.Rules.{rules}
+use Rattle.taskfile.specs.Run.{is_list_run}
 use Rattle.taskfile.proofs.run.is_list_run.Goals as goal
 
 pub returns-then-f-eq-LIST : goal.returns-then-f-eq-LIST

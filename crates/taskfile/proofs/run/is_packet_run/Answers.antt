@@ -3,7 +3,6 @@ use mathlib.Core.Path.{refl}
 use Rattle.ground.specs.Tests.{and_on, and_off, and_late}
 use borrow.Author.Tests.{eq-eqb, ne_eqb}
 use Rattle.taskfile.specs.Run.{is_packet_run}
-use borrow.Author.Rules.{rules}
 use Rattle.taskfile.proofs.run.is_packet_run.Goals as goal
 
 pub returns-then-f-eq-PACKET-2 : goal.returns-then-f-eq-PACKET-2

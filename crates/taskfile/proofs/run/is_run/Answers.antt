@@ -1,10 +1,8 @@
 -- `taskfile::run::is_run` meets its contract: each test that stops it is the definition's.
-use mathlib.Core.Path.{sym, ap, ◌∙◌}
-use lib.Dec.{eqb}
+use mathlib.Core.Path.{sym, ◌∙◌}
 use borrow.Author.Tests.{lt-ltb, le-ltb}
 use Rattle.ground.specs.Tests.{and_on, and_off, and_late}
 use Rattle.taskfile.specs.Run.{is_run}
-use borrow.Author.Rules.{rules}
 use Rattle.taskfile.proofs.run.is_run.Goals as goal
 
 pub returns-then-f : goal.returns-then-f

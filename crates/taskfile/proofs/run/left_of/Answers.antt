@@ -1,10 +1,8 @@
 -- `taskfile::run::left_of` meets its contract: each arm knows the phase, and a record in a run has a next byte.
-use mathlib.Core.Path.{sym, ap, ◌∙◌}
+use mathlib.Core.Path.{sym, ◌∙◌}
 use native.Mathlib.Omega.{arith}
-use Rattle.taskfile.specs.declared.Phase.{Phase}
-use Rattle.taskfile.specs.Run.{left_by, left_of}
+use Rattle.taskfile.specs.Run.{left_of}
 use Rattle.taskfile.specs.RunLaws.{phase_of-packet, phase_of-list, phase_of-answer}
-use borrow.Author.Rules.{rules}
 use Rattle.taskfile.proofs.run.left_of.Goals as goal
 
 pub left-requires : goal.left-requires

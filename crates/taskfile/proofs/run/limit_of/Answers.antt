@@ -1,8 +1,7 @@
 -- `taskfile::run::limit_of` meets its contract: each test that stops it is the definition's.
-use borrow.Author.Tests.{eq-eqb, ne_eqb}
+use borrow.Author.Tests.{ne_eqb}
 use Rattle.ground.specs.Tests.{if◌then◌else◌}
 use Rattle.taskfile.specs.Run.{limit_of}
-use borrow.Author.Rules.{rules}
 use Rattle.taskfile.proofs.run.limit_of.Goals as goal
 
 pub returns-then-count-eq0 : goal.returns-then-count-eq0

@@ -2,7 +2,6 @@
 use mathlib.Core.Path.{sym, ◌∙◌}
 use Rattle.ground.specs.Tests.{if◌then◌else◌}
 use Rattle.taskfile.specs.Run.{phase_of}
-use borrow.Author.Rules.{rules}
 use Rattle.taskfile.proofs.run.phase_of.Goals as goal
 
 pub returns-then-is_packet_run : goal.returns-then-is_packet_run

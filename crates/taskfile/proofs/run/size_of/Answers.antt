@@ -1,8 +1,6 @@
 -- `taskfile::run::size_of` meets its contract: the run began where whole runs ended.
 use mathlib.Core.Path.{◌∙◌}
 use native.Mathlib.Nat.{mod-le}
-use native.Mathlib.Omega.{arith}
-use borrow.Author.Rules.{rules}
 use Rattle.taskfile.proofs.run.size_of.Goals as goal
 
 pub overflow_sub-begun : goal.overflow_sub-begun

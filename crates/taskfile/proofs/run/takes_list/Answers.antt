@@ -4,7 +4,6 @@ use lib.Dec.{eqb}
 use borrow.Author.Tests.{eq-eqb, ne_eqb}
 use Rattle.ground.specs.Tests.{and_on, and_off}
 use Rattle.taskfile.specs.Run.{takes_list}
-use borrow.Author.Rules.{rules}
 use Rattle.taskfile.proofs.run.takes_list.Goals as goal
 
 pub returns-then-p-eq-SELECT : goal.returns-then-p-eq-SELECT
