@@ -1,8 +1,9 @@
-/* The proved target behind ATAPI registers, for C on x86-64: link crates/registers_c/out/libregisters_c.a (`rt lib` in crates/registers_c).
+/* The proved target behind ATAPI registers, for C on x86-64: link libregisters.a, which `./board` builds in
+ * crates/registers_c/out (`rt lib` in crates/registers_c makes it, as libregisters_c.a).
  *
  * A board holds one register record and one drive state. At each access of the host it calls vosklubec_interrupt; between accesses it
  * calls the tray's functions. Every function answers every argument, as its promise says; the promises are proved of the Rattle code,
- * crates/registers/src. Not proved are this file's layouts, the C compiler's work, and what C must keep to: a bool is 0 or 1; a
+ * crates/registers_c/src over crates/registers/src. Not proved are this file's layouts, the C compiler's work, and what C must keep to: a bool is 0 or 1; a
  * pointer is not NULL, also where its length is 0, and leads to as many bytes as its length says; the record, the table and the
  * memory do not overlap, and nothing else touches them during a call. */
 #ifndef VOSKLUBEC_H
@@ -85,12 +86,12 @@ enum {
 /* The response memory that every packet and every data read needs. */
 #define VOSKLUBEC_MEMORY 6538
 
-/* The record at the start: idle, reason 03h, byte count EB14h, all else 0. Promise: Rattle·taskfile.specs.TaskFile.started. */
+/* The record at the start: idle, reason 03h, byte count EB14h, all else 0. Promise: Rattle.taskfile.specs.TaskFile.started. */
 struct vosklubec_task_file vosklubec_started(void);
 
 /* An access of the host with a byte (0 where none is written), the drive state, the table of the disc in the drive and the response
- * memory. Promise: what is handed back, the record and the memory afterwards are those of stepOf and memoryOf
- * (Rattle·registers.specs.Registers): refused by 15 out of turn, by 3 at a data read with too short a memory, or by the target's number,
+ * memory. Promise: what is handed back, the record and the memory afterwards are those of step_of and memory_of
+ * (Rattle.registers.specs.Registers): refused by 15 out of turn, by 3 at a data read with too short a memory, or by the target's number,
  * which ends the transfer; only the access that completes a packet and its list changes the drive state and the memory, and a reset the
  * drive state. Hand the memory on as it was left until the transfer ends. */
 struct vosklubec_answer vosklubec_interrupt(struct vosklubec_task_file *file, uint8_t access, uint8_t value,
@@ -98,11 +99,11 @@ struct vosklubec_answer vosklubec_interrupt(struct vosklubec_task_file *file, ui
                                             uint8_t *memory, size_t memory_len);
 
 /* Power-on, never refused: by default a loaded drive then has both attentions pending; in the second form the power attention alone.
- * Promises: powerOn, powerOnWithoutChange (Rattle·drive.specs.State). */
+ * Promises: power_on, power_on_without_change (Rattle.drive.specs.State). */
 struct vosklubec_drive vosklubec_power_on(struct vosklubec_drive state);
 struct vosklubec_drive vosklubec_power_on_without_change(struct vosklubec_drive state);
 
-/* The button pressed, a disc laid, a disc lifted, a playing position moved on by k blocks. Promises: button, lay, lift, moveOn (the same
+/* The button pressed, a disc laid, a disc lifted, a playing position moved on by k blocks. Promises: button, lay, lift, move_on (the same
  * file); refused by 2, 5, 6, 7. Keep the state that comes back, also with a number. */
 struct vosklubec_moved vosklubec_button(struct vosklubec_drive state);
 struct vosklubec_moved vosklubec_lay(struct vosklubec_drive state);

@@ -1,4 +1,5 @@
 -- `taskfile::host::access_of` meets its contract: each number is the definition's, and the rest are none of them.
+use Rattle.std.proofs.Common.{ℕ, ◌≢◌, arith}
 use borrow.Author.Tests.{ne_eqb}
 use Rattle.ground.specs.Tests.{if◌then◌else◌}
 use Rattle.taskfile.specs.Host.{access_of}
@@ -39,5 +40,5 @@ returns-in-9 c = rw c.in-9.is
 pub returns-in_default : goal.returns-in_default
 unfolding access_of if◌then◌else◌
 returns-in_default c =
-    let r = c.in_default.in_default-own.rest in
-    rw (ne_eqb _ _ r.1, ne_eqb _ _ r.0.1, ne_eqb _ _ r.0.0.1, ne_eqb _ _ r.0.0.0.1, ne_eqb _ _ r.0.0.0.0.1, ne_eqb _ _ r.0.0.0.0.0.1, ne_eqb _ _ r.0.0.0.0.0.0.1, ne_eqb _ _ r.0.0.0.0.0.0.0.1)
+    let d = λ (k : ℕ) (h : c.args.n ≢ k). ne_eqb c.args.n k h in
+    rw (d 0 (omega arith), d 1 (omega arith), d 4 (omega arith), d 5 (omega arith), d 6 (omega arith), d 7 (omega arith), d 8 (omega arith), d 9 (omega arith))
