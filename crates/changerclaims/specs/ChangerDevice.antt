@@ -25,12 +25,12 @@ use Rattle.changer.specs.Status.{status_length, mechanism_status}
 use Rattle.changer.specs.Changer.{power_on, power_on_without_change, emptied, moves_on}
 use Rattle.changer.specs.ChangerPacket.{mechanism_of, is_load_unload, is_status, is_own, own, steps, refusal_of, state_of, answer as reply_to}
 use Rattle.claims.specs.Telling.{Attention, power, change, pending, is_good, answer_of, tells_to}
-use Rattle.claims.specs.UnitLaws.{Kind, asks, frees, orders, is_asking, is_done, next_of, loading_of, Honest, comes_to, comes_well, Turn, only, only_none, or-none, meets-turn, meets-says, orders-blocks, any-pending}
-use Rattle.claims.specs.PacketLaws.{Does, failing, keeping, closing-it, opening-it, clearing, is_traying, perform_does, Seen, asking, freeing, ordering, seen, kind_of, kind, steps_blind, packet_request, packet_orders}
+use Rattle.claims.proofs.UnitLaws.{Kind, asks, frees, orders, is_asking, is_done, next_of, loading_of, Honest, comes_to, comes_well, Turn, only, only_none, or-none, meets-turn, meets-says, orders-blocks, any-pending}
+use Rattle.claims.proofs.PacketLaws.{Does, failing, keeping, closing-it, opening-it, clearing, is_traying, perform_does, Seen, asking, freeing, ordering, seen, kind_of, kind, steps_blind, packet_request, packet_orders}
 use Rattle.claims.specs.Call.{Form, by_default, without_change, is_request_sense, is_needing}
 use Rattle.claims.specs.Stands.{or_cases}
-use Rattle.claims.specs.DriveDevice.{move_on-turn}
-use Rattle.claims.specs.RefusalLaws.{refused_untold}
+use Rattle.claims.proofs.DriveDevice.{move_on-turn}
+use Rattle.claims.proofs.RefusalLaws.{refused_untold}
 use Rattle.claims.specs.Device.{Device, Told, told, cause-lives}
 use Rattle.changerclaims.specs.ChangerKind.{carried_result, carried_kind, kind_on, rule_of, reply-kind, drive_tray, drive-moves}
 use Rattle.changerclaims.specs.ChangerKeptLaws.{returned_empty}

@@ -18,8 +18,8 @@ use Rattle.target.specs.Perform.{perform}
 use Rattle.target.specs.Packet as drive
 use Rattle.disc.specs.Part.{rule_with}
 use Rattle.claims.specs.Telling.{any_pending}
-use Rattle.claims.specs.UnitLaws.{Kind, asks, frees, orders, reply, meets, next_of, comes_to, meets-keeps}
-use Rattle.claims.specs.PacketLaws.{Seen, asking, freeing, ordering, seen, kind_of, kind, Does, failing, keeping, closing-it, opening-it, clearing, is_traying, perform_does}
+use Rattle.claims.proofs.UnitLaws.{Kind, asks, frees, orders, reply, meets, next_of, comes_to, meets-keeps}
+use Rattle.claims.proofs.PacketLaws.{Seen, asking, freeing, ordering, seen, kind_of, kind, Does, failing, keeping, closing-it, opening-it, clearing, is_traying, perform_does}
 use Rattle.changer.specs.declared.Slot.{Slot}
 use Rattle.changer.specs.declared.Changer.{Changer}
 use Rattle.changer.specs.Slot.{slot, empty_slot, slot_at, put_back, take_out}

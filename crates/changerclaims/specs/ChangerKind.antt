@@ -14,8 +14,8 @@ use Rattle.command.specs.Command.{code_of, decode, lo_ej}
 use Rattle.command.specs.Class.{class_of}
 use Rattle.command.specs.ClassLaws.{decode_is}
 use Rattle.target.specs.PacketLaws.{steps_of}
-use Rattle.claims.specs.UnitLaws.{Kind, asks, frees, orders, reply, meets, meets_by}
-use Rattle.claims.specs.PacketLaws.{kind, steps_of-kind, is_traying}
+use Rattle.claims.proofs.UnitLaws.{Kind, asks, frees, orders, reply, meets, meets_by}
+use Rattle.claims.proofs.PacketLaws.{kind, steps_of-kind, is_traying}
 use Rattle.changer.specs.declared.Slot.{Slot}
 use Rattle.changer.specs.declared.Changer.{Changer}
 use Rattle.changer.specs.Mechanism.{Mechanism}

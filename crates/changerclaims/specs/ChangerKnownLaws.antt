@@ -9,10 +9,10 @@ use Rattle.drive.specs.State as drive
 use Rattle.drive.specs.State.{is_known_state, move_on}
 use Rattle.drive.specs.StateLaws.{KnownDeck, is_known_state_sense, is_known_state_deck, known-is_known_state}
 use Rattle.command.specs.Command.{code_of, decode}
-use Rattle.claims.specs.PacketLaws.{seen}
-use Rattle.claims.specs.WholeLaws.{second_holds}
+use Rattle.claims.proofs.PacketLaws.{seen}
+use Rattle.claims.proofs.WholeLaws.{second_holds}
 use Rattle.claims.specs.Call.{moving_on, by_default, without_change}
-use Rattle.claims.specs.KnownLaws.{meets-known, held, closing-known, opening-known, kind-known, fit-last, power_state, call_state}
+use Rattle.claims.proofs.KnownLaws.{meets-known, held, closing-known, opening-known, kind-known, fit-last, power_state, call_state}
 use Rattle.changer.specs.declared.Slot.{Slot}
 use Rattle.changer.specs.declared.Changer.{Changer}
 use Rattle.changer.specs.Slot.{empty_slot, slot_at}

@@ -18,7 +18,7 @@ use Rattle.deck.specs.Deck.{loaded, opened}
 use Rattle.gate.specs.declared.fault.Fault.TheVariants.{BadField, RemovalPrevented}
 use Rattle.gate.specs.Unit.{pending_of}
 use Rattle.gate.specs.Gate.{Result, fails, goes, Reply, gate, settle}
-use Rattle.claims.specs.UnitLaws.{Kind, asks, frees, orders, meets}
+use Rattle.claims.proofs.UnitLaws.{Kind, asks, frees, orders, meets}
 use Rattle.changer.specs.declared.Slot.{Slot}
 use Rattle.changer.specs.declared.Changer.{Changer}
 use Rattle.changer.specs.Slot.{slot, empty_slot, slot_at, put_back}

@@ -16,8 +16,8 @@ use Rattle.table.specs.Layout.{bound}
 use Rattle.disc.specs.Rules.{fault, is_fit}
 use Rattle.disc.specs.Part.{rule_with}
 use Rattle.gate.specs.Gate.{Reply}
-use Rattle.claims.specs.UnitLaws.{Kind, meets}
-use Rattle.claims.specs.RefusalLaws.{Numbered, meets-numbered, Beside, rule_with-beside, TestedAlone, move-tested}
+use Rattle.claims.proofs.UnitLaws.{Kind, meets}
+use Rattle.claims.proofs.RefusalLaws.{Numbered, meets-numbered, Beside, rule_with-beside, TestedAlone, move-tested}
 use Rattle.changer.specs.declared.Slot.{Slot}
 use Rattle.changer.specs.declared.Changer.{Changer}
 use Rattle.changer.specs.declared.Outcome.{Outcome}

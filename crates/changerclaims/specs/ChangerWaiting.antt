@@ -8,7 +8,7 @@ use Rattle.claims.specs.History.{Standing}
 use Rattle.claims.specs.Call.{Form}
 use Rattle.claims.specs.MediaEvent.{Media, pressed, number_of}
 use Rattle.claims.specs.Stands.{stands}
-use Rattle.claims.specs.WaitingLaws.{no-event}
+use Rattle.claims.proofs.WaitingLaws.{no-event}
 use Rattle.changerclaims.specs.ChangerCall.{Call, powering, answer, next, history, final, is_power_on, happens, replaces}
 use Rattle.changerclaims.specs.ChangerWaitingLaws.{is_waiting, event_turns, event-most}
 

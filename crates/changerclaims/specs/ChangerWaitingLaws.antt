@@ -20,11 +20,11 @@ use Rattle.changer.specs.Mechanism.{Mechanism, returned}
 use Rattle.changer.specs.Changer.{power_on, power_on_without_change, emptied, moves_on}
 use Rattle.changer.specs.ChangerPacket.{mechanism_of, is_load_unload, is_own, own, carried, refusal_of}
 use Rattle.claims.specs.Telling.{answer_of, is_good}
-use Rattle.claims.specs.UnitLaws.{Kind, orders, meets, is_done, next_of, comes_to, meets-says, meets-keeps}
-use Rattle.claims.specs.PacketLaws.{Does, failing, keeping, closing-it, opening-it, clearing, is_traying, perform_does, Seen, asking, freeing, ordering, seen, kind_of, kind, closed_still}
+use Rattle.claims.proofs.UnitLaws.{Kind, orders, meets, is_done, next_of, comes_to, meets-says, meets-keeps}
+use Rattle.claims.proofs.PacketLaws.{Does, failing, keeping, closing-it, opening-it, clearing, is_traying, perform_does, Seen, asking, freeing, ordering, seen, kind_of, kind, closed_still}
 use Rattle.claims.specs.Call.{Form, by_default, without_change, closed}
 use Rattle.claims.specs.MediaEvent.{Media, pressed, loaded, opened, number_of, opens_on, is_poll}
-use Rattle.claims.specs.WaitingLaws.{Noted, by-press, by-load, by-open, by_answer, by-none, opens_still, kind_noted, move_on-leaves, test_of, noted_turns}
+use Rattle.claims.proofs.WaitingLaws.{Noted, by-press, by-load, by-open, by_answer, by-none, opens_still, kind_noted, move_on-leaves, test_of, noted_turns}
 use Rattle.changerclaims.specs.ChangerCall.{Call, powering, moving_on, packet, next, event, final, is_powering, is_power_on, taking, is_loading, is_returning, happens, clears, replaces}
 use Rattle.changerclaims.specs.ChangerKind.{carried_kind, carried-reply, kind_on, rule_of, reply-kind, drive_tray, drive-moves}
 use Rattle.changerclaims.specs.ChangerDevice.{Acts, failed, took, gave, stood, own_acts, and_none, own_other}

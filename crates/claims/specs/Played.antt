@@ -84,7 +84,3 @@ play_marks =
     -- SEEK 0: position and end stay
     ∷ mark (packet (0x2B ∷ 0x00 ∷ 0x00 ∷ 0x00 ∷ 0x00 ∷ 0x00 ∷ 0x00 ∷ 0x00 ∷ 0x00 ∷ 0x00 ∷ 0x00 ∷ 0x00 ∷ [])) (gives []) (plays 0x15 200 250)
     ∷ []
-
-pub played : all_stepped loaded_e play_marks ≡ true
-unfolding all_stepped plays same_play after comes same_outcome same_bytes ◌and◌ ◌or◌ if◌then◌else◌ every is_msf to_msf sense_at same_sense among is_known is_status is_play among_bytes is_setting is_known_state moved_on move_on attend is_track is_extra start_of names simple free plain head_a0 head_a1 headed addressed row_test one size listed numbered is_session starts before follows in_place in_order rule1 rule2 each_row rises out_before begins_after rising rule7 first_broken late_rules row_rules fault is_fit next_out out_at covers wanted next_found found track_of is_mode in_mode all_in pending_of gate decode shown_address answering over in_range ranged started is_over pause_resume seek sub_bad index_of relative shown_relative sub_bytes reported perform refusal_of answer
-played = refl

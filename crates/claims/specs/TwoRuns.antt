@@ -8,7 +8,6 @@ use Rattle.claims.specs.Runs.{Pairwise, pairwise_map, runs_long}
 use Rattle.claims.specs.Carried.{Board, runs-carried}
 use Rattle.claims.specs.Call.{Call, Happening, answer, next, event, history, final, is_attending, is_cause, Alike, same, tables, Sharing, itself, fitting, lend, left, history_on, final_on}
 use Rattle.claims.specs.Device.{runs}
-use Rattle.claims.specs.DriveDevice.{drive, cause_attends, lend_alike, left_alike}
 
 -- after calls in common and c, the calls cs and ds: the events at place i have the same answer, with the memory that it leaves, and the same
 -- state after it (K2: "demand 3's state includes the record"), where each answer after c and before that place leaves an attention pending
@@ -24,41 +23,3 @@ AgreeCarried handed common c cs ds =
     (i : ℕ) (e f : Event Call (Board Drive) Answer) → At (history_on handed (common ++ c ∷ cs)) i e → At (history_on handed (common ++ c ∷ ds)) i f
     → ((j : ℕ) (g : Event Call (Board Drive) Answer) → length common < j → j < i → At (history_on handed (common ++ c ∷ cs)) j g → is_attending g.new.state ≡ true)
     → (e.answer ≡ f.answer) × (e.new ≡ f.new)
-
--- ---- up to that answer the runs agree even where the parameter lists differ: of any two lists, with one table or two fit ones
-
-pub two_runs_lists : (handed : Drive) (common : List Call) (c : Call) → is_cause (event c (final handed common)) ≡ true
-    → {cs ds : List Call} → Pairwise Alike cs ds → AgreeUpTo handed common c cs ds
-two_runs_lists handed common c h p i e f = runs drive handed common c (cause_attends c (final handed common) h) p i
-
-pub two_runs_lists-carried : (handed : Board Drive) (common : List Call) (c : Call)
-    → is_cause (event (lend (final_on handed common).memory c) (final_on handed common).state) ≡ true
-    → {cs ds : List Call} → Pairwise Alike cs ds → AgreeCarried handed common c cs ds
-two_runs_lists-carried handed common c h p i e f =
-    runs-carried drive lend left lend_alike left_alike handed common c
-    (cause_attends (lend (final_on handed common).memory c) (final_on handed common).state h) p i
-
--- and the second run has an event at each place where the first has one
-pub two_runs_long : (handed : Drive) (common : List Call) (c : Call) {cs ds : List Call} → Pairwise Alike cs ds
-    → length (history handed (common ++ c ∷ cs)) ≡ length (history handed (common ++ c ∷ ds))
-two_runs_long handed common c p = runs_long answer next handed common c p
-
--- ---- K4: "Demand 3's two runs share the lent parameter list"
-
-sharing_alike : (c e : Call) → Sharing c e → Alike c e
-sharing_alike c e (itself b) = same b
-sharing_alike c e (fitting p l m f g) = tables p m f g
-
--- calls that share their lists are alike, one by one
-shared : {cs ds : List Call} → Pairwise Sharing cs ds → Pairwise Alike cs ds
-shared = pairwise_map sharing_alike
-
--- calls in common, then c, a power-on in either form or a loading, then calls that are alike, one by one, but for the fit tables lent
-pub two_runs : (handed : Drive) (common : List Call) (c : Call) → is_cause (event c (final handed common)) ≡ true
-    → {cs ds : List Call} → Pairwise Sharing cs ds → AgreeUpTo handed common c cs ds
-two_runs handed common c h p = two_runs_lists handed common c h (shared p)
-
-pub two-runs-carried : (handed : Board Drive) (common : List Call) (c : Call)
-    → is_cause (event (lend (final_on handed common).memory c) (final_on handed common).state) ≡ true
-    → {cs ds : List Call} → Pairwise Sharing cs ds → AgreeCarried handed common c cs ds
-two-runs-carried handed common c h p = two_runs_lists-carried handed common c h (shared p)

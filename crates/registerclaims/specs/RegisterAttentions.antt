@@ -16,9 +16,10 @@ use Rattle.registers.specs.Registers.{step_by, step_of}
 use Rattle.claims.specs.Telling.{Attention}
 use Rattle.claims.specs.Call as drives
 use Rattle.claims.specs.Call.{Form, powering, pressing, laying, lifting, moving_on, packet, is_pending, is_packet, is_needing, causes, tells}
-use Rattle.claims.specs.UnitLaws.{or-none}
-use Rattle.claims.specs.Attentions.{Stands, attentions, attentions_once, attentions-told, attentions-refused, attentions_greeted}
-use Rattle.claims.specs.DriveDevice.{drive-blocks}
+use Rattle.claims.proofs.UnitLaws.{or-none}
+use Rattle.claims.specs.Attentions.{Stands}
+use Rattle.claims.proofs.Attentions.{attentions, attentions_once, attentions-told, attentions-refused, attentions_greeted}
+use Rattle.claims.proofs.DriveDevice.{drive-blocks}
 use Rattle.registerclaims.specs.RegisterCall.{Console, is_outside, Call, accessing, outside, answer, next, event, final, turn, due_call, target_call, target_calls, PowerOn, switching, resetting, have_packet, is_success}
 use Rattle.registerclaims.specs.RegisterHistory.{target_state, target-history, target-append, target_number, target-reset, answered_status}
 

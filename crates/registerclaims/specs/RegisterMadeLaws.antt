@@ -11,7 +11,7 @@ use Rattle.drive.specs.declared.state.Drive as drive
 use Rattle.table.specs.Layout.{bound}
 use Rattle.outcome.specs.Outcome.{outcome_of}
 use Rattle.claims.specs.Call.{packet}
-use Rattle.claims.specs.Whole.{answers-bounded}
+use Rattle.claims.proofs.Whole.{answers-bounded}
 use Rattle.taskfile.specs.declared.TaskFile.{TaskFile}
 use Rattle.taskfile.specs.declared.Phase.TheVariants.{PacketRun, ListRun, AnswerRun}
 use Rattle.taskfile.specs.declared.Access.{Access}

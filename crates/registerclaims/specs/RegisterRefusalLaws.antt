@@ -19,7 +19,7 @@ use Rattle.outcome.specs.Outcome.{state_of, bytes_of}
 use Rattle.target.specs.Packet.{answer}
 use Rattle.claims.specs.Telling.{Answer as TargetAnswer, answer_of}
 use Rattle.claims.specs.Call.{packet}
-use Rattle.claims.specs.RefusalLaws.{Ordered, Beside, refusing, call_unchanged, reply-ordered, reply-beside}
+use Rattle.claims.proofs.RefusalLaws.{Ordered, Beside, refusing, call_unchanged, reply-ordered, reply-beside}
 use Rattle.taskfile.specs.declared.TaskFile.{TaskFile}
 use Rattle.taskfile.specs.declared.Phase.{Phase}
 use Rattle.taskfile.specs.declared.Phase.TheVariants.{Idle, PacketRun, ListRun, AnswerRun}

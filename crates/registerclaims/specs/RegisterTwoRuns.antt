@@ -25,8 +25,8 @@ use Rattle.claims.specs.Call.{is_attending, is_cause, is_packet}
 use Rattle.claims.specs.Runs.{Pairwise, runs_long, agree_after}
 use Rattle.claims.specs.Carried.{Board}
 use Rattle.claims.specs.Stands.{or_cases}
-use Rattle.claims.specs.PacketLaws.{packet_blind}
-use Rattle.claims.specs.DriveDevice.{cause_attends}
+use Rattle.claims.proofs.PacketLaws.{packet_blind}
+use Rattle.claims.proofs.DriveDevice.{cause_attends}
 use Rattle.registerclaims.specs.RegisterCall.{Console, Call, accessing, outside, Answer, answer, next, history, final, turn, due_call, target_call, have_packet, completes, Alike, same, fitting, gives_answer, is_live, is_free, is_free_on, lend, left, answers, follows, final_on}
 use Rattle.registerclaims.specs.Agreeing.{AgreeWhile, AgreeUntil, agree-until}
 use Rattle.registerclaims.specs.RegisterHistory.{target_state, target_exactly, data_call, access_call}

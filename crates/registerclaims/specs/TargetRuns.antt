@@ -22,8 +22,8 @@ use Rattle.taskfile.specs.TaskFile.{count_of}
 use Rattle.taskfile.specs.Run.{limit_of}
 use Rattle.taskfile.specs.Host.{answered, turn_of}
 use Rattle.registers.specs.Registers.{asks, performed, step_by, memory_by, step_of, memory_of}
-use Rattle.claims.specs.WholeLaws.{reply-held}
-use Rattle.claims.specs.RefusalLaws.{refusal-ordered}
+use Rattle.claims.proofs.WholeLaws.{reply-held}
+use Rattle.claims.proofs.RefusalLaws.{refusal-ordered}
 use Rattle.registerclaims.specs.RegisterLimit.{Limit, limit_limit}
 use Rattle.registerclaims.specs.Transfer.{transfer_of, left, next}
 use Rattle.registerclaims.specs.RegisterRuns.{Leaves, Joined, leaves-whole, showing, ended-leaves, answer-runs, answer-none}

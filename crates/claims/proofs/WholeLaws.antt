@@ -36,9 +36,9 @@ use Rattle.target.specs.Perform.{L, work, perform}
 use Rattle.target.specs.PerformLaws.{full_of, start_stop_quiet, seek_quiet, ranged_quiet, pause_resume_quiet, mode_select_quiet}
 use Rattle.target.specs.Packet.{steps_by, refusal_of, answer as reply_to}
 use Rattle.target.specs.PacketLaws.{steps_of}
-use Rattle.claims.specs.UnitLaws.{meets}
-use Rattle.claims.specs.PacketLaws.{kind, rule_of, steps_of-kind, reply-kind}
-use Rattle.claims.specs.RefusalLaws.{refusal-ordered}
+use Rattle.claims.proofs.UnitLaws.{meets}
+use Rattle.claims.proofs.PacketLaws.{kind, rule_of, steps_of-kind, reply-kind}
+use Rattle.claims.proofs.RefusalLaws.{refusal-ordered}
 
 -- ---- tests
 

@@ -20,7 +20,7 @@ use Rattle.disc.specs.RulesLaws.{fault-first}
 use Rattle.disc.specs.Part.{part_refused}
 use Rattle.claims.specs.MediaEvent.{is_pressed}
 use Rattle.claims.specs.Call.{event, by_default, without_change, Call, powering, pressing, laying, lifting, moving_on, packet, memory_of, answer, next}
-use Rattle.claims.specs.RefusalLaws.{call_unchanged, call_beside, reply-ordered, reply-broken, press-tested, press-locked, lay-tested, lift-tested, move-tested, part_parted, part_beside, part_broken, to_msf_number, to_block_number}
+use Rattle.claims.proofs.RefusalLaws.{call_unchanged, call_beside, reply-ordered, reply-broken, press-tested, press-locked, lay-tested, lift-tested, move-tested, part_parted, part_beside, part_broken, to_msf_number, to_block_number}
 
 -- K7: "A press under refusal 5 now changes that event only", to 1, "button pressed on a locked closed tray"
 abbrev pressed_on : Drive → Drive

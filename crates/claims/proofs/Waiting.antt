@@ -6,8 +6,8 @@ use Rattle.claims.specs.History.{Standing}
 use Rattle.claims.specs.Call.{Form, Call, powering, answer, next, history, final, is_power_on}
 use Rattle.claims.specs.MediaEvent.{Media, number_of, happens, replaces}
 use Rattle.claims.specs.Stands.{stands}
-use Rattle.claims.specs.Known.{known-event}
-use Rattle.claims.specs.WaitingLaws.{no-event, is_waiting, event_turns}
+use Rattle.claims.proofs.Known.{known-event}
+use Rattle.claims.proofs.WaitingLaws.{no-event, is_waiting, event_turns}
 
 -- it happened, and later there was no power-on, none of the three, and no answer that clears
 abbrev pub Latest : Media → Drive → List Call → Type 0

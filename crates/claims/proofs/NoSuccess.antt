@@ -7,9 +7,9 @@ use Rattle.claims.specs.Telling.{Attention, is_good}
 use Rattle.claims.specs.History.{None, standing_here}
 use Rattle.claims.specs.Call.{Form, by_default, Call, powering, packet, answer, next, event, history, final, is_pending, is_power_on, causes, tells, is_needing, is_success}
 use Rattle.claims.specs.Attentions.{Stands}
-use Rattle.claims.specs.PacketLaws.{packet-needs}
+use Rattle.claims.proofs.PacketLaws.{packet-needs}
 use Rattle.claims.specs.Device.{blocked}
-use Rattle.claims.specs.DriveDevice.{drive, packet_blocked, greeting-causes}
+use Rattle.claims.proofs.DriveDevice.{drive, packet_blocked, greeting-causes}
 
 -- in any state, with any table, list and memory: a packet that needs a disc is not answered GOOD while an attention is pending
 pub no_success : (k : Attention) (d : Drive) (p t l m : List ℕ) → is_pending k d ≡ true → is_needing p ≡ true → is_good (answer (packet p t l m) d) ≡ false

@@ -26,9 +26,9 @@ use Rattle.event.specs.EventAnswer.{is_clearing}
 use Rattle.target.specs.Perform.{perform}
 use Rattle.target.specs.Packet.{refusal_of, answer as reply_to}
 use Rattle.claims.specs.Telling.{answer_of, is_good}
-use Rattle.claims.specs.UnitLaws.{Kind, asks, frees, orders, meets}
+use Rattle.claims.proofs.UnitLaws.{Kind, asks, frees, orders, meets}
 use Rattle.claims.specs.Call.{Form, by_default, without_change, Call, powering, pressing, laying, lifting, moving_on, packet, next, event, is_powering, is_power_on, closed, is_loading}
-use Rattle.claims.specs.PacketLaws.{Does, keeping, closing-it, opening-it, clearing, is_traying, is_polling, perform_does, Seen, asking, freeing, ordering, seen, kind_of, kind, rule_of, reply-kind, closed_still}
+use Rattle.claims.proofs.PacketLaws.{Does, keeping, closing-it, opening-it, clearing, is_traying, is_polling, perform_does, Seen, asking, freeing, ordering, seen, kind_of, kind, rule_of, reply-kind, closed_still}
 use Rattle.claims.specs.MediaEvent.{Media, pressed, loaded, opened, number_of, is_pressed, opens_on, is_opening, is_poll, happens, clears, replaces}
 
 -- what a call did to the event, where it was a press under refusal 5, a loading, an opening with a disc, or an answer that clears

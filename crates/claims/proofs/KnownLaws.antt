@@ -49,11 +49,11 @@ use Rattle.event.specs.EventAnswer.{is_clearing}
 use Rattle.event.specs.EventAnswerLaws.{get_event-ways}
 use Rattle.target.specs.Perform.{L, work, perform}
 use Rattle.target.specs.Packet.{refusal_of, answer as reply_to}
-use Rattle.claims.specs.UnitLaws.{Kind, asks, frees, orders, reply, meets, next_of, comes_to, meets-keeps}
+use Rattle.claims.proofs.UnitLaws.{Kind, asks, frees, orders, reply, meets, next_of, comes_to, meets-keeps}
 use Rattle.claims.specs.Call.{Form, by_default, without_change, Call, powering, pressing, laying, lifting, moving_on, packet, answer, next, final}
-use Rattle.claims.specs.PacketLaws.{Seen, asking, freeing, ordering, seen, kind_of, kind, reply-kind}
-use Rattle.claims.specs.RefusalLaws.{refusal-ordered, reply-ordered, press-tested, lay-tested, lift-tested, move-tested}
-use Rattle.claims.specs.WholeLaws.{second_holds}
+use Rattle.claims.proofs.PacketLaws.{Seen, asking, freeing, ordering, seen, kind_of, kind, reply-kind}
+use Rattle.claims.proofs.RefusalLaws.{refusal-ordered, reply-ordered, press-tested, lay-tested, lift-tested, move-tested}
+use Rattle.claims.proofs.WholeLaws.{second_holds}
 
 -- ---- the held sense, over any deck
 

@@ -13,9 +13,9 @@ use Rattle.deck.specs.declared.Deck.{Deck}
 use Rattle.outcome.specs.Outcome.{state_of}
 use Rattle.target.specs.Packet.{refusal_of}
 use Rattle.claims.specs.Telling.{Attention, power, change, Answer, answer_of, is_good, tells_to}
-use Rattle.claims.specs.UnitLaws.{Turn, only, or-none, only_none, unmoved, attended, meets-turn, orders-blocks, any-pending}
+use Rattle.claims.proofs.UnitLaws.{Turn, only, or-none, only_none, unmoved, attended, meets-turn, orders-blocks, any-pending}
 use Rattle.claims.specs.Call.{Form, by_default, without_change, Call, powering, pressing, laying, lifting, moving_on, packet, answer, next, event, is_pending, is_attending, is_powering, is_power_on, closed, is_loading, is_cause, causes, tells, is_needing, is_success, Alike, same, lists, tables, lend, left}
-use Rattle.claims.specs.PacketLaws.{kind, rule_of, reply-kind, closed_still, packet_fair, packet_request, packet_orders, packet_blind, packet_unlisted}
+use Rattle.claims.proofs.PacketLaws.{kind, rule_of, reply-kind, closed_still, packet_fair, packet_request, packet_orders, packet_blind, packet_unlisted}
 use Rattle.claims.specs.Stands.{or_cases}
 use Rattle.claims.specs.Device.{Device, Told, told, cause-lives}
 

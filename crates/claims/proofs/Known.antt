@@ -8,7 +8,7 @@ use Rattle.page.specs.Page.{settings, among, is_setting}
 use Rattle.drive.specs.State.{is_known_state}
 use Rattle.drive.specs.StateLaws.{is_known_state_deck}
 use Rattle.claims.specs.Call.{Form, Call, powering, answer, next, final}
-use Rattle.claims.specs.KnownLaws.{power_state, call_state, known-final, known_never_2}
+use Rattle.claims.proofs.KnownLaws.{power_state, call_state, known-final, known_never_2}
 
 -- power-on, in either form, hands back such a state, whatever it was handed
 pub known_power : (f : Form) (d : Drive) → is_known_state (next (powering f) d) ≡ true

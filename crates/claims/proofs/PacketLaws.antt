@@ -38,7 +38,7 @@ use Rattle.target.specs.Perform.{work, perform}
 use Rattle.target.specs.Packet.{steps, refusal_of, answer as reply_to}
 use Rattle.target.specs.PacketLaws.{steps_of, answer-1, answer-2, answer-3, answer-steps}
 use Rattle.claims.specs.Telling.{any_pending}
-use Rattle.claims.specs.UnitLaws.{Kind, asks, frees, orders, is_asking, reply, meets, meets_by, next_of, loading_of, Honest, gate-blind}
+use Rattle.claims.proofs.UnitLaws.{Kind, asks, frees, orders, is_asking, reply, meets, meets_by, next_of, loading_of, Honest, gate-blind}
 use Rattle.claims.specs.Call.{closed, is_request_sense, is_needing}
 
 -- the command c is k

@@ -36,12 +36,12 @@ use Rattle.target.specs.Perform.{L, work, perform}
 use Rattle.target.specs.Packet.{answer as reply_to}
 use Rattle.target.specs.PacketLaws.{steps_of}
 use Rattle.claims.specs.Telling.{power, change, any_pending}
-use Rattle.claims.specs.UnitLaws.{none-pending}
-use Rattle.claims.specs.WholeLaws.{second_holds}
-use Rattle.claims.specs.PacketLaws.{is_the, steps-performed, packet-steps}
+use Rattle.claims.proofs.UnitLaws.{none-pending}
+use Rattle.claims.proofs.WholeLaws.{second_holds}
+use Rattle.claims.proofs.PacketLaws.{is_the, steps-performed, packet-steps}
 use Rattle.claims.specs.Contents.{list_with, track_list, list_packet, Contents, contents_of, list_of, Single, is_format2}
-use Rattle.claims.specs.ContentsLaws.{list-made}
-use Rattle.claims.specs.SingleLaws.{found_among, single-track, disc_in, single-disc}
+use Rattle.claims.proofs.ContentsLaws.{list-made}
+use Rattle.claims.proofs.SingleLaws.{found_among, single-track, disc_in, single-disc}
 
 -- ---- what the commands ask of a table
 

@@ -18,10 +18,10 @@ use Rattle.command.specs.ClassLaws.{decode_is}
 use Rattle.target.specs.Perform.{perform}
 use Rattle.target.specs.Packet.{refusal_of}
 use Rattle.claims.specs.Call.{Form, by_default, without_change, powering, pressing, packet, next, is_eject_or_load}
-use Rattle.claims.specs.UnitLaws.{next_of, comes_to, meets-keeps}
-use Rattle.claims.specs.PacketLaws.{Does, failing, keeping, closing-it, opening-it, clearing, is_traying, is_polling, perform_does, Seen, asking, freeing, ordering, seen, kind_of, kind, rule_of, reply-kind}
-use Rattle.claims.specs.RefusalLaws.{lay-tested, lift-tested}
-use Rattle.claims.specs.KnownLaws.{call_state}
+use Rattle.claims.proofs.UnitLaws.{next_of, comes_to, meets-keeps}
+use Rattle.claims.proofs.PacketLaws.{Does, failing, keeping, closing-it, opening-it, clearing, is_traying, is_polling, perform_does, Seen, asking, freeing, ordering, seen, kind_of, kind, rule_of, reply-kind}
+use Rattle.claims.proofs.RefusalLaws.{lay-tested, lift-tested}
+use Rattle.claims.proofs.KnownLaws.{call_state}
 
 -- the deck n has the tray and the disc of m
 abbrev Same : Deck → Deck → Type 0

@@ -18,7 +18,7 @@ use Rattle.tracks.specs.Track.{out_at, no_track, track_at, next_found, found}
 use Rattle.tracks.specs.TrackLaws.{wanted_not, next_found_on}
 use Rattle.tracks.specs.SpreadLaws.{fit-track-row}
 use Rattle.claims.specs.Contents.{Entry, Contents, entry_at, entries, contents_of, Single}
-use Rattle.claims.specs.ContentsLaws.{Placed, Each, nil, cons, each_append, Ranged}
+use Rattle.claims.proofs.ContentsLaws.{Placed, Each, nil, cons, each_append, Ranged}
 
 -- ---- the tracks of a table
 

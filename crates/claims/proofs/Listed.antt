@@ -6,7 +6,7 @@ use Rattle.command.specs.Command.{code_of}
 use Rattle.outcome.specs.Outcome.{state_of}
 use Rattle.claims.specs.Telling.{answer_of}
 use Rattle.claims.specs.Call.{packet, answer, next}
-use Rattle.claims.specs.ListedLaws.{reply_unlisted}
+use Rattle.claims.proofs.ListedLaws.{reply_unlisted}
 
 -- in any state, with any table and memory, pending or not, refused or not: the same answer, response bytes and next state with any two lists
 pub listed_by_select : (d : Drive) (p t k l m : List ℕ) → eqb (code_of p) 0x55 ≡ false

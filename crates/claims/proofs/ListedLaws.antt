@@ -11,7 +11,7 @@ use Rattle.command.specs.Class.{class_of}
 use Rattle.command.specs.ClassLaws.{decode_is}
 use Rattle.target.specs.Perform.{work, perform}
 use Rattle.target.specs.Packet.{answer as reply_to}
-use Rattle.claims.specs.PacketLaws.{is_the, steps-performed}
+use Rattle.claims.proofs.PacketLaws.{is_the, steps-performed}
 
 abbrev is_select : Command → Bool
 is_select c = is_the ModeSelect c

@@ -30,11 +30,11 @@ use Rattle.gate.specs.Gate.{Result, fails, goes, Reply, gate}
 use Rattle.outcome.specs.Outcome.{state_of}
 use Rattle.target.specs.Packet.{refusal_of, answer as reply_to}
 use Rattle.claims.specs.Telling.{Attention, Answer, answer_of, tells_to}
-use Rattle.claims.specs.UnitLaws.{Kind, asks, frees, orders, reply, meets, only_none}
+use Rattle.claims.proofs.UnitLaws.{Kind, asks, frees, orders, reply, meets, only_none}
 use Rattle.claims.specs.Call.{Call, powering, pressing, laying, lifting, moving_on, packet, memory_of, answer, next, event, is_powering, closed, is_loading, causes, is_request_sense, tells}
 use Rattle.claims.specs.MediaEvent.{is_pressed}
-use Rattle.claims.specs.PacketLaws.{closed_still, kind, rule_of, reply-kind}
-use Rattle.claims.specs.DriveDevice.{causes-only}
+use Rattle.claims.proofs.PacketLaws.{closed_still, kind, rule_of, reply-kind}
+use Rattle.claims.proofs.DriveDevice.{causes-only}
 
 -- ---- what is not refused has the number 0, and no rule beside it
 
