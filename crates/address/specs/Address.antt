@@ -1,6 +1,6 @@
 -- Block addresses and M:S:F, as 01 fixes them under "The lent disc table" and refusal 8.
 use Rattle.std.specs.Prelude.{ℕ, ◌+◌, ◌-◌, ◌*◌, ◌/◌, ◌%◌, Bool, List, [], ◌∷◌, leb}
-use Rattle.ground.specs.Tests.{◌and◌, if◌then◌else◌}
+use Rattle.ground.specs.Tests.{◌and◌, choose◌then◌else◌}
 use Rattle.ground.specs.Number.{bytes32}
 use Rattle.address.specs.declared.Msf.{Msf}
 use Rattle.address.specs.declared.Msf.TheVariants as msf
@@ -63,15 +63,15 @@ block_refused = record { number = refused; address = 0 }
 
 -- the M:S:F of a block address: refused over 449,849
 unfoldable pub to_msf : ℕ → MsfAnswer
-to_msf a = if leb a last then msf_at (minute_of a) (second_of a) (frame_of a) else msf_refused
+to_msf a = choose leb a last then msf_at (minute_of a) (second_of a) (frame_of a) else msf_refused
 
 -- the block address of an M:S:F: refused outside rule 6
 unfoldable pub to_block : ℕ → ℕ → ℕ → BlockAnswer
-to_block m s f = if is_msf m s f then block_at (address_of m s f) else block_refused
+to_block m s f = choose is_msf m s f then block_at (address_of m s f) else block_refused
 
 -- an address as an answer shows it: "address (4 bytes, or 0 M S F)"
 unfoldable pub shown_address : Bool → ℕ → List ℕ
-shown_address msf a = if msf then 0 ∷ (to_msf a).minute ∷ (to_msf a).second ∷ (to_msf a).frame ∷ [] else bytes32 a
+shown_address msf a = choose msf then 0 ∷ (to_msf a).minute ∷ (to_msf a).second ∷ (to_msf a).frame ∷ [] else bytes32 a
 
 -- the number and values of each case of the code's answers
 abbrev pub msf_meaning : Msf → MsfAnswer

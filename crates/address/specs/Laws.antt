@@ -3,7 +3,7 @@ use Rattle.std.specs.Prelude.{◌≡◌, refl, Bool, true, false, List, ◌⊎�
 use Rattle.std.proofs.Common.{sym, ap, ◌∙◌, inl, inr, ⊎_elim, arith, lt_of_not-le, le-leb, leb-true}
 use Rattle.std.proofs.Math.Decide.{dec_le}
 use Rattle.std.proofs.lemmas.Bool.{lt-leb}
-use Rattle.ground.specs.Tests.{if◌then◌else◌, when, unless, either, and_head, and_tail, and_both}
+use Rattle.ground.specs.Tests.{choose◌then◌else◌, when, unless, either, and_head, and_tail, and_both}
 use Rattle.address.specs.Address.{BlockAnswer, refused, last, frames, address_of, is_msf, minute_of, second_of, frame_of, msf_at, msf_refused, block_at, block_refused, to_msf, to_block, shown_address}
 
 -- rule 6 of an M:S:F, its parts by name
@@ -115,7 +115,7 @@ to_msf-rises a b h k = elim (dec_le (minute_of b) (minute_of a)) [
 -- ---- the answer tells which range it was
 
 pub to_block_accepts : (m s f a : ℕ) → block_at a ≡ to_block m s f → true ≡ is_msf m s f
-unfolding to_block if◌then◌else◌
+unfolding to_block choose◌then◌else◌
 to_block_accepts m s f a h = decided (is_msf m s f) refl
   where
     decided : (b : Bool) → is_msf m s f ≡ b → true ≡ is_msf m s f
@@ -123,7 +123,7 @@ to_block_accepts m s f a h = decided (is_msf m s f) refl
     decided false e = let z : ◌≡◌ {A = ℕ} 0 refused = ap (λ (r : BlockAnswer). r.number) (h ∙ unless _ _ _ e) in absurd (omega arith)
 
 pub to_block-refuses : (m s f : ℕ) → block_refused ≡ to_block m s f → false ≡ is_msf m s f
-unfolding to_block if◌then◌else◌
+unfolding to_block choose◌then◌else◌
 to_block-refuses m s f h = decided (is_msf m s f) refl
   where
     decided : (b : Bool) → is_msf m s f ≡ b → false ≡ is_msf m s f

@@ -1,6 +1,6 @@
 -- The attention unit: power attention, change attention and held sense, beside any deck.
 use Rattle.std.specs.Prelude.{Bool, true}
-use Rattle.ground.specs.Tests.{if◌then◌else◌}
+use Rattle.ground.specs.Tests.{choose◌then◌else◌}
 use Rattle.attention.specs.declared.Unit.{Unit}
 use Rattle.attention.specs.Sense.{no_sense}
 
@@ -10,4 +10,4 @@ powered_on change = record { power = true; change = change; sense = no_sense }
 
 -- "Loading ..: the change attention becomes pending."
 unfoldable pub attend : Bool → Unit → Unit
-attend loading u = if loading then record { power = u.power; change = true; sense = u.sense } else u
+attend loading u = choose loading then record { power = u.power; change = true; sense = u.sense } else u

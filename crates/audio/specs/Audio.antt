@@ -1,6 +1,6 @@
 -- 45h, PLAY AUDIO(10), and 4Bh, PAUSE/RESUME; l is L, "the last session's lead-out".
 use Rattle.std.specs.Prelude.{ℕ, ◌+◌, Bool, eqb}
-use Rattle.ground.specs.Tests.{◌or◌, if◌then◌else◌}
+use Rattle.ground.specs.Tests.{◌or◌, choose◌then◌else◌}
 use Rattle.deck.specs.declared.Deck.{Deck}
 use Rattle.play.specs.Play.{playing, paused, completed, none, play_of, with_status}
 use Rattle.deck.specs.Deck.{with_play}
@@ -11,7 +11,7 @@ use Rattle.blocks.specs.Range.{ranged}
 
 -- "A GOOD PLAY sets 11h, start, and start plus count as end, but count 0 leaves the record"
 unfoldable pub started : ℕ → ℕ → Deck → Deck
-started a n m = if eqb n 0 then m else with_play m (play_of playing a (a + n))
+started a n m = choose eqb n 0 then m else with_play m (play_of playing a (a + n))
 
 -- "range and 05/64/00 follow READ with audio in place of data": `all` says that every block lies in an audio track. FFFFFFFFh is an
 -- address like any other; the answer names no blocks
@@ -24,9 +24,9 @@ is_over status = eqb status completed or eqb status none
 
 -- 004 byte 8 bit 0, Resume
 abbrev pub resumed : Bool → ℕ
-resumed resume = if resume then playing else paused
+resumed resume = choose resume then playing else paused
 
 -- ".. and changes nothing where it already holds": the status is set again
 unfoldable pub pause_resume : Bool → Deck → Result Deck
 pause_resume resume m =
-    if is_over m.play.status then fails BadField else done (with_play m (with_status m.play (resumed resume)))
+    choose is_over m.play.status then fails BadField else done (with_play m (with_status m.play (resumed resume)))

@@ -1,6 +1,6 @@
 -- 42h, READ SUB-CHANNEL format 01h: the play record, and where its position stands on the disc that is in.
 use Rattle.std.specs.Prelude.{ℕ, ◌-◌, ◌/◌, ◌%◌, Bool, not, List, [], ◌∷◌, ◌++◌, eqb}
-use Rattle.ground.specs.Tests.{◌and◌, if◌then◌else◌}
+use Rattle.ground.specs.Tests.{◌and◌, choose◌then◌else◌}
 use Rattle.ground.specs.Number.{bytes32}
 use Rattle.address.specs.Address.{shown_address}
 use Rattle.play.specs.declared.Play.{Play}
@@ -28,15 +28,15 @@ sub_bad ask = ask.sub_q and not (eqb ask.format 0x01)
 
 -- "Index is 1; without a track it, ADR/control, track and relative address are 0": u is the position's track
 unfoldable pub index_of : Track → ℕ
-index_of u = if is_track u.number then 1 else 0
+index_of u = choose is_track u.number then 1 else 0
 
 -- the relative address of block b
 unfoldable pub relative : Track → ℕ → ℕ
-relative u b = if is_track u.number then b - u.start else 0
+relative u b = choose is_track u.number then b - u.start else 0
 
 -- "(4 bytes each, or 0 M S F; relative MSF without the 150)": the minute is a byte, and below 100 of a position up to 449,849
 unfoldable pub shown_relative : Bool → ℕ → List ℕ
-shown_relative msf n = if msf then 0 ∷ n / 75 / 60 % 256 ∷ n / 75 % 60 ∷ n % 75 ∷ [] else bytes32 n
+shown_relative msf n = choose msf then 0 ∷ n / 75 / 60 % 256 ∷ n / 75 % 60 ∷ n % 75 ∷ [] else bytes32 n
 
 -- "The answer is 0, status, 000Ch, 01h, ADR/control, track, index, then absolute and relative address"; no track has ADR/control and
 -- number 0
@@ -51,11 +51,11 @@ status_bytes r = 0 ∷ r.status ∷ 0x00 ∷ 0x00 ∷ []
 
 -- the full answer
 unfoldable pub sub_bytes : SubAsk → Track → Play → List ℕ
-sub_bytes ask u r = if ask.sub_q then position_bytes ask.msf u r else status_bytes r
+sub_bytes ask u r = choose ask.sub_q then position_bytes ask.msf u r else status_bytes r
 
 -- "13h turns to 15h after a GOOD 42h"
 unfoldable pub reported : Play → Play
-reported r = if eqb r.status completed then with_status r none else r
+reported r = choose eqb r.status completed then with_status r none else r
 
 -- the answer tells the record as it was; after any GOOD 42h, of SubQ 0 or length 0 too, 13h has turned, and position and end stay
 abbrev pub read_sub_channel : SubAsk → Track → ℕ → Deck → Result Deck

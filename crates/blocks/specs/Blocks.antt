@@ -1,6 +1,6 @@
 -- 25h, READ CAPACITY, 2Bh, SEEK, 28h and A8h, READ: what they do with blocks; l is L, "the last session's lead-out".
 use Rattle.std.specs.Prelude.{ℕ, ◌-◌, Bool, false, List, [], ◌++◌}
-use Rattle.ground.specs.Tests.{if◌then◌else◌}
+use Rattle.ground.specs.Tests.{choose◌then◌else◌}
 use Rattle.ground.specs.Number.{bytes32}
 use Rattle.deck.specs.declared.Deck.{Deck}
 use Rattle.play.specs.Play.{none, with_status}
@@ -24,7 +24,7 @@ stopped m = with_play m (with_status m.play none)
 
 -- "2Bh: address in bytes 2 to 5, over L − 1 gives 05/21/00."
 unfoldable pub seek : ℕ → ℕ → Deck → Result Deck
-seek a l m = if over a l then fails OutOfRange else done (stopped m)
+seek a l m = choose over a l then fails OutOfRange else done (stopped m)
 
 -- READ: "Count 0 passes once the address is in range."; "Start and count are 0 except after a GOOD READ, where they are its address and
 -- count." `all` says that every block lies in a data track

@@ -7,7 +7,7 @@ use Rattle.std.proofs.lemmas.Bool.{false≢true}
 use native.Mathlib.Omega.{arith}
 use Rattle.std.proofs.Math.Decide.{dec_le}
 use borrow.Author.Tests.{le-leb, lt-leb, lt-ltb, le-ltb, ltb-false, not-true}
-use Rattle.ground.specs.Tests.{◌and◌, ◌or◌, if◌then◌else◌, when, unless, or_left, or_right, or_else}
+use Rattle.ground.specs.Tests.{◌and◌, ◌or◌, choose◌then◌else◌, when, unless, or_left, or_right, or_else}
 use Rattle.deck.specs.declared.Deck.{Deck}
 use Rattle.gate.specs.declared.fault.Fault.TheVariants.{OutOfRange, IllegalMode}
 use Rattle.gate.specs.Gate.{Result, fails}
@@ -56,10 +56,10 @@ module _ (all : Bool) (a n l : ℕ) (r : Result Deck) where
 
   -- whether the blocks lie in such tracks need not be known of a run that is out of range
   pub ranged-looked : ranged (in_range a n l and all) a n l r ≡ ranged all a n l r
-  unfolding ranged if◌then◌else◌ ◌and◌
+  unfolding ranged choose◌then◌else◌ ◌and◌
   ranged-looked = go (in_range a n l)
     where
-      go : (b : Bool) → (if b then (if b and all then r else fails IllegalMode) else fails OutOfRange) ≡ (if b then (if all then r else fails IllegalMode) else fails OutOfRange)
+      go : (b : Bool) → (choose b then (choose b and all then r else fails IllegalMode) else fails OutOfRange) ≡ (choose b then (choose all then r else fails IllegalMode) else fails OutOfRange)
       go true = refl
       go false = refl
 

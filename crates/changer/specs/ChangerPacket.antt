@@ -1,6 +1,6 @@
 -- A packet met by the changer: the refusals 1, 2, 3, 11, 4, then the drive's own steps, or those of A6h, BDh and 1Bh with LoEj 1.
 use Rattle.std.specs.Prelude.{ℕ, min, ◌≡◌, Bool, not, List, ◌++◌, length, take, drop, eqb, ltb}
-use Rattle.ground.specs.Tests.{◌and◌, ◌or◌, if◌then◌else◌}
+use Rattle.ground.specs.Tests.{◌and◌, ◌or◌, choose◌then◌else◌}
 use Rattle.ground.specs.Memory.{fill}
 use Rattle.attention.specs.declared.Unit.{Unit}
 use Rattle.deck.specs.declared.Deck.{Deck}
@@ -43,8 +43,8 @@ is_own p = is_load_unload p or is_status p or is_tray p
 -- step 5 of these: "its 1Bh with LoEj 1 is 05/24/00"
 unfoldable pub own : List ℕ → Mechanism → Result Mechanism
 own p m =
-    if is_load_unload p then load_unload (lo_unlo p) (starts p) (named_slot p) m
-    else (if is_status p then mechanism_status (status_length p) m else fails BadField)
+    choose is_load_unload p then load_unload (lo_unlo p) (starts p) (named_slot p) m
+    else (choose is_status p then mechanism_status (status_length p) m else fails BadField)
 
 -- an answer of the drive's: home and slots stay as they were
 abbrev pub carried : Mechanism → Reply Deck → Reply Mechanism
@@ -63,22 +63,22 @@ carried m r = record {
 -- the steps: any other packet is the drive's own
 unfoldable pub steps : Unit → Mechanism → List ℕ → List ℕ → List ℕ → Reply Mechanism
 steps u m p t l =
-    if is_own p then gate u m (own p m)
+    choose is_own p then gate u m (own p m)
     else carried m (drive.steps (decode (code_of p)) u m.deck p t l)
 
 -- "Refusals: 11, after 3": 1, 2, 3, 11 and then 4, where a disc is in the drive; n is the length of the response memory
 unfoldable pub refusal_of : Changer → List Slot → List ℕ → List ℕ → ℕ → ℕ
 refusal_of c s p t n =
-    if not (eqb (length p) 12) then not_twelve
-    else (if not (is_known_state c.drive) then unknown_state
-    else (if ltb n bound then short_memory
-    else (if not (is_in_order c s) then out_of_order
-    else (if is_loaded c.drive.deck and not (is_fit t) then unfit else 0))))
+    choose not (eqb (length p) 12) then not_twelve
+    else (choose not (is_known_state c.drive) then unknown_state
+    else (choose ltb n bound then short_memory
+    else (choose not (is_in_order c s) then out_of_order
+    else (choose is_loaded c.drive.deck and not (is_fit t) then unfit else 0))))
 
 -- the answer to the packet p with the slots s, the table t, the parameter list l and a response memory of n bytes
 unfoldable pub answer : Changer → List Slot → List ℕ → List ℕ → List ℕ → ℕ → Reply Mechanism
 answer c s p t l n =
-    if eqb (refusal_of c s p t n) 0 then steps c.drive.unit (mechanism_of c s) p t l
+    choose eqb (refusal_of c s p t n) 0 then steps c.drive.unit (mechanism_of c s) p t l
     else refuse (refusal_of c s p t n) (rule_with (refusal_of c s p t n) t) c.drive.unit (mechanism_of c s)
 
 -- ---- what is handed back of an answer

@@ -6,7 +6,7 @@ use Rattle.std.proofs.Math.Bool.{true, false, not}
 use Rattle.std.proofs.lemmas.Bool.{false≢true, lt-leb}
 use Rattle.std.proofs.Math.Decide.{dec_le}
 use native.Mathlib.Omega.{arith}
-use Rattle.ground.specs.Tests.{◌and◌, if◌then◌else◌, when, unless, and_head, and_tail, and_both, and_off, and_late, or_else}
+use Rattle.ground.specs.Tests.{◌and◌, choose◌then◌else◌, when, unless, and_head, and_tail, and_both, and_off, and_late, or_else}
 use Rattle.ground.specs.Memory.{fill, fill_none}
 use Rattle.attention.specs.declared.Unit.{Unit}
 use Rattle.deck.specs.declared.Deck.{Deck}
@@ -204,7 +204,7 @@ module _ (c : Changer) (s : List Slot) (p t l : List ℕ) (n : ℕ) where
 
   -- past 1, 2, 3 and 11
   module _ (x : Passed c s p n) where
-    refusal_of-passed : refusal_of c s p t n ≡ (if is_loaded c.drive.deck and not (is_fit t) then unfit else 0)
+    refusal_of-passed : refusal_of c s p t n ≡ (choose is_loaded c.drive.deck and not (is_fit t) then unfit else 0)
     unfolding refusal_of
     refusal_of-passed =
         unless _ _ _ (ap not (eq-eqb _ _ x.twelve))
@@ -265,15 +265,15 @@ in_order_many c s h = sym (and_late _ _ (and_off _ _ (lt-leb _ _ h)))
 -- the first 32 decide the refusal as all of them do
 module _ (c : Changer) (p t l : List ℕ) (n : ℕ) where
   refusal_of-many : (s : List Slot) → most < length s
-      → refusal_of c s p t n ≡ (if not (eqb (length p) 12) then not_twelve else (if not (is_known_state c.drive) then unknown_state else (if ltb n bound then short_memory else out_of_order)))
+      → refusal_of c s p t n ≡ (choose not (eqb (length p) 12) then not_twelve else (choose not (is_known_state c.drive) then unknown_state else (choose ltb n bound then short_memory else out_of_order)))
   unfolding refusal_of
-  refusal_of-many s h = rw (in_order_many c s h, when {A = ℕ} true out_of_order (if is_loaded c.drive.deck and not (is_fit t) then unfit else 0) refl) refl
+  refusal_of-many s h = rw (in_order_many c s h, when {A = ℕ} true out_of_order (choose is_loaded c.drive.deck and not (is_fit t) then unfit else 0) refl) refl
 
   refusal_of-refused : (s : List Slot) → most < length s → refusal_of c s p t n ≡ 0 → ⊥
-  unfolding if◌then◌else◌
+  unfolding choose◌then◌else◌
   refusal_of-refused s h e = go (not (eqb (length p) 12)) (not (is_known_state c.drive)) (ltb n bound) (sym (refusal_of-many s h) ∙ e)
     where
-      go : (x y z : Bool) → (if x then not_twelve else (if y then unknown_state else (if z then short_memory else out_of_order))) ≡ 0 → ⊥
+      go : (x y z : Bool) → (choose x then not_twelve else (choose y then unknown_state else (choose z then short_memory else out_of_order))) ≡ 0 → ⊥
       go true y z w = omega arith
       go false true z w = omega arith
       go false false true w = omega arith

@@ -1,6 +1,6 @@
 -- A6h, LOAD/UNLOAD: what moves between the slots and the drive.
 use Rattle.std.specs.Prelude.{ℕ, Bool, true, false, not, List, [], length, ltb}
-use Rattle.ground.specs.Tests.{if◌then◌else◌}
+use Rattle.ground.specs.Tests.{choose◌then◌else◌}
 use Rattle.deck.specs.declared.Deck.{Deck}
 use Rattle.deck.specs.Deck.{opening, closing, with_disc}
 use Rattle.gate.specs.declared.fault.Fault.TheVariants.{BadField, RemovalPrevented}
@@ -22,7 +22,7 @@ returned_deck m = (closing (with_disc (opening m).deck false)).deck
 -- "returns the drive's disc to its home (present 1, changed kept; the state's home 0)"; with no disc in the drive nothing is returned
 unfoldable pub returned : Mechanism → Mechanism
 returned m =
-    if m.deck.disc_in then record { deck = returned_deck m.deck; home = 0; slots = put_back m.slots m.home }
+    choose m.deck.disc_in then record { deck = returned_deck m.deck; home = 0; slots = put_back m.slots m.home }
     else m
 
 -- the deck with the disc taken: "it is a loading"
@@ -33,7 +33,7 @@ taken_deck m = (closing (with_disc m true)).deck
 -- loading."
 unfoldable pub takes : ℕ → Mechanism → Result Mechanism
 takes i m =
-    if (slot_at m.slots i).present
+    choose (slot_at m.slots i).present
     then goes (record { deck = taken_deck m.deck; home = i; slots = take_out m.slots i }) true [] 0 0 0
     else goes m false [] 0 0 0
 
@@ -59,7 +59,7 @@ named_slot p = byte p 8
 -- first."
 unfoldable pub load_unload : Bool → Bool → ℕ → Mechanism → Result Mechanism
 load_unload lo start i m =
-    if not lo then fails BadField
-    else (if not (ltb i (length m.slots)) then fails BadField
-    else (if m.deck.lock then fails RemovalPrevented
-    else (if start then loads i m else unloads m)))
+    choose not lo then fails BadField
+    else (choose not (ltb i (length m.slots)) then fails BadField
+    else (choose m.deck.lock then fails RemovalPrevented
+    else (choose start then loads i m else unloads m)))

@@ -14,7 +14,7 @@ use Rattle.std.proofs.Math.ListN.{set, length, length-replicate, length-set, len
 use Rattle.std.proofs.Math.Seq.{get_or_at}
 use Rattle.std.proofs.Math.Dec.{ltb}
 use borrow.Author.Tests.{lt-ltb, le-ltb}
-use Rattle.ground.specs.Tests.{if◌then◌else◌, when, unless}
+use Rattle.ground.specs.Tests.{choose◌then◌else◌, when, unless}
 use Rattle.changer.specs.declared.Slot.{Slot}
 use Rattle.changer.specs.declared.Row.{Row}
 use Rattle.changer.specs.declared.Moves.{Moves}
@@ -39,7 +39,7 @@ abbrev pub row_none : Row
 row_none = record { slots = replicate 32 empty_slot; len = 0 }
 
 unfoldable pub row_push : Row → Slot → Row
-row_push r s = if ltb r.len 32 then record { slots = set r.slots r.len s; len = r.len + 1 } else r
+row_push r s = choose ltb r.len 32 then record { slots = set r.slots r.len s; len = r.len + 1 } else r
 
 -- the row after the first k slots
 unfoldable pub row_up_to : List Slot → ℕ → Row
@@ -50,7 +50,7 @@ row_up_to l (suc k) = row_push (row_up_to l k) (slot_at l k)
 
 -- two places change, or none
 unfoldable pub settled : List Slot → Moves → List Slot
-settled l m = if m.any then set (set l m.a m.x) m.b m.y else l
+settled l m = choose m.any then set (set l m.a m.x) m.b m.y else l
 
 -- the two places are places
 pub record Within (m : Moves) (n : ℕ) : Type 0 where

@@ -1,6 +1,6 @@
 -- BDh, MECHANISM STATUS: "the header of 000 (no fault, ready, home slot or 0, byte 1 zero, address 0, slots, table length) and 4 bytes a slot".
 use Rattle.std.specs.Prelude.{ℕ, zero, suc, ◌+◌, ◌*◌, false, List, [], ◌∷◌, ◌++◌, length}
-use Rattle.ground.specs.Tests.{if◌then◌else◌}
+use Rattle.ground.specs.Tests.{choose◌then◌else◌}
 use Rattle.ground.specs.Number.{word16, bytes16}
 use Rattle.gate.specs.Gate.{Result, goes}
 use Rattle.command.specs.Command.{byte}
@@ -10,7 +10,7 @@ use Rattle.changer.specs.Mechanism.{Mechanism}
 
 -- "present bit 7 and changed bit 0 of the first"
 unfoldable pub flags_of : Slot → ℕ
-flags_of s = (if s.present then 0x80 else 0) + (if s.changed then 0x01 else 0)
+flags_of s = (choose s.present then 0x80 else 0) + (choose s.changed then 0x01 else 0)
 
 -- "4 bytes a slot"
 abbrev pub slot_bytes : Slot → List ℕ
@@ -23,7 +23,7 @@ slot_tables s (suc n) = slot_tables s n ++ slot_bytes (slot_at s n)
 
 -- "home slot or 0": 0 with no disc in the drive
 abbrev pub home_shown : Mechanism → ℕ
-home_shown m = if m.deck.disc_in then m.home else 0
+home_shown m = choose m.deck.disc_in then m.home else 0
 
 -- fault, state and home slot in byte 0, byte 1, the address in bytes 2 to 4, the number of slots, and the length of their tables
 abbrev pub header_of : ℕ → ℕ → List ℕ

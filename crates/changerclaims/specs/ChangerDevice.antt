@@ -4,7 +4,7 @@ use Rattle.std.proofs.Math.Path.{sym}
 use Rattle.std.proofs.Common.{ap, ◌∙◌, subst, subst₂, true≢false, ⊎_elim, eqb-true, eq-eqb, ne_eqb, ltb-true, get_or-set_same, get_or-set_other}
 use Rattle.std.proofs.lemmas.Bool.{false≢true, not-false}
 use Rattle.std.proofs.Math.Decide.{ℕ_discrete}
-use Rattle.ground.specs.Tests.{◌and◌, ◌or◌, if◌then◌else◌, when, either, and_head, and_both, and_off, and_late, or_right}
+use Rattle.ground.specs.Tests.{◌and◌, ◌or◌, choose◌then◌else◌, when, either, and_head, and_both, and_off, and_late, or_right}
 use Rattle.attention.specs.declared.Unit.{Unit}
 use Rattle.deck.specs.declared.Deck.{Deck}
 use Rattle.drive.specs.declared.state.Drive.{Drive}
@@ -84,12 +84,12 @@ load_unload_acts lo start i m =
     A = Acts ((lo and start) and holds i m) true m
 
 pub own_acts : (p : List ℕ) (m : Mechanism) → Acts (taking p m) (is_load_unload p) m (own p m)
-unfolding own ◌and◌ if◌then◌else◌
+unfolding own ◌and◌ choose◌then◌else◌
 own_acts p m = go (is_load_unload p)
   where
     -- any other packet is no Load
     go : (b : Bool) → Acts ((b and lo_unlo p and starts p) and holds (named_slot p) m) b m
-        (if b then load_unload (lo_unlo p) (starts p) (named_slot p) m else (if is_status p then mechanism_status (status_length p) m else fails BadField))
+        (choose b then load_unload (lo_unlo p) (starts p) (named_slot p) m else (choose is_status p then mechanism_status (status_length p) m else fails BadField))
     go true = load_unload_acts (lo_unlo p) (starts p) (named_slot p) m
     go false = either (Acts false false m) (is_status p) (λ h. stood refl refl) (λ h. failed)
 

@@ -1,12 +1,12 @@
 -- K11: "the discs in slots and drive".
 use Rattle.std.specs.Prelude.{ℕ, ◌+◌, Bool, List, [], ◌∷◌}
-use Rattle.ground.specs.Tests.{if◌then◌else◌}
+use Rattle.ground.specs.Tests.{choose◌then◌else◌}
 use Rattle.changer.specs.declared.Slot.{Slot}
 use Rattle.changer.specs.declared.Changer.{Changer}
 
 -- a disc is there, or not
 abbrev pub one : Bool → ℕ
-one b = if b then 1 else 0
+one b = choose b then 1 else 0
 
 -- the discs in the slots
 unfoldable pub discs_in : List Slot → ℕ

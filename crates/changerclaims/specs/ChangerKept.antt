@@ -4,7 +4,7 @@ use Rattle.std.specs.Prelude.{◌≡◌, Bool, true, false, List, ℕ, ◌≤◌
 use Rattle.std.proofs.Common.{sym, ◌∙◌, arith}
 use Rattle.std.proofs.Math.Path.{ap}
 use Rattle.std.proofs.lemmas.Bool.{false≢true}
-use Rattle.ground.specs.Tests.{◌and◌, ◌or◌, if◌then◌else◌, either}
+use Rattle.ground.specs.Tests.{◌and◌, ◌or◌, choose◌then◌else◌, either}
 use Rattle.attention.specs.declared.sense.Sense.{Sense}
 use Rattle.attention.specs.Sense.{triple, sense_at}
 use Rattle.deck.specs.declared.Deck.{Deck}
@@ -192,9 +192,9 @@ module _ (c : Changer) (s : List Slot) (p t l : List ℕ) (n : ℕ) where
     -- BDh: the bytes of the status, cut to the length; the sense is cleared, and nothing else changes
     pub changer-status : is_status p ≡ true
         → (is_good ≡ true)
-        × (bytes_of (answer c s p t l n) ≡ take (status_length p) (status_bytes (if has_disc then c.home else 0) s))
+        × (bytes_of (answer c s p t l n) ≡ take (status_length p) (status_bytes (choose has_disc then c.home else 0) s))
         × Rests
-    unfolding ◌and◌ attend if◌then◌else◌ sense_at
+    unfolding ◌and◌ attend choose◌then◌else◌ sense_at
     changer-status h =
         let a =
         answer-own c s p t l n (status-own p h) unrefused quiet
@@ -204,7 +204,7 @@ module _ (c : Changer) (s : List Slot) (p t l : List ℕ) (n : ℕ) where
   -- past refusal 11 "home slot or 0" is at most 30, so of byte 0 the bits of fault and state are 0 ("no fault, ready"), and the slot whose disc is
   -- in the drive shows none
   pub changer-status-home : is_in_order c s ≡ true
-      → ((if has_disc then c.home else 0) ≤ 30) × (has_disc ≡ true → (slot_at s c.home).present ≡ false)
+      → ((choose has_disc then c.home else 0) ≤ 30) × (has_disc ≡ true → (slot_at s c.home).present ≡ false)
   changer-status-home h =
       let o = is_in_order_order c s h in
       let few = o.few in

@@ -5,7 +5,7 @@ use Rattle.std.proofs.Common.{sym, ap, ◌∙◌, arith, length-set, get_or-set_
 use Rattle.std.proofs.lemmas.Bool.{false≢true}
 use borrow.Author.Tests.{ltb-true, leb-true, le-leb, lt-ltb, not-true, not-false, eqb-true}
 use Rattle.std.proofs.Math.Dec.{eqb}
-use Rattle.ground.specs.Tests.{◌and◌, ◌or◌, if◌then◌else◌, when, unless, either, and_head, and_tail, and_both, or_left, or_right}
+use Rattle.ground.specs.Tests.{◌and◌, ◌or◌, choose◌then◌else◌, when, unless, either, and_head, and_tail, and_both, or_left, or_right}
 use Rattle.attention.specs.declared.sense.Sense.{Sense}
 use Rattle.attention.specs.declared.Unit.{Unit}
 use Rattle.deck.specs.declared.Deck.{Deck}
@@ -180,7 +180,7 @@ abbrev pub discs_of : Mechanism → ℕ
 discs_of m = discs_in m.slots + one m.deck.disc_in
 
 back-discs : (m : Mechanism) → Order m → m.deck.disc_in ≡ true → discs_of (back m) ≡ discs_of m
-unfolding if◌then◌else◌
+unfolding choose◌then◌else◌
 back-discs m o d =
     let e = discs_in-set m.slots m.home (slot true (slot_at m.slots m.home).changed) (o.place d) in
     rw d (rw (o.free d) at e)
@@ -194,7 +194,7 @@ returned_empty m = returned-ways (λ n. n.deck.disc_in ≡ false) m (λ d. d) (�
 
 pub taken-discs : (i : ℕ) (m : Mechanism) → i < length m.slots → m.deck.disc_in ≡ false → (slot_at m.slots i).present ≡ true
     → discs_of (taken i m) ≡ discs_of m
-unfolding if◌then◌else◌
+unfolding choose◌then◌else◌
 taken-discs i m h d w =
     let e = discs_in-set m.slots i empty_slot h in
     rw d (rw w at e)
@@ -257,7 +257,7 @@ module _ (c : Changer) (s : List Slot) (p t l : List ℕ) (n : ℕ) where
 gate-none : {M : Type 0} (p c : Bool) (h : Sense) (m : M) (r : Result M) → p or c ≡ false →
     let u : Unit = record { power = p; change = c; sense = h } in
     gate u m r ≡ settle u m r
-unfolding gate pending_of if◌then◌else◌ ◌or◌
+unfolding gate pending_of choose◌then◌else◌ ◌or◌
 gate-none true c h m r z = absurd (false≢true (sym z))
 gate-none false true h m r z = absurd (false≢true (sym z))
 gate-none false false h m r z = refl
@@ -308,19 +308,19 @@ module _ (p : List ℕ) where
 -- ---- the drive's own packets
 
 refusal-drive : (c : Changer) (s : List Slot) (p t : List ℕ) (n : ℕ) → is_in_order c s ≡ true → refusal_of c s p t n ≡ drive.refusal_of c.drive p t n
-unfolding refusal_of drive.refusal_of if◌then◌else◌
+unfolding refusal_of drive.refusal_of choose◌then◌else◌
 refusal-drive c s p t n h = rw h
 
 pub answer-drive : (c : Changer) (s : List Slot) (p t l : List ℕ) (n : ℕ) → is_in_order c s ≡ true → is_own p ≡ false
     → answer c s p t l n ≡ carried (mechanism_of c s) (drive.answer c.drive p t l n)
-unfolding answer drive.answer steps if◌then◌else◌
+unfolding answer drive.answer steps choose◌then◌else◌
 answer-drive c s p t l n h e =
     rw (refusal-drive c s p t n h) (by-test (eqb (drive.refusal_of c.drive p t n) 0) (drive.refusal_of c.drive p t n))
   where
     by-test : (b : Bool) (j : ℕ)
-        → (if b then steps c.drive.unit (mechanism_of c s) p t l else refuse j (rule_with j t) c.drive.unit (mechanism_of c s))
+        → (choose b then steps c.drive.unit (mechanism_of c s) p t l else refuse j (rule_with j t) c.drive.unit (mechanism_of c s))
         ≡ carried (mechanism_of c s)
-        (if b then drive.steps (decode (code_of p)) c.drive.unit c.drive.deck p t l
+        (choose b then drive.steps (decode (code_of p)) c.drive.unit c.drive.deck p t l
         else refuse j (rule_with j t) c.drive.unit c.drive.deck)
     by-test true j = unless _ _ _ e
     by-test false j = refl

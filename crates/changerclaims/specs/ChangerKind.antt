@@ -2,7 +2,7 @@
 use Rattle.std.specs.Prelude.{◌≡◌, refl, Bool, true, false, List, ℕ}
 use Rattle.std.proofs.Common.{sym, ap, ◌∙◌}
 use Rattle.std.proofs.lemmas.Bool.{false≢true}
-use Rattle.ground.specs.Tests.{◌and◌, ◌or◌, if◌then◌else◌}
+use Rattle.ground.specs.Tests.{◌and◌, ◌or◌, choose◌then◌else◌}
 use Rattle.attention.specs.declared.sense.Sense.{Sense}
 use Rattle.attention.specs.declared.Unit.{Unit}
 use Rattle.deck.specs.declared.Deck.{Deck}
@@ -39,7 +39,7 @@ carried_kind m (orders r) = orders (carried_result m r)
 carried-gate : (p c : Bool) (h : Sense) (m : Mechanism) (r : Result Deck) →
     let u : Unit = record { power = p; change = c; sense = h } in
     carried m (gate u m.deck r) ≡ gate u m (carried_result m r)
-unfolding gate pending_of if◌then◌else◌
+unfolding gate pending_of choose◌then◌else◌
 carried-gate true c h m r = refl
 carried-gate false true h m r = refl
 carried-gate false false h m (fails f) = refl
@@ -56,15 +56,15 @@ carried-reply m (orders r) u = carried-gate u.power u.change u.sense m r
 
 -- A6h, BDh and 1Bh with LoEj 1 meet the gate; any other packet is of the drive's kind
 abbrev pub kind_on : List ℕ → Mechanism → List ℕ → List ℕ → Kind Mechanism
-kind_on p m t l = if is_own p then orders (own p m) else carried_kind m (kind p m.deck t l)
+kind_on p m t l = choose is_own p then orders (own p m) else carried_kind m (kind p m.deck t l)
 
 steps-kind : (u : Unit) (m : Mechanism) (p t l : List ℕ) → steps u m p t l ≡ reply (kind_on p m t l) u m
-unfolding steps if◌then◌else◌
+unfolding steps choose◌then◌else◌
 steps-kind u m p t l = go (is_own p)
   where
     go : (b : Bool)
-        → (if b then gate u m (own p m) else carried m (steps_of (record { unit = u; deck = m.deck }) p t l))
-        ≡ reply (if b then orders (own p m) else carried_kind m (kind p m.deck t l)) u m
+        → (choose b then gate u m (own p m) else carried m (steps_of (record { unit = u; deck = m.deck }) p t l))
+        ≡ reply (choose b then orders (own p m) else carried_kind m (kind p m.deck t l)) u m
     go true = refl
     go false = ap (carried m) (steps_of-kind (record { unit = u; deck = m.deck }) p t l) ∙ carried-reply m (kind p m.deck t l) u
 

@@ -7,7 +7,7 @@ use Rattle.std.proofs.lemmas.Bool.{false≢true, not-false}
 use Prim.Native.Nat.{ℕ, zero, suc, ◌<◌}
 use Rattle.std.proofs.Math.Seq.{get_or-set_same}
 use Rattle.std.proofs.Math.Dec.{eqb-suc-zero}
-use Rattle.ground.specs.Tests.{◌and◌, if◌then◌else◌, when, unless, either, and_head, and_tail}
+use Rattle.ground.specs.Tests.{◌and◌, choose◌then◌else◌, when, unless, either, and_head, and_tail}
 use Rattle.attention.specs.declared.sense.Sense.{Sense}
 use Rattle.attention.specs.declared.Unit.{Unit}
 use Rattle.attention.specs.Sense.{triple, sense_at}
@@ -42,7 +42,7 @@ module _ {M : Type 0} where
   gate-still : (p c : Bool) (h : Sense) (m : M) (r : Result M) →
       let u : Unit = record { power = p; change = c; sense = h } in
       is_granted (gate u m r) ≡ false → (gate u m r).deck ≡ m
-  unfolding gate pending_of if◌then◌else◌ ◌and◌
+  unfolding gate pending_of choose◌then◌else◌ ◌and◌
   gate-still true c h m r z = refl
   gate-still false true h m r z = refl
   gate-still false false h m (fails f) z = refl
@@ -60,7 +60,7 @@ module _ {M : Type 0} where
   gate-granted : (p c : Bool) (h : Sense) (m : M) (r : Result M) →
       let u : Unit = record { power = p; change = c; sense = h } in
       is_granted (gate u m r) ≡ true → (gate u m r ≡ settle u m r) × (goes_well r ≡ true)
-  unfolding gate pending_of if◌then◌else◌ ◌and◌
+  unfolding gate pending_of choose◌then◌else◌ ◌and◌
   gate-granted true c h m r z = absurd (false≢true z)
   gate-granted false true h m r z = absurd (false≢true z)
   gate-granted false false h m (fails f) z = absurd (false≢true z)
@@ -81,7 +81,7 @@ answer_still c s p t l n =
 
 -- the pair and the slot are good, and the drive is not locked
 load_unload-granted : (lo start : Bool) (i : ℕ) (m : Mechanism) → goes_well (load_unload lo start i m) ≡ true
-    → (load_unload lo start i m ≡ (if start then loads i m else unloads m)) × (i < length m.slots)
+    → (load_unload lo start i m ≡ (choose start then loads i m else unloads m)) × (i < length m.slots)
 unfolding load_unload
 load_unload-granted lo start i m =
     either Q _ (λ h w. absurd (false≢true w))
@@ -89,21 +89,21 @@ load_unload-granted lo start i m =
     (λ k. either Q _ (λ z w. absurd (false≢true w)) (λ z w. (refl, ltb-true _ _ (not-false _ k)))))
   where
     Q : Result Mechanism → Type 0
-    Q r = goes_well r ≡ true → (r ≡ (if start then loads i m else unloads m)) × (i < length m.slots)
+    Q r = goes_well r ≡ true → (r ≡ (choose start then loads i m else unloads m)) × (i < length m.slots)
 
 -- "pair and slot first", then the lock
 module _ (lo start : Bool) (i : ℕ) (m : Mechanism) where
   pub load_unload-bad : lo and ltb i (length m.slots) ≡ false → load_unload lo start i m ≡ fails BadField
-  unfolding load_unload ◌and◌ if◌then◌else◌
+  unfolding load_unload ◌and◌ choose◌then◌else◌
   load_unload-bad h = go lo (ltb i (length m.slots)) _ h
     where
       go : (a b : Bool) (r : Result Mechanism) → a and b ≡ false
-          → (if not a then fails BadField else (if not b then fails BadField else r)) ≡ fails BadField
+          → (choose not a then fails BadField else (choose not b then fails BadField else r)) ≡ fails BadField
       go false b r h = refl
       go true b r h = rw h
 
   module _ (h : lo and ltb i (length m.slots) ≡ true) where
-    passes : (r : Result Mechanism) → (if not lo then fails BadField else (if not (ltb i (length m.slots)) then fails BadField else r)) ≡ r
+    passes : (r : Result Mechanism) → (choose not lo then fails BadField else (choose not (ltb i (length m.slots)) then fails BadField else r)) ≡ r
     passes r = unless _ _ _ (ap not (and_head _ _ h)) ∙ unless _ _ _ (ap not (and_tail _ _ h))
 
     pub load_unload-locked : m.deck.lock ≡ true → load_unload lo start i m ≡ fails RemovalPrevented
@@ -147,7 +147,7 @@ module _ (c : Changer) (s : List Slot) (p t l : List ℕ) (n : ℕ) (h : is_load
   load-granted :
       Order here
       × (named_slot p < length s)
-      × (answer c s p t l n ≡ settle unit here (if starts p then loads (named_slot p) here else unloads here))
+      × (answer c s p t l n ≡ settle unit here (choose starts p then loads (named_slot p) here else unloads here))
   load-granted =
       let w = meets-granted (refusal_of c s p t n) (rule_of c s p t n) _ unit here (ap is_granted (sym met) ∙ g) in
       let k = load_unload-granted (lo_unlo p) (starts p) (named_slot p) here w.2 in
@@ -218,12 +218,12 @@ module _ (c : Changer) (s : List Slot) (p t l : List ℕ) (n : ℕ) (h : is_load
   unload-leaves b = load-granted.2 ∙ ap (settle unit here) (unless _ _ _ b)
 
   taken-deck : taken_deck (returned here).deck ≡ deck_with true loaded
-  unfolding if◌then◌else◌
+  unfolding choose◌then◌else◌
   taken-deck = returned-ways (λ k. taken_deck k.deck ≡ deck_with true loaded) here (λ d. refl) (λ d. refl)
 
   pub load-took : starts p ≡ true → (slot_at (returned here).slots named).present ≡ true
       → (slot_at given.deck.slots named ≡ empty_slot) × (state_of given ≡ state_with true (deck_with true loaded) named)
-  unfolding attend sense_at if◌then◌else◌
+  unfolding attend sense_at choose◌then◌else◌
   load-took b w =
       let e = load-takes b w in (
         ap (λ (r : Reply Mechanism). slot_at r.deck.slots named) e ∙ get_or-set_same (returned here).slots named empty_slot empty_slot there,
@@ -261,10 +261,10 @@ module _ (c : Changer) (s : List Slot) (p t l : List ℕ) (n : ℕ) (h : is_load
     pub left-gave : c.drive.deck.disc_in ≡ true
         → (slot_at given.deck.slots c.home ≡ slot true (slot_at s c.home).changed)
         × (state_of given ≡ state_with unit.change (deck_with false opened) 0)
-    unfolding returned attend sense_at if◌then◌else◌
+    unfolding returned attend sense_at choose◌then◌else◌
     left-gave d = rw (e, d) (get_or-set_same s c.home _ empty_slot (load-granted.0.place d), refl)
 
     pub left-rests : c.drive.deck.disc_in ≡ false
         → (given.deck.slots ≡ s) × (state_of given ≡ state_with unit.change c.drive.deck c.home)
-    unfolding returned attend sense_at if◌then◌else◌
+    unfolding returned attend sense_at choose◌then◌else◌
     left-rests d = rw (e, d) (refl, refl)

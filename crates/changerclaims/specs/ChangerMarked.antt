@@ -2,7 +2,7 @@
 -- disc, slot 1 is empty, and slot 2 has a disc and is marked changed.
 use Rattle.std.specs.Prelude.{ℕ, ◌≡◌, refl, Bool, true, false, not, List, [], ◌∷◌, eqb}
 use Rattle.std.specs.Int.Count.{count_trailing_zeros}
-use Rattle.ground.specs.Tests.{◌and◌, ◌or◌, if◌then◌else◌, every}
+use Rattle.ground.specs.Tests.{◌and◌, ◌or◌, choose◌then◌else◌, every}
 use Rattle.address.specs.Address.{is_msf}
 use Rattle.attention.specs.Sense.{sense_at, same_sense, among, is_known}
 use Rattle.play.specs.Play.{is_status, is_play}
@@ -200,5 +200,5 @@ abbrev pub handed : Changer
 handed = record { drive = loaded_e; home = 1 }
 
 pub changer_marked : all_stepped handed (disc ∷ none ∷ new_disc ∷ []) changer_marks ≡ true
-unfolding all_stepped same_slots slots_after after comes same_outcome same_bytes ◌and◌ ◌or◌ if◌then◌else◌ every is_msf sense_at same_sense among is_known is_status is_play among_bytes is_setting is_known_state drive_power_on attend is_track is_extra start_of names simple free plain head_a0 head_a1 headed addressed row_test one size listed numbered is_session starts before follows in_place in_order rule1 rule2 each_row rises out_before begins_after rising rule7 first_broken late_rules row_rules fault is_fit pending_of gate decode answering start_stop count_trailing_zeros waiting or_else class_for media_status event_of status_of event_bytes cleared perform returned takes load_unload flags_of slot_tables status_bytes is_in_order power_on is_own own steps refusal_of answer
+unfolding all_stepped same_slots slots_after after comes same_outcome same_bytes ◌and◌ ◌or◌ choose◌then◌else◌ every is_msf sense_at same_sense among is_known is_status is_play among_bytes is_setting is_known_state drive_power_on attend is_track is_extra start_of names simple free plain head_a0 head_a1 headed addressed row_test one size listed numbered is_session starts before follows in_place in_order rule1 rule2 each_row rises out_before begins_after rising rule7 first_broken late_rules row_rules fault is_fit pending_of gate decode answering start_stop count_trailing_zeros waiting or_else class_for media_status event_of status_of event_bytes cleared perform returned takes load_unload flags_of slot_tables status_bytes is_in_order power_on is_own own steps refusal_of answer
 changer_marked = refl

@@ -7,7 +7,7 @@ use Prim.Native.Nat.{ℕ, zero, suc}
 use Rattle.std.proofs.Math.Decide.{dec_le}
 use Rattle.std.proofs.lemmas.Bool.{lt-leb, not-true}
 use Rattle.std.proofs.Math.Dec.{eqb}
-use Rattle.ground.specs.Tests.{◌and◌, ◌or◌, if◌then◌else◌, when, and_head, and_tail, and_assoc}
+use Rattle.ground.specs.Tests.{◌and◌, ◌or◌, choose◌then◌else◌, when, and_head, and_tail, and_assoc}
 use Rattle.ground.specs.Memory.{fill, fill_none}
 use Rattle.deck.specs.Deck.{is_loaded}
 use Rattle.drive.specs.State.{is_known_state}
@@ -43,13 +43,13 @@ module _ (c : Changer) (s : List Slot) (p t : List ℕ) (n : ℕ) where
   pub refusal-ordered :
       Ordered (eqb (length p) 12) (is_known_state c.drive) (ltb n bound) (is_in_order c s) (is_loaded c.drive.deck and not (is_fit t))
       (refusal_of c s p t n)
-  unfolding refusal_of if◌then◌else◌ ◌and◌ ◌or◌
+  unfolding refusal_of choose◌then◌else◌ ◌and◌ ◌or◌
   refusal-ordered =
       by_tests (eqb (length p) 12) (is_known_state c.drive) (ltb n bound) (is_in_order c s) (is_loaded c.drive.deck and not (is_fit t))
     where
       by_tests : (twelve known short order unfit : Bool)
           → Ordered twelve known short order unfit
-          (if not twelve then 1 else (if not known then 2 else (if short then 3 else (if not order then 11 else (if unfit then 4 else 0)))))
+          (choose not twelve then 1 else (choose not known then 2 else (choose short then 3 else (choose not order then 11 else (choose unfit then 4 else 0)))))
       by_tests false known short order unfit =
           record { zero = refl; one = refl; two = refl; three = refl; eleven = refl; four = refl; most = refl }
       by_tests true false short order unfit =

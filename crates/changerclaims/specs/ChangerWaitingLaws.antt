@@ -4,7 +4,7 @@ use Rattle.std.proofs.Math.Path.{refl, subst}
 use Rattle.std.proofs.Common.{sym, ap, true≢false, arith}
 use Rattle.std.proofs.Math.Bool.{true, false}
 use Rattle.std.proofs.lemmas.Bool.{false≢true}
-use Rattle.ground.specs.Tests.{◌and◌, ◌or◌, if◌then◌else◌, either}
+use Rattle.ground.specs.Tests.{◌and◌, ◌or◌, choose◌then◌else◌, either}
 use Rattle.attention.specs.declared.Unit.{Unit}
 use Rattle.deck.specs.declared.Deck.{Deck}
 use Rattle.drive.specs.declared.state.Drive.{Drive}
@@ -42,7 +42,7 @@ module _ (m : Mechanism) where
   still_noted load moves = rw (and_none load, and_none (moves and m.deck.disc_in)) by-none
 
   returned-noted : NotedOn false true true (returned m)
-  unfolding returned ◌and◌ if◌then◌else◌
+  unfolding returned ◌and◌ choose◌then◌else◌
   returned-noted = go m.deck.disc_in refl
     where
       go : (b : Bool) → m.deck.disc_in ≡ b → NotedOn false true true (returned m)

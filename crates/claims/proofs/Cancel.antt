@@ -3,7 +3,7 @@
 -- `(answer c d).number` its number, as in Call.antt.
 use Rattle.std.specs.Prelude.{◌≡◌, refl, true, false, List, [], ◌∷◌, map, ◌↔◌, ℕ, replicate}
 use Rattle.std.proofs.Common.{◌∙◌}
-use Rattle.ground.specs.Tests.{◌or◌, if◌then◌else◌, every, and_tail}
+use Rattle.ground.specs.Tests.{◌or◌, choose◌then◌else◌, every, and_tail}
 use Rattle.address.specs.Address.{is_msf}
 use Rattle.drive.specs.declared.state.Drive.{Drive}
 use Rattle.attention.specs.Sense.{triple, sense_at, same_sense, among, is_known}
@@ -67,7 +67,7 @@ module _ (d : Drive) where
 
   -- the button twice, on a loaded drive that is not locked, in a state that refusal 2 does not meet: it leaves what a loading leaves
   pub pressing-pressing : is_known_state d ≡ true → is_loaded d.deck ≡ true → d.deck.lock ≡ false → next pressing (next pressing d) ≡ reloaded d
-  unfolding attend if◌then◌else◌
+  unfolding attend choose◌then◌else◌
   pressing-pressing k h l = press-press d k h l ∙ rw (and_tail _ _ h)
 
 -- there are none exactly where the two states are the same
@@ -76,5 +76,5 @@ found_none i = differing-none (final i.from i.calls) (final i.from i.others)
 
 -- each instance is as it says
 pub compared : map found_in instances ≡ map said_of instances
-unfolding differing add same_flag same_play same_page ◌or◌ if◌then◌else◌ every is_msf sense_at same_sense among is_known is_status is_play among_bytes is_setting is_known_state power_on power_on_without_change button lay lift attend is_track is_extra start_of names simple plain head_a0 head_a1 headed addressed row_test one size listed numbered is_session starts follows in_place in_order rule1 rule2 each_row rises begins_after rising rule7 first_broken late_rules row_rules fault is_fit next_out out_at covers wanted next_found found track_of is_mode in_mode all_in pending_of gate decode ejects loads start_stop over in_range ranged started is_over pause_resume perform refusal_of reply_to
+unfolding differing add same_flag same_play same_page ◌or◌ choose◌then◌else◌ every is_msf sense_at same_sense among is_known is_status is_play among_bytes is_setting is_known_state power_on power_on_without_change button lay lift attend is_track is_extra start_of names simple plain head_a0 head_a1 headed addressed row_test one size listed numbered is_session starts follows in_place in_order rule1 rule2 each_row rises begins_after rising rule7 first_broken late_rules row_rules fault is_fit next_out out_at covers wanted next_found found track_of is_mode in_mode all_in pending_of gate decode ejects loads start_stop over in_range ranged started is_over pause_resume perform refusal_of reply_to
 compared = refl

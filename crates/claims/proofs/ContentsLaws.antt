@@ -1,7 +1,7 @@
 -- The track list is made of the contents alone, and two contents that make one list are one, by blocks and by M:S:F alike.
 use Rattle.std.specs.Prelude.{◌≡◌, refl, Bool, true, false, List, [], ◌∷◌, ◌++◌, ℕ, zero, suc, ◌≤◌, leb, length, get_or, drop}
 use Rattle.std.proofs.Common.{sym, ap, ◌∙◌, append-nil, append_assoc, arith, le-leb, length-append}
-use Rattle.ground.specs.Tests.{◌and◌, if◌then◌else◌, when}
+use Rattle.ground.specs.Tests.{◌and◌, choose◌then◌else◌, when}
 use Rattle.ground.specs.Number.{word32, bytes32_exact}
 use Rattle.address.specs.Address.{MsfAnswer, last as last_address, minute_of, second_of, frame_of, shown_address}
 use Rattle.address.specs.Laws.{to_msf-at}
@@ -14,12 +14,12 @@ use Rattle.claims.specs.Contents.{list_with, Entry, Contents, entry_at, entries,
 -- ---- the list is made of the contents
 
 from-append : (n : ℕ) (x y : List Entry) → from n (x ++ y) ≡ from n x ++ from n y
-unfolding from if◌then◌else◌
+unfolding from choose◌then◌else◌
 from-append n [] y = refl
 from-append n (e ∷ x) y = step (leb n e.number) (from-append n x y)
   where
     step : (b : Bool) → from n (x ++ y) ≡ from n x ++ from n y
-        → (if b then e ∷ from n (x ++ y) else from n (x ++ y)) ≡ (if b then e ∷ from n x else from n x) ++ from n y
+        → (choose b then e ∷ from n (x ++ y) else from n (x ++ y)) ≡ (choose b then e ∷ from n x else from n x) ++ from n y
     step true h = ap (λ (l : List Entry). e ∷ l) h
     step false h = h
 
@@ -32,16 +32,16 @@ written-append msf (e ∷ x) y =
 
 -- of one descriptor
 shown-written : (msf : Bool) (n : ℕ) (d : List ℕ) (j : ℕ)
-    → shown_track msf n d j ≡ written msf (from n (if is_track (point_at d j) then entry_at d j ∷ [] else []))
-unfolding shown_track is_shown from written if◌then◌else◌ ◌and◌
+    → shown_track msf n d j ≡ written msf (from n (choose is_track (point_at d j) then entry_at d j ∷ [] else []))
+unfolding shown_track is_shown from written choose◌then◌else◌ ◌and◌
 shown-written msf n d j = by-point (is_track (point_at d j))
   where
-    by_number : (b : Bool) → (if b then described_row msf d j else []) ≡ written msf (if b then entry_at d j ∷ [] else [])
+    by_number : (b : Bool) → (choose b then described_row msf d j else []) ≡ written msf (choose b then entry_at d j ∷ [] else [])
     by_number true = sym (append-nil (described_row msf d j))
     by_number false = refl
 
     by-point : (b : Bool)
-        → (if b and leb n (point_at d j) then described_row msf d j else []) ≡ written msf (from n (if b then entry_at d j ∷ [] else []))
+        → (choose b and leb n (point_at d j) then described_row msf d j else []) ≡ written msf (from n (choose b then entry_at d j ∷ [] else []))
     by-point true = by_number (leb n (point_at d j))
     by-point false = refl
 
@@ -50,7 +50,7 @@ shown-entries : (msf : Bool) (n : ℕ) (d : List ℕ) (j : ℕ) → shown_tracks
 unfolding shown_tracks entries from written
 shown-entries msf n d zero = refl
 shown-entries msf n d (suc j) =
-    let here = if is_track (point_at d j) then entry_at d j ∷ [] else [] in
+    let here = choose is_track (point_at d j) then entry_at d j ∷ [] else [] in
     rw (shown-entries msf n d j, shown-written msf n d j)
     (sym (written-append msf (from n (entries d j)) (from n here)) ∙ ap (written msf) (sym (from-append n (entries d j) here)))
 
@@ -81,7 +81,7 @@ each_append (cons p a) b = cons p (each_append a b)
 -- what an address is shown as, before other bytes, tells the address and them
 shown-tells : (msf : Bool) {a b : ℕ} {x y : List ℕ} → a ≤ last_address → b ≤ last_address
     → shown_address msf a ++ x ≡ shown_address msf b ++ y → (a ≡ b) × (x ≡ y)
-unfolding shown_address if◌then◌else◌
+unfolding shown_address choose◌then◌else◌
 shown-tells false {a} {b} p q h =
     let u = bytes32_exact a (omega arith) in
     let v = bytes32_exact b (omega arith) in

@@ -5,7 +5,7 @@ use Rattle.std.proofs.Common.{sym, ap, ◌∙◌, eq-eqb}
 use Rattle.std.proofs.Math.Bool.{true, false, not}
 use native.Mathlib.Omega.{arith}
 use Rattle.std.proofs.lemmas.Bool.{not-true}
-use Rattle.ground.specs.Tests.{◌and◌, if◌then◌else◌, either, and_tail}
+use Rattle.ground.specs.Tests.{◌and◌, choose◌then◌else◌, either, and_tail}
 use Rattle.address.specs.Address.{last}
 use Rattle.attention.specs.declared.sense.Sense.{Sense}
 use Rattle.attention.specs.declared.Unit.{Unit}
@@ -73,7 +73,7 @@ sense_of_known ListField = is_known-at 11
 sense_of_known NoSaving = is_known-at 12
 
 attend_known : (b : Bool) (u : Unit) → is_known u.sense ≡ true → is_known (attend b u).sense ≡ true
-unfolding attend if◌then◌else◌
+unfolding attend choose◌then◌else◌
 attend_known true u h = h
 attend_known false u h = h
 
@@ -85,7 +85,7 @@ module _ {M : Type 0} where
   gate-known : (p c : Bool) (h : Sense) (m : M) (r : Result M) →
       let u : Unit = record { power = p; change = c; sense = h } in
       is_known (gate u m r).unit.sense ≡ true
-  unfolding gate pending_of if◌then◌else◌
+  unfolding gate pending_of choose◌then◌else◌
   gate-known true c h m r = is_known-at 9
   gate-known false true h m r = is_known-at 8
   gate-known false false h m (fails f) = sense_of_known f

@@ -7,7 +7,7 @@ use Rattle.std.proofs.Math.Bool.{true, false}
 use Rattle.std.proofs.lemmas.Bool.{false≢true}
 use mathlib.Core.List.{List}
 use Rattle.std.proofs.Math.Decide.{dec_le, ℕ_discrete}
-use Rattle.ground.specs.Tests.{◌and◌, ◌or◌, if◌then◌else◌, when, unless, either}
+use Rattle.ground.specs.Tests.{◌and◌, ◌or◌, choose◌then◌else◌, when, unless, either}
 use Rattle.attention.specs.declared.Unit.{Unit}
 use Rattle.deck.specs.declared.Deck.{Deck}
 use Rattle.drive.specs.declared.state.Drive.{Drive}
@@ -56,11 +56,11 @@ pub record Free (c : Command) : Type 0 where
   pub needs : (p : List ℕ) → needs_disc c p ≡ false
 
 inquiry-free : Free Inquiry
-unfolding class_of perform ◌and◌ if◌then◌else◌
+unfolding class_of perform ◌and◌ choose◌then◌else◌
 inquiry-free = record { other = refl; passes = λ u m p t l. refl; blind = λ p m t t' l l'. refl; needs = λ p. refl }
 
 get_event-free : Free GetEvent
-unfolding class_of perform ◌and◌ if◌then◌else◌
+unfolding class_of perform ◌and◌ choose◌then◌else◌
 get_event-free = record { other = refl; passes = λ u m p t l. refl; blind = λ p m t t' l l'. refl; needs = λ p. refl }
 
 -- REQUEST SENSE, INQUIRY or 4Ah, or a command that meets the gate
@@ -242,7 +242,7 @@ module _ (m : Deck) where
   unfolding ◌and◌
   get_event-does b1 asked limit = get_event-ways (Does false true m) limit m b1 asked failing (λ full h. by-clearing full (is_clearing full limit) refl)
     where
-      by-clearing : (full : List ℕ) (b : Bool) → is_clearing full limit ≡ b → Does false true m (goes (if is_clearing full limit then with_event m no_event else m) false full limit 0 0)
+      by-clearing : (full : List ℕ) (b : Bool) → is_clearing full limit ≡ b → Does false true m (goes (choose is_clearing full limit then with_event m no_event else m) false full limit 0 0)
       by-clearing full true h = rw (when {A = Deck} _ (with_event m no_event) m h) (clearing h)
       by-clearing full false h = rw (unless {A = Deck} _ (with_event m no_event) m h) (keeping (still m) h)
 

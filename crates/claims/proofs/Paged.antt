@@ -1,6 +1,6 @@
 -- K4 on Disc E: a run of power-on, MODE SENSE and MODE SELECT, each with its marked result and the mode page after it.
 use Rattle.std.specs.Prelude.{ℕ, ◌≡◌, refl, Bool, true, List, [], ◌∷◌}
-use Rattle.ground.specs.Tests.{◌and◌, ◌or◌, if◌then◌else◌, every}
+use Rattle.ground.specs.Tests.{◌and◌, ◌or◌, choose◌then◌else◌, every}
 use Rattle.address.specs.Address.{is_msf}
 use Rattle.deck.specs.declared.Deck.{Deck}
 use Rattle.attention.specs.Sense.{sense_at, same_sense, among, is_known}
@@ -26,5 +26,5 @@ use Rattle.claims.specs.Stepped.{packet, lends, powers, comes, after, Mark, mark
 use Rattle.claims.specs.Paged.{pages, page_marks}
 
 pub paged : all_stepped loaded_e page_marks ≡ true
-unfolding all_stepped pages same_page after comes same_outcome same_bytes ◌and◌ ◌or◌ if◌then◌else◌ every is_msf sense_at same_sense among is_known is_status is_play among_bytes is_setting is_known_state power_on attend is_track is_extra start_of names simple free plain head_a0 head_a1 headed addressed row_test one size listed numbered is_session starts before follows in_place in_order rule1 rule2 each_row rises out_before begins_after rising rule7 first_broken late_rules row_rules fault is_fit pending_of gate decode answering values_of page_shown is_list_length is_page selected mode_select perform refusal_of answer
+unfolding all_stepped pages same_page after comes same_outcome same_bytes ◌and◌ ◌or◌ choose◌then◌else◌ every is_msf sense_at same_sense among is_known is_status is_play among_bytes is_setting is_known_state power_on attend is_track is_extra start_of names simple free plain head_a0 head_a1 headed addressed row_test one size listed numbered is_session starts before follows in_place in_order rule1 rule2 each_row rises out_before begins_after rising rule7 first_broken late_rules row_rules fault is_fit pending_of gate decode answering values_of page_shown is_list_length is_page selected mode_select perform refusal_of answer
 paged = refl

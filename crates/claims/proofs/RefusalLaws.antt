@@ -8,7 +8,7 @@ use Prim.Native.Nat.{ℕ, zero, suc, ◌≤◌, ◌<◌}
 use native.Mathlib.Omega.{arith}
 use Rattle.std.proofs.Math.Decide.{dec_le}
 use Rattle.std.proofs.Math.Dec.{eqb, eqb-suc-zero}
-use Rattle.ground.specs.Tests.{◌and◌, ◌or◌, if◌then◌else◌, unless, either, and_tail, and_both, and_assoc}
+use Rattle.ground.specs.Tests.{◌and◌, ◌or◌, choose◌then◌else◌, unless, either, and_tail, and_both, and_assoc}
 use Rattle.ground.specs.Memory.{fill_none}
 use Rattle.attention.specs.declared.Unit.{Unit}
 use Rattle.deck.specs.declared.Deck.{Deck}
@@ -44,7 +44,7 @@ Numbered n rule r = (r.number ≡ n) × (r.rule ≡ rule)
 gate-numbered : {M : Type 0} (p c : Bool) (h : Sense) (m : M) (r : Result M) →
     let u : Unit = record { power = p; change = c; sense = h } in
     Numbered 0 0 (gate u m r)
-unfolding gate pending_of if◌then◌else◌
+unfolding gate pending_of choose◌then◌else◌
 gate-numbered true c h m r = (refl, refl)
 gate-numbered false true h m r = (refl, refl)
 gate-numbered false false h m (fails f) = (refl, refl)
@@ -78,11 +78,11 @@ meets_unchanged (suc j) rule k d m n = (refl, ap (λ (l : List ℕ). refusing (s
 
 -- what a refused call leaves of the state: a press under refusal 5 changes the event
 abbrev leaves : Call → Drive → Drive
-leaves c d = if is_pressed (event c d) then noting d pressed else d
+leaves c d = choose is_pressed (event c d) then noting d pressed else d
 
 pub call_unchanged : (c : Call) (d : Drive) → ((answer c d).number ≡ 0 → ⊥)
     → (next c d ≡ leaves c d) × (answer c d ≡ refusing (answer c d).number (answer c d).rule (memory_of c))
-unfolding ◌and◌ if◌then◌else◌
+unfolding ◌and◌ choose◌then◌else◌
 call_unchanged (powering f) d n = absurd (n refl)
 call_unchanged pressing d n = (button-refused d n, refl)
 call_unchanged laying d n = (lay-refused d n, refl)
@@ -146,10 +146,10 @@ beside_none four h = record { one = sym h; none = ap not (sym h) }
 -- the number n is 4 where `a` holds and the table is not fit, and the rule is what stands beside n
 module _ (n : ℕ) (t : List ℕ) (a : Bool) (four : eqb n 4 ≡ a and not (is_fit t)) where
   pub rule_with-beside : Beside (eqb n 4) (rule_with n t)
-  unfolding rule_with is_fit if◌then◌else◌ ◌and◌
+  unfolding rule_with is_fit choose◌then◌else◌ ◌and◌
   rule_with-beside = go (eqb n 4) (fault t) four (fault-first t).most
     where
-      go : (b : Bool) (f : ℕ) → b ≡ a and not (eqb f 0) → f ≤ 7 → Beside b (if b then f else 0)
+      go : (b : Bool) (f : ℕ) → b ≡ a and not (eqb f 0) → f ≤ 7 → Beside b (choose b then f else 0)
       go false f e l = record { one = refl; none = refl }
       go true zero e l = absurd (false≢true (and_tail a false (sym e)))
       go true (suc f) e l = record {
@@ -159,10 +159,10 @@ module _ (n : ℕ) (t : List ℕ) (a : Bool) (four : eqb n 4 ≡ a and not (is_f
 
   -- it is i, one of 1 to 7, where the first broken rule is
   rule_with-broken : (i : ℕ) {b : Bool} → eqb 0 i ≡ false → eqb (fault t) i ≡ b → eqb n 4 and eqb (rule_with n t) i ≡ a and b
-  unfolding rule_with is_fit if◌then◌else◌ ◌and◌
+  unfolding rule_with is_fit choose◌then◌else◌ ◌and◌
   rule_with-broken i z e = go (eqb n 4) a (fault t) four ∙ ap (λ (x : Bool). a and x) e
     where
-      go : (b a : Bool) (f : ℕ) → b ≡ a and not (eqb f 0) → b and eqb (if b then f else 0) i ≡ a and eqb f i
+      go : (b a : Bool) (f : ℕ) → b ≡ a and not (eqb f 0) → b and eqb (choose b then f else 0) i ≡ a and eqb f i
       go false false f h = refl
       go false true zero h = sym z
       go false true (suc f) h = absurd (false≢true (h ∙ ap not (eqb-suc-zero f)))
@@ -182,11 +182,11 @@ pub record Ordered (twelve known short unfit : Bool) (n : ℕ) : Type 0 where
 
 module _ (d : Drive) (p t : List ℕ) (n : ℕ) where
   pub refusal-ordered : Ordered (eqb (length p) 12) (is_known_state d) (ltb n bound) (is_loaded d.deck and not (is_fit t)) (refusal_of d p t n)
-  unfolding refusal_of if◌then◌else◌ ◌and◌
+  unfolding refusal_of choose◌then◌else◌ ◌and◌
   refusal-ordered = by_tests (eqb (length p) 12) (is_known_state d) (ltb n bound) (is_loaded d.deck and not (is_fit t))
     where
       by_tests : (twelve known short unfit : Bool)
-          → Ordered twelve known short unfit (if not twelve then 1 else (if not known then 2 else (if short then 3 else (if unfit then 4 else 0))))
+          → Ordered twelve known short unfit (choose not twelve then 1 else (choose not known then 2 else (choose short then 3 else (choose unfit then 4 else 0))))
       by_tests false known short unfit = record { zero = refl; one = refl; two = refl; three = refl; four = refl; most = omega arith }
       by_tests true false short unfit = record { zero = refl; one = refl; two = refl; three = refl; four = refl; most = omega arith }
       by_tests true true true unfit = record { zero = refl; one = refl; two = refl; three = refl; four = refl; most = omega arith }
@@ -321,10 +321,10 @@ pub record Parted (fit there : Bool) (n : ℕ) : Type 0 where
   pub ten : eqb n 10 ≡ fit and not there
 
 pub part_parted : (t : List ℕ) (k : ℕ) → Parted (is_fit t) (leb 1 k and leb k (last_session t)) (part_refused t k).number
-unfolding part_refused part_refusal if◌then◌else◌ ◌and◌
+unfolding part_refused part_refusal choose◌then◌else◌ ◌and◌
 part_parted t k = go (is_fit t) (leb 1 k and leb k (last_session t))
   where
-    go : (fit there : Bool) → Parted fit there (if fit then (if there then 0 else 10) else 4)
+    go : (fit there : Bool) → Parted fit there (choose fit then (choose there then 0 else 10) else 4)
     go false there = record { zero = refl; four = refl; ten = refl }
     go true true = record { zero = refl; four = refl; ten = refl }
     go true false = record { zero = refl; four = refl; ten = refl }
@@ -348,9 +348,9 @@ to_msf_number a = elim (dec_le a last) [
     eight r = eqb r.number 8
 
 pub to_block_number : (m s f : ℕ) → eqb (to_block m s f).number 8 ≡ not (is_msf m s f)
-unfolding to_block if◌then◌else◌
+unfolding to_block choose◌then◌else◌
 to_block_number m s f = go (is_msf m s f)
   where
-    go : (b : Bool) → eqb (number_of (if b then block_at (address_of m s f) else block_refused)) 8 ≡ not b
+    go : (b : Bool) → eqb (number_of (choose b then block_at (address_of m s f) else block_refused)) 8 ≡ not b
     go true = refl
     go false = refl

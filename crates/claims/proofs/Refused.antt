@@ -4,7 +4,7 @@
 use Rattle.std.specs.Prelude.{◌≡◌, Bool, true, false, not, List, [], ℕ, ◌+◌, ◌*◌, ◌≤◌, length, eqb, ltb, leb}
 use Rattle.std.proofs.Math.Path.{refl}
 use Rattle.std.proofs.Common.{arith}
-use Rattle.ground.specs.Tests.{◌and◌, ◌or◌, if◌then◌else◌}
+use Rattle.ground.specs.Tests.{◌and◌, ◌or◌, choose◌then◌else◌}
 use Rattle.address.specs.Address.{to_msf, to_block, is_msf}
 use Rattle.drive.specs.declared.state.Drive.{Drive}
 use Rattle.attention.specs.Sense.{triple, sense_at, is_known}
@@ -39,7 +39,7 @@ pressed_on d = record {
 -- a call with a number other than 0 leaves the state as it was, with this one exception, that a press under refusal 5 changes the event only;
 -- and it answers "status 0, 0 bytes, start 0, count 0" with the memory as it was
 pub refused_unchanged : (c : Call) (d : Drive) → ((answer c d).number ≡ 0 → ⊥)
-    → (next c d ≡ (if is_pressed (event c d) then pressed_on d else d))
+    → (next c d ≡ (choose is_pressed (event c d) then pressed_on d else d))
     × (answer c d ≡ record {
       number = (answer c d).number;
       rule = (answer c d).rule;

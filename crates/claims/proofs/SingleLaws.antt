@@ -3,7 +3,7 @@
 use Rattle.std.specs.Prelude.{◌≡◌, refl, Bool, true, false, List, [], ◌∷◌, ◌++◌, ℕ, zero, suc, ◌+◌, ◌-◌, ◌≤◌, ◌<◌}
 use Rattle.std.proofs.Common.{sym, ap, ◌∙◌, append-nil, append_assoc, arith}
 use Rattle.std.proofs.Math.Decide.{ℕ_discrete}
-use Rattle.ground.specs.Tests.{if◌then◌else◌, either}
+use Rattle.ground.specs.Tests.{choose◌then◌else◌, either}
 use Rattle.table.specs.Layout.{last_session, descriptors, rows, point_at, A0, A1, A2, is_track}
 use Rattle.table.specs.RowLaws.{is_track_true, is_track-over}
 use Rattle.sessions.specs.Session.{first, session}
@@ -37,7 +37,7 @@ entries_front d n zero h = let e : n ≡ 0 = omega arith in ([], rw e)
 entries_front d n (suc m) h = elim (ℕ_discrete n (suc m)) [
   | yes e ↦ ([], rw e (sym (append-nil (entries d (suc m)))))
   | no e ↦ (let r = entries_front d n m (omega arith) in
-      let here = if is_track (point_at d m) then entry_at d m ∷ [] else [] in
+      let here = choose is_track (point_at d m) then entry_at d m ∷ [] else [] in
       (r.0 ++ here, ap (λ (x : List Entry). x ++ here) r.1 ∙ append_assoc (entries d n) r.0 here))
 ]
 
@@ -90,7 +90,7 @@ found_among-append a out (e ∷ x) y u = found_among-append a out x y (next_foun
 -- where every track ends at one lead-out, what is found among the descriptors is found among the tracks
 found-entries : (a : Ask) (d : List ℕ) (out n : ℕ) → ((j : ℕ) → j < n → is_track (point_at d j) ≡ true → out_at d j ≡ out)
     → found a d n ≡ found_among a out (entries d n) no_track
-unfolding found entries found_among if◌then◌else◌
+unfolding found entries found_among choose◌then◌else◌
 found-entries a d out zero f = refl
 found-entries a d out (suc j) f =
     ap (next_found a (track_at d j)) (found-entries a d out j (λ i h. f i (omega arith)))
@@ -98,7 +98,7 @@ found-entries a d out (suc j) f =
     ∙ sym (found_among-append a out (entries d j) _ no_track)
   where
     step : (b : Bool) → is_track (point_at d j) ≡ b → let u = found_among a out (entries d j) no_track in
-        next_found a (track_at d j) u ≡ found_among a out (if b then entry_at d j ∷ [] else []) u
+        next_found a (track_at d j) u ≡ found_among a out (choose b then entry_at d j ∷ [] else []) u
     step true e = ap (λ (x : ℕ). next_found a (track_from x (entry_at d j)) (found_among a out (entries d j) no_track)) (f j (omega arith) e)
     step false e = next_found_on a _ _ (sym (wanted_not a _ _ e))
 
@@ -124,7 +124,7 @@ disc_in c = record {
 first_entry : (d : List ℕ) (n : ℕ) → is_track (point_at d 0) ≡ false → is_track (point_at d 1) ≡ false → is_track (point_at d 2) ≡ false
     → is_track (point_at d 3) ≡ true → 4 ≤ n
     → first_of (entries d n) ≡ entry_at d 3
-unfolding entries if◌then◌else◌
+unfolding entries choose◌then◌else◌
 first_entry d n a b c e l =
     let r = entries_front d 4 n l in
     let four : entries d 4 ≡ entry_at d 3 ∷ [] = rw (a, b, c, e) in

@@ -6,7 +6,7 @@ use Rattle.std.proofs.Common.{◌∙◌, arith, eq-eqb, ne_eqb, le-ltb}
 use Rattle.std.proofs.lemmas.Bool.{false≢true}
 use Prim.Native.Nat.{ℕ, ◌+◌}
 use Rattle.std.proofs.Math.Decide.{ℕ_discrete}
-use Rattle.ground.specs.Tests.{◌and◌, if◌then◌else◌, when, unless, and_both, every-same}
+use Rattle.ground.specs.Tests.{◌and◌, choose◌then◌else◌, when, unless, and_both, every-same}
 use Rattle.attention.specs.Unit.{attend}
 use Rattle.deck.specs.declared.Deck.{Deck}
 use Rattle.deck.specs.Deck.{is_loaded}
@@ -61,7 +61,7 @@ contents-same {t} {u} a b e = record {
 }
   where
     below : ℕ → Track → Track
-    below n w = if ltb n w.out then w else no_track
+    below n w = choose ltb n w.out then w else no_track
 
 module _ {t u : List ℕ} (s : SameNeeds t u) where
   -- READ TOC, but format 2: another format is a fault of any disc
@@ -147,6 +147,6 @@ reply-same d p t u l n s =
 -- of a loaded drive with nothing pending the steps answer it, and cut it at FFFFh bytes
 pub steps-list : (d : Drive) (t l : List ℕ) → is_loaded d.deck ≡ true → any_pending d.unit ≡ false
     → steps_of d list_packet t l ≡ good (track_list t) 0xFFFF 0 0 (clear d.unit) d.deck
-unfolding decode if◌then◌else◌ gate pending_of perform answering toc_bad toc_bytes attend ◌and◌
+unfolding decode choose◌then◌else◌ gate pending_of perform answering toc_bad toc_bytes attend ◌and◌
 steps-list d t l h a =
     rw (h, none-pending power d.unit a, none-pending change d.unit a, le-ltb (disc_of t).last 0 (omega arith))

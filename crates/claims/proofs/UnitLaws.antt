@@ -6,7 +6,7 @@ use Rattle.std.proofs.Math.Bool.{true, false}
 use Rattle.std.proofs.lemmas.Bool.{false≢true}
 use Prim.Native.Nat.{ℕ, zero, suc}
 use Rattle.std.proofs.Math.Dec.{eqb-suc-zero}
-use Rattle.ground.specs.Tests.{◌and◌, ◌or◌, if◌then◌else◌, when, unless}
+use Rattle.ground.specs.Tests.{◌and◌, ◌or◌, choose◌then◌else◌, when, unless}
 use Rattle.attention.specs.declared.sense.Sense.{Sense}
 use Rattle.attention.specs.declared.Unit.{Unit}
 use Rattle.attention.specs.Sense.{sense_at, no_sense, changed, powered, same_sense}
@@ -68,7 +68,7 @@ module _ {M : Type 0} where
 
 -- the answer to a packet that is refused by n where n is not 0
 pub meets_by : {M : Type 0} (n rule : ℕ) (k : Kind M) (u : Unit) (m : M) {r : Reply M} → r ≡ reply k u m
-    → (if eqb n 0 then r else refuse n rule u m) ≡ meets n rule k u m
+    → (choose eqb n 0 then r else refuse n rule u m) ≡ meets n rule k u m
 meets_by zero rule k u m e = when _ _ _ refl ∙ e
 meets_by (suc n) rule k u m e = unless _ _ _ (eqb-suc-zero n)
 
@@ -118,7 +118,7 @@ unmoved change u s = record { turns = refl; due = λ h. absurd (false≢true h);
 
 -- nothing told, perhaps a loading
 pub attended : (a : Attention) (u : Unit) (s : Sense) (b : Bool) → Turn a u false b (attend b (record { power = u.power; change = u.change; sense = s }))
-unfolding ◌and◌ ◌or◌ attend if◌then◌else◌
+unfolding ◌and◌ ◌or◌ attend choose◌then◌else◌
 attended power u s true = record { turns = refl; due = λ h. absurd (false≢true h); apart = λ h. absurd (false≢true h) }
 attended power u s false = record { turns = refl; due = λ h. absurd (false≢true h); apart = λ h. refl }
 attended change u s true = record { turns = refl; due = λ h. absurd (false≢true h); apart = λ h. absurd (false≢true h) }
@@ -129,7 +129,7 @@ tells_first : (a : Attention) (p c : Bool) (h s : Sense) →
     let u : Unit = record { power = p; change = c; sense = h } in
     Turn a u (same_sense (attention_sense (pending_of u)) (triple_of a)) false
     (record { power = (told (pending_of u) u).power; change = (told (pending_of u) u).change; sense = s })
-unfolding ◌and◌ ◌or◌ if◌then◌else◌ pending_of same_sense sense_at
+unfolding ◌and◌ ◌or◌ choose◌then◌else◌ pending_of same_sense sense_at
 tells_first power true c h s = record { turns = refl; due = λ q. refl; apart = λ q. refl }
 tells_first power false true h s = record { turns = refl; due = λ q. q; apart = λ q. refl }
 tells_first power false false h s = record { turns = refl; due = λ q. q; apart = λ q. refl }
@@ -140,7 +140,7 @@ tells_first change false false h s = record { turns = refl; due = λ q. q; apart
 -- REQUEST SENSE
 give-turn : (a : Attention) (u : Unit) (b : Bool) → same_sense u.sense no_sense ≡ b
     → Turn a u (same_sense u.sense no_sense and same_sense (give u).sense (triple_of a)) false (give u).unit
-unfolding ◌and◌ if◌then◌else◌ give
+unfolding ◌and◌ choose◌then◌else◌ give
 give-turn a u true e = rw e (tells_first a u.power u.change u.sense no_sense)
 give-turn a u false e = rw e (unmoved a u no_sense)
 
@@ -168,7 +168,7 @@ module _ {M : Type 0} (loads : Bool → M → Bool) (a : Attention) (memory : Li
   meet-turn : (p c : Bool) (h : Sense) (r : Result M) → loads (is_done r) (next_of m r) ≡ loading_of r → loads false m ≡ false →
       let u : Unit = record { power = p; change = c; sense = h } in
       Turns false u (gate u m r)
-  unfolding ◌and◌ ◌or◌ if◌then◌else◌ gate pending_of
+  unfolding ◌and◌ ◌or◌ choose◌then◌else◌ gate pending_of
   meet-turn true c h r q z = rw (z, or-none) (tells_first a true c h powered)
   meet-turn false true h r q z = rw (z, or-none) (tells_first a false true h changed)
   meet-turn false false h (fails f) q z = fails-turn f _ z
@@ -193,7 +193,7 @@ module _ {M : Type 0} where
   meet-blind : (p c : Bool) (h : Sense) (m : M) (r s : Result M) → p or c ≡ true →
       let u : Unit = record { power = p; change = c; sense = h } in
       gate u m r ≡ gate u m s
-  unfolding ◌or◌ if◌then◌else◌ gate pending_of
+  unfolding ◌or◌ choose◌then◌else◌ gate pending_of
   meet-blind true c h m r s l = refl
   meet-blind false true h m r s l = refl
   meet-blind false false h m r s l = absurd (false≢true l)
@@ -205,7 +205,7 @@ module _ {M : Type 0} where
   meet-blocks : (p c : Bool) (h : Sense) (m : M) (r : Result M) (memory : List ℕ) → p or c ≡ true →
       let u : Unit = record { power = p; change = c; sense = h } in
       is_good (answer_of memory (gate u m r)) ≡ false
-  unfolding ◌or◌ ◌and◌ if◌then◌else◌ gate pending_of
+  unfolding ◌or◌ ◌and◌ choose◌then◌else◌ gate pending_of
   meet-blocks true c h m r memory l = refl
   meet-blocks false true h m r memory l = refl
   meet-blocks false false h m r memory l = absurd (false≢true l)
@@ -256,7 +256,7 @@ module _ {M : Type 0} where
     gate-says : (p c : Bool) (h : Sense) (m : M) (r : Result M) → P false m → P (is_done r) (next_of m r) →
         let u : Unit = record { power = p; change = c; sense = h } in
         Says (gate u m r)
-    unfolding gate pending_of if◌then◌else◌ ◌and◌
+    unfolding gate pending_of choose◌then◌else◌ ◌and◌
     gate-says true c h m r a b = a
     gate-says false true h m r a b = a
     gate-says false false h m (fails f) a b = a

@@ -6,7 +6,7 @@ use Rattle.std.proofs.Common.{ap, true≢false, arith}
 use Rattle.std.proofs.Math.Bool.{true, false}
 use Prim.Native.Nat.{ℕ, zero, suc, ◌≤◌}
 use Rattle.std.proofs.Math.Dec.{eqb-suc-zero}
-use Rattle.ground.specs.Tests.{◌and◌, ◌or◌, if◌then◌else◌, either}
+use Rattle.ground.specs.Tests.{◌and◌, ◌or◌, choose◌then◌else◌, either}
 use Rattle.attention.specs.declared.sense.Sense.{Sense}
 use Rattle.attention.specs.declared.Unit.{Unit}
 use Rattle.deck.specs.declared.Deck.{Deck}
@@ -57,7 +57,7 @@ still_noted : (m : Deck) → NotedOn false m m
 still_noted m = rw (closed_still m, opens_still m) by-none
 
 closing_noted : (m : Deck) → m.tray_open ≡ true → NotedOn false m (closing m).deck
-unfolding ◌and◌ if◌then◌else◌
+unfolding ◌and◌ choose◌then◌else◌
 closing_noted m h = go m.disc_in refl
   where
     go : (b : Bool) → m.disc_in ≡ b → NotedOn false m (closing m).deck
@@ -65,7 +65,7 @@ closing_noted m h = go m.disc_in refl
     go false i = rw (h, i) by-none
 
 opening_noted : (m : Deck) → m.tray_open ≡ false → NotedOn false m (opening m).deck
-unfolding ◌and◌ if◌then◌else◌
+unfolding ◌and◌ choose◌then◌else◌
 opening_noted m h = go m.disc_in refl
   where
     go : (b : Bool) → m.disc_in ≡ b → NotedOn false m (opening m).deck
@@ -112,7 +112,7 @@ module _ (memory : List ℕ) (m : Deck) (trays polls : Bool) where
   gate-noted : (p c : Bool) (h : Sense) (r : Result Deck) → Does trays polls m r →
       let u : Unit = record { power = p; change = c; sense = h } in
       NotedBy polls memory m (gate u m r)
-  unfolding gate pending_of if◌then◌else◌ ◌and◌
+  unfolding gate pending_of choose◌then◌else◌ ◌and◌
   gate-noted true c h r w = stays-noted false false refl
   gate-noted false true h r w = stays-noted false false refl
   gate-noted false false h (fails f) w = stays-noted false false refl

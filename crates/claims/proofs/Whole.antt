@@ -1,7 +1,7 @@
 -- K9: "with a fit table no full answer passes K1's bound, so refusal 3 covers it": every answer comes whole.
 use Rattle.std.specs.Prelude.{ℕ, ◌≤◌, min, ◌≡◌, refl, true, not, List, [], ◌∷◌, ◌++◌, length, take, drop}
 use Rattle.std.proofs.Common.{ap, ◌∙◌, arith, length-take, le-ltb}
-use Rattle.ground.specs.Tests.{◌and◌, ◌or◌, if◌then◌else◌}
+use Rattle.ground.specs.Tests.{◌and◌, ◌or◌, choose◌then◌else◌}
 use Rattle.ground.specs.Memory.{fill_fits}
 use Rattle.deck.specs.declared.Deck.{Deck}
 use Rattle.drive.specs.declared.state.Drive.{Drive}
@@ -59,7 +59,7 @@ answers-whole d p t l m =
 
 -- of a drive "Loaded, nothing pending" the steps answer it whole
 steps_of-whole : (t l : List ℕ) → is_fit t ≡ true → (steps_of loaded_e whole_toc t l).full ≡ format2 (disc_of t) 1 (descriptors t)
-unfolding decode if◌then◌else◌ gate pending_of perform answering toc_bad toc_bytes ◌and◌
+unfolding decode choose◌then◌else◌ gate pending_of perform answering toc_bad toc_bytes ◌and◌
 steps_of-whole t l f = rw (le-ltb (last_session t) 1 (fit-numbered (is_fit_true f)).low)
 
 pub loaded_e_known : is_known_state loaded_e ≡ true

@@ -3,7 +3,7 @@
 -- `(answer c d).number` its number, as in Call.antt.
 use Rattle.std.specs.Prelude.{◌≡◌, refl, true, false, List, [], ◌∷◌, map, ◌↔◌, ℕ, replicate}
 use Rattle.std.proofs.Common.{◌∙◌}
-use Rattle.ground.specs.Tests.{◌or◌, if◌then◌else◌, every, and_tail}
+use Rattle.ground.specs.Tests.{◌or◌, choose◌then◌else◌, every, and_tail}
 use Rattle.address.specs.Address.{is_msf}
 use Rattle.drive.specs.declared.state.Drive.{Drive}
 use Rattle.attention.specs.Sense.{triple, sense_at, same_sense, among, is_known}

@@ -1,7 +1,7 @@
 -- K10, "How much of a disc the track list tells": the track list of a table, the contents that it tells, and the tables that it does
 -- not tell apart.
 use Rattle.std.specs.Prelude.{ℕ, zero, suc, ◌≡◌, Bool, true, false, List, [], ◌∷◌, ◌++◌, leb, eqb}
-use Rattle.ground.specs.Tests.{◌and◌, if◌then◌else◌}
+use Rattle.ground.specs.Tests.{◌and◌, choose◌then◌else◌}
 use Rattle.table.specs.Layout.{last_session, descriptors, rows, flags_at, point_at, is_track}
 use Rattle.table.specs.Row.{address_at}
 use Rattle.disc.specs.Rules.{is_fit}
@@ -47,7 +47,7 @@ entry_at d j = record { flags = flags_at d j; number = point_at d j; start = add
 -- the tracks among the table's first n descriptors
 unfoldable pub entries : List ℕ → ℕ → List Entry
 entries d zero = []
-entries d (suc j) = entries d j ++ (if is_track (point_at d j) then entry_at d j ∷ [] else [])
+entries d (suc j) = entries d j ++ (choose is_track (point_at d j) then entry_at d j ∷ [] else [])
 
 -- the contents of the disc that the table describes
 abbrev pub contents_of : List ℕ → Contents
@@ -64,7 +64,7 @@ contents_of t = record {
 -- the tracks "numbered N or more"
 unfoldable pub from : ℕ → List Entry → List Entry
 from n [] = []
-from n (e ∷ es) = if leb n e.number then e ∷ from n es else from n es
+from n (e ∷ es) = choose leb n e.number then e ∷ from n es else from n es
 
 -- "0, ADR/control, number, 0, address"
 abbrev pub entry_bytes : Bool → Entry → List ℕ

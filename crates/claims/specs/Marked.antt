@@ -1,6 +1,6 @@
 -- "Disc E and its marked results": P1 to P12, "Loaded, nothing pending".
 use Rattle.std.specs.Prelude.{ℕ, ◌≡◌, refl, Bool, true, false, List, [], ◌∷◌, eqb}
-use Rattle.ground.specs.Tests.{◌and◌, ◌or◌, if◌then◌else◌, every}
+use Rattle.ground.specs.Tests.{◌and◌, ◌or◌, choose◌then◌else◌, every}
 use Rattle.address.specs.Address.{is_msf, to_msf, to_block, shown_address}
 use Rattle.attention.specs.declared.sense.Sense.{Sense}
 use Rattle.deck.specs.declared.Deck.{Deck}
@@ -175,5 +175,5 @@ marks =
     ∷ []
 
 pub marked : all_marked marks ≡ true
-unfolding all_marked same_outcome same_bytes asked ◌and◌ ◌or◌ if◌then◌else◌ every is_msf to_msf to_block sense_at same_sense among is_known is_status is_play among_bytes is_setting is_known_state attend is_track is_extra start_of names simple free plain head_a0 head_a1 headed addressed row_test one size listed numbered is_session starts before follows in_place in_order rule1 rule2 each_row rises out_before begins_after rising rule7 first_broken late_rules row_rules fault is_fit next_out out_at covers wanted next_found found track_of is_mode in_mode all_in pending_of gate decode shown_address is_shown shown_track shown_tracks toc_headed format0 toc_bytes toc_bad answering over in_range ranged perform refusal_of answer
+unfolding all_marked same_outcome same_bytes asked ◌and◌ ◌or◌ choose◌then◌else◌ every is_msf to_msf to_block sense_at same_sense among is_known is_status is_play among_bytes is_setting is_known_state attend is_track is_extra start_of names simple free plain head_a0 head_a1 headed addressed row_test one size listed numbered is_session starts before follows in_place in_order rule1 rule2 each_row rises out_before begins_after rising rule7 first_broken late_rules row_rules fault is_fit next_out out_at covers wanted next_found found track_of is_mode in_mode all_in pending_of gate decode shown_address is_shown shown_track shown_tracks toc_headed format0 toc_bytes toc_bad answering over in_range ranged perform refusal_of answer
 marked = refl

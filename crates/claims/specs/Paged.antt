@@ -1,6 +1,6 @@
 -- K4 on Disc E: a run of power-on, MODE SENSE and MODE SELECT, each with its marked result and the mode page after it.
 use Rattle.std.specs.Prelude.{ℕ, ◌≡◌, refl, Bool, true, List, [], ◌∷◌}
-use Rattle.ground.specs.Tests.{◌and◌, ◌or◌, if◌then◌else◌, every}
+use Rattle.ground.specs.Tests.{◌and◌, ◌or◌, choose◌then◌else◌, every}
 use Rattle.address.specs.Address.{is_msf}
 use Rattle.deck.specs.declared.Deck.{Deck}
 use Rattle.attention.specs.Sense.{sense_at, same_sense, among, is_known}

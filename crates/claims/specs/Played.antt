@@ -1,6 +1,6 @@
 -- K2 on Disc E, "Loaded, nothing pending": a run of audio commands and of moving on, each with its marked result and the play record after it.
 use Rattle.std.specs.Prelude.{ℕ, ◌≡◌, refl, Bool, true, List, [], ◌∷◌}
-use Rattle.ground.specs.Tests.{◌and◌, ◌or◌, if◌then◌else◌, every}
+use Rattle.ground.specs.Tests.{◌and◌, ◌or◌, choose◌then◌else◌, every}
 use Rattle.address.specs.Address.{is_msf, to_msf, shown_address}
 use Rattle.deck.specs.declared.Deck.{Deck}
 use Rattle.attention.specs.Sense.{sense_at, same_sense, among, is_known}

@@ -1,7 +1,7 @@
 -- K7 on Disc E: a run of polls, presses, openings and loadings, each with its marked result and the media event after it.
 use Rattle.std.specs.Prelude.{ℕ, ◌≡◌, refl, Bool, true, List, [], ◌∷◌, eqb}
 use Rattle.std.specs.Int.Count.{count_trailing_zeros}
-use Rattle.ground.specs.Tests.{◌and◌, ◌or◌, if◌then◌else◌, every}
+use Rattle.ground.specs.Tests.{◌and◌, ◌or◌, choose◌then◌else◌, every}
 use Rattle.address.specs.Address.{is_msf}
 use Rattle.deck.specs.declared.Deck.{Deck}
 use Rattle.attention.specs.Sense.{triple, sense_at, same_sense, among, is_known}
@@ -84,5 +84,5 @@ poll_marks =
     ∷ []
 
 pub polled : all_stepped loaded_e poll_marks ≡ true
-unfolding all_stepped waits after comes same_outcome same_bytes ◌and◌ ◌or◌ if◌then◌else◌ every is_msf sense_at same_sense among is_known is_status is_play among_bytes is_setting is_known_state power_on button attend is_track is_extra start_of names simple free plain head_a0 head_a1 headed addressed row_test one size listed numbered is_session starts before follows in_place in_order rule1 rule2 each_row rises out_before begins_after rising rule7 first_broken late_rules row_rules fault is_fit pending_of gate decode answering load eject start_stop count_trailing_zeros waiting or_else class_for media_status event_of status_of event_bytes cleared perform refusal_of answer
+unfolding all_stepped waits after comes same_outcome same_bytes ◌and◌ ◌or◌ choose◌then◌else◌ every is_msf sense_at same_sense among is_known is_status is_play among_bytes is_setting is_known_state power_on button attend is_track is_extra start_of names simple free plain head_a0 head_a1 headed addressed row_test one size listed numbered is_session starts before follows in_place in_order rule1 rule2 each_row rises out_before begins_after rising rule7 first_broken late_rules row_rules fault is_fit pending_of gate decode answering load eject start_stop count_trailing_zeros waiting or_else class_for media_status event_of status_of event_bytes cleared perform refusal_of answer
 polled = refl

@@ -4,7 +4,7 @@ use Rattle.std.specs.Prelude.{◌≡◌, refl, Bool, true, false, not, ◌↔◌
 use Rattle.std.proofs.Common.{sym, ap, ◌∙◌, eq-eqb, eqb-true}
 use Rattle.std.proofs.lemmas.Bool.{false≢true, not-true}
 use mathlib.Core.List.{List, [], ◌∷◌, ◌++◌, map, nil≢cons}
-use Rattle.ground.specs.Tests.{◌and◌, ◌or◌, if◌then◌else◌, every, and_head, and_tail, and_both}
+use Rattle.ground.specs.Tests.{◌and◌, ◌or◌, choose◌then◌else◌, every, and_head, and_tail, and_both}
 use Rattle.address.specs.Address.{is_msf, shown_address}
 use Rattle.attention.specs.Sense.{triple, sense_at, same_sense, among, is_known}
 use Rattle.play.specs.Play.{is_status, is_play}
@@ -228,13 +228,13 @@ said_of i = i.said
 
 -- each instance is as it says
 pub needed : map verdict_of instances ≡ map said_of instances
-unfolding without same_outcome same_bytes ◌or◌ if◌then◌else◌ every is_msf sense_at same_sense among is_known is_status is_play among_bytes is_setting is_known_state attend is_track is_extra start_of names simple free plain head_a0 head_a1 headed addressed row_test one size listed numbered is_session starts before follows in_place in_order rule1 rule2 each_row rises out_before begins_after rising rule7 first_broken late_rules row_rules fault is_fit rule_with next_out out_at covers wanted next_found found track_of is_mode in_mode all_in pending_of gate decode shown_address is_shown shown_track shown_tracks toc_headed format0 format1 format2 toc_bytes toc_bad answering over in_range ranged perform refusal_of reply_to
+unfolding without same_outcome same_bytes ◌or◌ choose◌then◌else◌ every is_msf sense_at same_sense among is_known is_status is_play among_bytes is_setting is_known_state attend is_track is_extra start_of names simple free plain head_a0 head_a1 headed addressed row_test one size listed numbered is_session starts before follows in_place in_order rule1 rule2 each_row rises out_before begins_after rising rule7 first_broken late_rules row_rules fault is_fit rule_with next_out out_at covers wanted next_found found track_of is_mode in_mode all_in pending_of gate decode shown_address is_shown shown_track shown_tracks toc_headed format0 format1 format2 toc_bytes toc_bad answering over in_range ranged perform refusal_of reply_to
 needed = refl
 
 -- ---- such tables there are
 
 pub twins_E : Twins table_e twin_e
-unfolding ◌or◌ if◌then◌else◌ every is_msf is_track is_extra start_of names simple free plain head_a0 head_a1 headed addressed row_test one size listed numbered is_session starts follows in_place in_order rule1 rule2 each_row rises begins_after rising rule7 first_broken late_rules row_rules fault is_fit shown_address is_shown shown_track shown_tracks format0
+unfolding ◌or◌ choose◌then◌else◌ every is_msf is_track is_extra start_of names simple free plain head_a0 head_a1 headed addressed row_test one size listed numbered is_session starts follows in_place in_order rule1 rule2 each_row rises begins_after rising rule7 first_broken late_rules row_rules fault is_fit shown_address is_shown shown_track shown_tracks format0
 twins_E = record { table = record { fit = refl; one = refl }; other = record { fit = refl; one = refl }; list = refl }
 
 -- the contents of both
@@ -252,5 +252,5 @@ contents_e = record {
 
 -- as computed; and of the same tracks in two sessions, wherever the first ends
 pub contents_E : map contents_of (table_e ∷ twin_e ∷ sittings 74 ∷ sittings 0 ∷ []) ≡ replicate 4 contents_e
-unfolding entries if◌then◌else◌ ◌and◌ is_track start_of starts size one
+unfolding entries choose◌then◌else◌ ◌and◌ is_track start_of starts size one
 contents_E = refl

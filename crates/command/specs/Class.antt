@@ -1,6 +1,6 @@
 -- K5: "a fixed table of 256 rows, one per code, giving the command's class or "unknown"".
 use Rattle.std.specs.Prelude.{ℕ, Bool, List, [], ◌∷◌, get_or, eqb}
-use Rattle.ground.specs.Tests.{if◌then◌else◌, every}
+use Rattle.ground.specs.Tests.{choose◌then◌else◌, every}
 use Rattle.command.specs.declared.decode.Command.{Command}
 use Rattle.command.specs.declared.decode.Command.TheVariants.{TestUnitReady, RequestSense, Inquiry, StartStop, Prevent, ReadCapacity, Read10, Seek, ReadToc, Read12, PlayAudio, PauseResume, ReadSubChannel, ModeSense, ModeSelect, GetEvent, Unknown}
 use Rattle.command.specs.Command.{decode}
@@ -61,7 +61,7 @@ packets =
 -- the command in a list that has the class; where none has it, "unknown"
 unfoldable pub with_class : List Command → ℕ → Command
 with_class [] class = Unknown
-with_class (c ∷ commands) class = if eqb class (class_of c) then c else with_class commands class
+with_class (c ∷ commands) class = choose eqb class (class_of c) then c else with_class commands class
 
 -- the command that a class stands for
 abbrev pub command_of : ℕ → Command

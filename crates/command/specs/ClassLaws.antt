@@ -2,7 +2,7 @@
 use Rattle.std.specs.Prelude.{◌≡◌, refl, Bool, true, false, List, ◌⊎◌, ℕ, ◌<◌, eqb}
 use Rattle.std.proofs.Common.{sym, ap, ◌∙◌, inl, inr, ⊎_elim, eq-eqb, ne_eqb, eqb-true}
 use Rattle.std.proofs.lemmas.Bool.{false≢true}
-use Rattle.ground.specs.Tests.{if◌then◌else◌, either, every-at}
+use Rattle.ground.specs.Tests.{choose◌then◌else◌, either, every-at}
 use Rattle.command.specs.declared.decode.Command.{Command}
 use Rattle.command.specs.declared.decode.Command.TheVariants.{TestUnitReady, RequestSense, Inquiry, StartStop, Prevent, ReadCapacity, Read10, Seek, ReadToc, Read12, PlayAudio, PauseResume, ReadSubChannel, ModeSense, ModeSelect, GetEvent, Unknown}
 use Rattle.command.specs.Command.{decode}
@@ -15,7 +15,7 @@ row_at_ruled rows h code l = eqb-true _ _ (every-at _ _ h code l)
 
 -- a command's class stands for that command
 pub command_of_class : (c : Command) → command_of (class_of c) ≡ c
-unfolding with_class class_of if◌then◌else◌
+unfolding with_class class_of choose◌then◌else◌
 command_of_class Unknown = refl
 command_of_class TestUnitReady = refl
 command_of_class RequestSense = refl
@@ -57,7 +57,7 @@ code_for ModeSelect = 0x55
 code_for GetEvent = 0x4A
 
 decode-code_for : (c : Command) → decode (code_for c) ≡ c
-unfolding decode if◌then◌else◌
+unfolding decode choose◌then◌else◌
 decode-code_for Unknown = refl
 decode-code_for TestUnitReady = refl
 decode-code_for RequestSense = refl

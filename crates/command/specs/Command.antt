@@ -1,6 +1,6 @@
 -- The packets, by operation code, and the fields that stand in them (those of READ TOC and READ SUB-CHANNEL with their answers).
 use Rattle.std.specs.Prelude.{ℕ, ◌+◌, ◌/◌, ◌%◌, Bool, true, false, not, List, get_or, eqb}
-use Rattle.ground.specs.Tests.{◌and◌, if◌then◌else◌}
+use Rattle.ground.specs.Tests.{◌and◌, choose◌then◌else◌}
 use Rattle.ground.specs.Number.{word16, word32}
 use Rattle.command.specs.declared.decode.Command.{Command}
 use Rattle.command.specs.declared.decode.Kind.{Kind}
@@ -12,22 +12,22 @@ use Rattle.command.specs.declared.decode.Command.TheVariants.{TestUnitReady, Req
 -- and MODE SELECT(10) 55h"; K7: "GET EVENT STATUS NOTIFICATION 4Ah"
 unfoldable pub decode : ℕ → Command
 decode code =
-    if eqb code 0x00 then TestUnitReady else (
-    if eqb code 0x03 then RequestSense else (
-    if eqb code 0x12 then Inquiry else (
-    if eqb code 0x1B then StartStop else (
-    if eqb code 0x1E then Prevent else (
-    if eqb code 0x25 then ReadCapacity else (
-    if eqb code 0x28 then Read10 else (
-    if eqb code 0x2B then Seek else (
-    if eqb code 0x43 then ReadToc else (
-    if eqb code 0xA8 then Read12 else (
-    if eqb code 0x45 then PlayAudio else (
-    if eqb code 0x4B then PauseResume else (
-    if eqb code 0x42 then ReadSubChannel else (
-    if eqb code 0x5A then ModeSense else (
-    if eqb code 0x55 then ModeSelect else (
-    if eqb code 0x4A then GetEvent else Unknown)))))))))))))))
+    choose eqb code 0x00 then TestUnitReady else (
+    choose eqb code 0x03 then RequestSense else (
+    choose eqb code 0x12 then Inquiry else (
+    choose eqb code 0x1B then StartStop else (
+    choose eqb code 0x1E then Prevent else (
+    choose eqb code 0x25 then ReadCapacity else (
+    choose eqb code 0x28 then Read10 else (
+    choose eqb code 0x2B then Seek else (
+    choose eqb code 0x43 then ReadToc else (
+    choose eqb code 0xA8 then Read12 else (
+    choose eqb code 0x45 then PlayAudio else (
+    choose eqb code 0x4B then PauseResume else (
+    choose eqb code 0x42 then ReadSubChannel else (
+    choose eqb code 0x5A then ModeSense else (
+    choose eqb code 0x55 then ModeSelect else (
+    choose eqb code 0x4A then GetEvent else Unknown)))))))))))))))
 
 -- byte k of a packet, and the numbers that stand in it
 abbrev pub byte : List ℕ → ℕ → ℕ

@@ -1,6 +1,6 @@
 -- What a command comes to: with no answer, or with one; and what the code hands back of it.
 use Rattle.std.specs.Prelude.{ℕ, min, ◌≡◌, Bool, true, false, List, [], length}
-use Rattle.ground.specs.Tests.{if◌then◌else◌, when, unless}
+use Rattle.ground.specs.Tests.{choose◌then◌else◌, when, unless}
 use Rattle.deck.specs.declared.Deck.{Deck}
 use Rattle.gate.specs.declared.fault.Fault.TheVariants.{BadField}
 use Rattle.gate.specs.Gate.{Result, fails, goes}
@@ -13,7 +13,7 @@ done m = goes m false [] 0 0 0
 
 -- a command with an answer: a field in the packet is bad, 05/24/00, or the full answer is given, `limit` bytes of it being asked for
 unfoldable pub answering : Bool → Deck → List ℕ → ℕ → Result Deck
-answering bad next full limit = if bad then fails BadField else goes next false full limit 0 0
+answering bad next full limit = choose bad then fails BadField else goes next false full limit 0 0
 
 module _ (next : Deck) (full : List ℕ) (limit : ℕ) where
   pub answering-fails : {bad : Bool} → bad ≡ true → answering bad next full limit ≡ fails BadField

@@ -1,7 +1,7 @@
 -- The samples that MMC prints and many ways to miss a described sheet give their numbers, one statement over one list, and the sheet of disc E
 -- gives Table E: closed by computation.
 use Rattle.std.specs.Prelude.{◌≡◌, refl, Bool, true, List, [], ◌∷◌, ◌++◌, ℕ, eqb}
-use Rattle.ground.specs.Tests.{◌and◌, ◌or◌, every, if◌then◌else◌}
+use Rattle.ground.specs.Tests.{◌and◌, ◌or◌, every, choose◌then◌else◌}
 use Rattle.address.specs.Address.{is_msf}
 use Rattle.table.specs.Layout.{bound, is_track, is_extra}
 use Rattle.table.specs.Row.{start_of, names, simple, free, plain, head_a0, head_a1, headed, addressed, row_test}
@@ -163,5 +163,5 @@ tested (c ∷ cs) = eqb (answer c.sheet c.memory).number c.number and tested cs
 
 -- the numbers, and Table E byte by byte
 pub examples-tested : (tested cases ≡ true) × ((answer sheet_e bound).bytes ≡ table_e)
-unfolding tested ◌and◌ ◌or◌ every if◌then◌else◌ is_msf is_track is_extra start_of names simple free plain head_a0 head_a1 headed addressed row_test one size listed numbered is_session starts before follows in_place in_order rule1 rule2 each_row rises out_before begins_after rising rule7 first_broken late_rules row_rules fault is_fit is_lead_in is_lead_out begun tracks_in first_of last_from last_of is_framed has_adr every_adr follows_from Sheet.follows is_numbered is_described rows_of body_of table_with hand_out whole_answer answer
+unfolding tested ◌and◌ ◌or◌ every choose◌then◌else◌ is_msf is_track is_extra start_of names simple free plain head_a0 head_a1 headed addressed row_test one size listed numbered is_session starts before follows in_place in_order rule1 rule2 each_row rises out_before begins_after rising rule7 first_broken late_rules row_rules fault is_fit is_lead_in is_lead_out begun tracks_in first_of last_from last_of is_framed has_adr every_adr follows_from Sheet.follows is_numbered is_described rows_of body_of table_with hand_out whole_answer answer
 examples-tested = (refl, refl)

@@ -1,6 +1,6 @@
 -- K12: what a table of one session holds of "tracks, controls and addresses", read off its descriptors.
 use Rattle.std.specs.Prelude.{◌≡◌, true, List, [], ◌∷◌, ◌++◌, ℕ, zero, suc, ◌<◌, get_or}
-use Rattle.ground.specs.Tests.{if◌then◌else◌}
+use Rattle.ground.specs.Tests.{choose◌then◌else◌}
 use Rattle.table.specs.Layout.{last_session, descriptors, rows, flags_at, point_at, pmin_at, psec_at, pframe_at, is_track}
 use Rattle.disc.specs.Rules.{is_fit}
 use Rattle.cue.specs.declared.entry.Track.{Track}
@@ -17,7 +17,7 @@ track_at d j = placed_at d j (point_at d j)
 -- the tracks among the first j descriptors
 unfoldable pub held_in : List ℕ → ℕ → List Track
 held_in d zero = []
-held_in d (suc j) = held_in d j ++ (if is_track (point_at d j) then track_at d j ∷ [] else [])
+held_in d (suc j) = held_in d j ++ (choose is_track (point_at d j) then track_at d j ∷ [] else [])
 
 -- of the whole table
 abbrev pub held_tracks : List ℕ → List Track

@@ -1,7 +1,7 @@
 -- The laws of the table made: its parts one after the other.
 use Rattle.std.specs.Prelude.{◌≡◌, refl, Bool, true, false, List, [], ◌∷◌, ◌++◌, ℕ, ◌+◌, ◌*◌, ◌≤◌, eqb, length, take}
 use Rattle.std.proofs.Common.{sym, ap, ◌∙◌, arith}
-use Rattle.ground.specs.Tests.{if◌then◌else◌}
+use Rattle.ground.specs.Tests.{choose◌then◌else◌}
 use Rattle.ground.specs.Number.{bytes16}
 use Rattle.ground.specs.Memory.{Laid, laid_fits}
 use Rattle.table.specs.Layout.{bound, A0, A1, A2}
@@ -17,13 +17,13 @@ use Rattle.cue.specs.Made.{head_row, placed_row, rows_of, body_of, table_with}
 
 -- what is written for an entry
 unfoldable pub shown_entry : Entry → List ℕ
-shown_entry e = if eqb e.index 1 then placed_row e.track.number e.track else []
+shown_entry e = choose eqb e.index 1 then placed_row e.track.number e.track else []
 
 shown_entry-begun : (e : Entry) → rows_of (begun e) ≡ shown_entry e
-unfolding rows_of shown_entry begun if◌then◌else◌
+unfolding rows_of shown_entry begun choose◌then◌else◌
 shown_entry-begun e = step (eqb e.index 1)
   where
-    step : (b : Bool) → rows_of (if b then e.track ∷ [] else []) ≡ (if b then placed_row e.track.number e.track else [])
+    step : (b : Bool) → rows_of (choose b then e.track ∷ [] else []) ≡ (choose b then placed_row e.track.number e.track else [])
     step true = refl
     step false = refl
 

@@ -1,6 +1,6 @@
 -- K12, "Masters arrive as cue sheets": the entries of a sheet, its tracks and its lead-out, and what a described sheet is.
 use Rattle.std.specs.Prelude.{ℕ, zero, suc, ◌+◌, ◌-◌, ◌*◌, ◌/◌, ◌%◌, Bool, true, List, [], ◌∷◌, ◌++◌, length, get_or, leb, eqb}
-use Rattle.ground.specs.Tests.{◌and◌, every, if◌then◌else◌}
+use Rattle.ground.specs.Tests.{◌and◌, every, choose◌then◌else◌}
 use Rattle.cue.specs.declared.entry.Track.{Track}
 use Rattle.cue.specs.declared.entry.Entry.{Entry}
 
@@ -54,7 +54,7 @@ lead_out_of s = (entry_at s (entries s - 1)).track
 
 -- "index 1 of each track"; "other indexes are passed over": what begins at an entry
 unfoldable pub begun : Entry → List Track
-begun e = if eqb e.index 1 then e.track ∷ [] else []
+begun e = choose eqb e.index 1 then e.track ∷ [] else []
 
 -- "between": the tracks of the first j entries behind the lead-in
 unfoldable pub tracks_in : List ℕ → ℕ → List Track

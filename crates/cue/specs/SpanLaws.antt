@@ -1,7 +1,7 @@
 -- The tracks of a sheet gone over entry by entry: the first, the last, and whether each number is one more than the one before.
 use Rattle.std.specs.Prelude.{◌≡◌, refl, Bool, true, false, List, [], ◌∷◌, ◌++◌, ℕ, ◌+◌, ◌-◌, ◌≤◌, leb, eqb, length}
 use Rattle.std.proofs.Common.{sym, ap, ◌∙◌, append-nil, arith}
-use Rattle.ground.specs.Tests.{◌and◌, if◌then◌else◌, and_assoc}
+use Rattle.ground.specs.Tests.{◌and◌, choose◌then◌else◌, and_assoc}
 use Rattle.cue.specs.declared.entry.Track.{Track}
 use Rattle.cue.specs.declared.entry.Entry.{Entry}
 use Rattle.cue.specs.declared.sheet.Span.{Span}
@@ -18,11 +18,11 @@ is_next p t = p.follows and eqb t.number (p.last.number + 1)
 
 unfoldable pub with_track : Span → Track → Span
 with_track p t =
-    if p.any then record { any = true; first = p.first; last = t; follows = is_next p t }
+    choose p.any then record { any = true; first = p.first; last = t; follows = is_next p t }
     else record { any = true; first = t; last = t; follows = true }
 
 unfoldable pub with_entry : Span → Entry → Span
-with_entry p e = if eqb e.index 1 then with_track p e.track else p
+with_entry p e = choose eqb e.index 1 then with_track p e.track else p
 
 unfoldable pub is_run : Span → Bool
 is_run p = leb 1 p.first.number and leb p.last.number 99 and p.follows
@@ -52,7 +52,7 @@ follows_from_more t (v ∷ us) u =
     ap (λ (b : Bool). eqb v.number (t.number + 1) and b) (follows_from_more v us u) ∙ sym (and_assoc _ _ _)
 
 span_of_more : (ts : List Track) (t : Track) → span_of (ts ++ t ∷ []) ≡ with_track (span_of ts) t
-unfolding span_of with_track is_next if◌then◌else◌ last_from follows_from
+unfolding span_of with_track is_next choose◌then◌else◌ last_from follows_from
 span_of_more [] t = refl
 span_of_more (u ∷ ts) t = rw (last_from_more u ts t, follows_from_more u ts t)
 
@@ -63,10 +63,10 @@ unfolding span_of tracks_in
 span_of-none s = refl
 
 span_of-begun : (ts : List Track) (e : Entry) → span_of (ts ++ begun e) ≡ with_entry (span_of ts) e
-unfolding with_entry begun if◌then◌else◌
+unfolding with_entry begun choose◌then◌else◌
 span_of-begun ts e = step (eqb e.index 1)
   where
-    step : (b : Bool) → span_of (ts ++ (if b then e.track ∷ [] else [])) ≡ (if b then with_track (span_of ts) e.track else span_of ts)
+    step : (b : Bool) → span_of (ts ++ (choose b then e.track ∷ [] else [])) ≡ (choose b then with_track (span_of ts) e.track else span_of ts)
     step true = span_of_more ts e.track
     step false = ap span_of (append-nil ts)
 

@@ -1,6 +1,6 @@
 -- K12: "Turn a one-session sheet into a disc table": how a sheet is answered, and what the output memory then holds.
 use Rattle.std.specs.Prelude.{◌≡◌, List, [], ℕ, ◌%◌, length, ltb, eqb}
-use Rattle.ground.specs.Tests.{if◌then◌else◌}
+use Rattle.ground.specs.Tests.{choose◌then◌else◌}
 use Rattle.ground.specs.Memory.{fill}
 use Rattle.table.specs.Layout.{bound}
 use Rattle.disc.specs.Rules.{is_fit}
@@ -28,16 +28,16 @@ no_room = 14
 
 -- "The written table is fit"
 unfoldable pub hand_out : List ℕ → Answer
-hand_out t = if is_fit t then record { number = 0; bytes = t } else refuse no_table
+hand_out t = choose is_fit t then record { number = 0; bytes = t } else refuse no_table
 
 -- "no fit table has those tracks, controls and addresses or the entries aren't as described here": of a sheet of whole entries
 unfoldable pub whole_answer : List ℕ → Answer
-whole_answer s = if is_described s then hand_out (table_of s) else refuse no_table
+whole_answer s = choose is_described s then hand_out (table_of s) else refuse no_table
 
 -- "Refusals, in order of test: 14 .., 12 .., 13 ..": of a sheet and the length of the output memory
 unfoldable pub answer : List ℕ → ℕ → Answer
 answer s m =
-    if ltb m bound then refuse no_room else (if eqb (length s % entry_size) 0 then whole_answer s else refuse not_whole)
+    choose ltb m bound then refuse no_room else (choose eqb (length s % entry_size) 0 then whole_answer s else refuse not_whole)
 
 -- what the call hands back
 abbrev pub written_of : Answer → Written

@@ -1,6 +1,6 @@
 -- The deck: what stands in a state beside the attention unit.
 use Rattle.std.specs.Prelude.{ℕ, Bool, true, false, not, leb}
-use Rattle.ground.specs.Tests.{◌and◌, if◌then◌else◌}
+use Rattle.ground.specs.Tests.{◌and◌, choose◌then◌else◌}
 use Rattle.deck.specs.declared.Deck.{Deck}
 use Rattle.deck.specs.declared.Shifted.{Shifted}
 use Rattle.play.specs.declared.Play.{Play}
@@ -31,7 +31,7 @@ is_loaded m = not m.tray_open and m.disc_in
 
 -- K7: "2 loading, 3 opening with a disc": the event after the tray moved, which without a disc stays
 abbrev pub event_moved : Deck → ℕ → ℕ
-event_moved m e = if m.disc_in then e else m.event
+event_moved m e = choose m.disc_in then e else m.event
 
 -- the tray opens, by button or packet: no loading; K2: "opening set 15h, position 0 and end 0", with no disc in too; K7: "3 opening with a
 -- disc"
@@ -50,7 +50,7 @@ opening m = record {
 
 -- K2: "loading .. set 15h, position 0 and end 0": the record after a closing, which without a disc is no loading
 abbrev pub closed_play : Deck → Play
-closed_play m = if m.disc_in then no_play else m.play
+closed_play m = choose m.disc_in then no_play else m.play
 
 -- the tray closes, by button or packet: "Loading is any closing of the tray .. with a disc in"; K7: "2 loading"
 abbrev pub closing : Deck → Shifted

@@ -1,6 +1,6 @@
 -- What commands need of a fit table.
 use Rattle.std.specs.Prelude.{ℕ, ◌-◌, List}
-use Rattle.ground.specs.Tests.{if◌then◌else◌}
+use Rattle.ground.specs.Tests.{choose◌then◌else◌}
 use Rattle.table.specs.Layout.{last_session, descriptors, flags_at, point_at}
 use Rattle.table.specs.Row.{address_at}
 use Rattle.sessions.specs.Session.{first, last, session}
@@ -33,4 +33,4 @@ disc_of t = disc_from (last_session t) (descriptors t)
 
 -- a lent table is read: the disc of a fit one, else the number of the first broken rule
 unfoldable pub reading : List ℕ → Reading
-reading t = if is_fit t then Fit (disc_of t) else Unfit (fault t)
+reading t = choose is_fit t then Fit (disc_of t) else Unfit (fault t)

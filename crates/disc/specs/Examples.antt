@@ -1,7 +1,7 @@
 -- Table E of 01 and discs of several sittings are fit, and each way to break a rule of one gives that rule's number: one statement over one
 -- list, closed by computation.
 use Rattle.std.specs.Prelude.{◌≡◌, refl, Bool, true, List, [], ◌∷◌, ◌++◌, ℕ, zero, suc, ◌+◌, ◌*◌, ◌/◌, ◌%◌, length, take, set, replicate, eqb}
-use Rattle.ground.specs.Tests.{◌and◌, ◌or◌, every, if◌then◌else◌}
+use Rattle.ground.specs.Tests.{◌and◌, ◌or◌, every, choose◌then◌else◌}
 use Rattle.address.specs.Address.{is_msf, minute_of, second_of, frame_of}
 use Rattle.table.specs.Layout.{is_track, is_extra, A0, A1, A2, B0, C0}
 use Rattle.table.specs.Row.{start_of, names, simple, free, plain, head_a0, head_a1, headed, addressed, row_test}
@@ -196,5 +196,5 @@ tested [] = true
 tested (c ∷ cs) = eqb (fault c.table) c.rule and tested cs
 
 pub examples-tested : tested cases ≡ true
-unfolding tested ◌and◌ ◌or◌ every if◌then◌else◌ is_msf is_track is_extra start_of names simple free plain head_a0 head_a1 headed addressed row_test one size listed numbered is_session starts before follows in_place in_order rule1 rule2 each_row rises out_before begins_after rising rule7 first_broken late_rules row_rules fault chain
+unfolding tested ◌and◌ ◌or◌ every choose◌then◌else◌ is_msf is_track is_extra start_of names simple free plain head_a0 head_a1 headed addressed row_test one size listed numbered is_session starts before follows in_place in_order rule1 rule2 each_row rises out_before begins_after rising rule7 first_broken late_rules row_rules fault chain
 examples-tested = refl

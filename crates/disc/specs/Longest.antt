@@ -8,7 +8,7 @@ use Prim.Native.Nat.{ℕ, zero, suc, ◌+◌, ◌-◌, ◌*◌, ◌%◌, ◌≤�
 use native.Mathlib.Omega.{arith}
 use borrow.Author.Tests.{le-leb, eq-eqb}
 use Rattle.std.proofs.Math.ListN.{drop}
-use Rattle.ground.specs.Tests.{◌and◌, ◌or◌, if◌then◌else◌, and_both, every-none, every_more, every-all}
+use Rattle.ground.specs.Tests.{◌and◌, ◌or◌, choose◌then◌else◌, and_both, every-none, every_more, every-all}
 use Rattle.table.specs.Layout.{bound, header, row, data_length, point_at, A0, A1, A2, B0, C0}
 use Rattle.table.specs.Row.{row_at, frames_of, names, simple, free, head_a0, head_a1}
 use Rattle.table.specs.Asked.{kept, a0_kept, a1_kept, extra_kept, extra_passed, climbs, holds}
@@ -71,7 +71,7 @@ module _ (k : ℕ) (rest : List ℕ) where
   sitting-heads = rw (eq-eqb k k refl)
 
   extras-passed : (extra_passed (row_at s 4) k B0 ≡ true) × (extra_passed (row_at s 5) k C0 ≡ true)
-  unfolding extra_passed extra_kept free ◌and◌ if◌then◌else◌
+  unfolding extra_passed extra_kept free ◌and◌ choose◌then◌else◌
   extras-passed = (rw (eq-eqb k k refl), rw (eq-eqb k k refl))
 
   sitting-extras : extras_kept s k ≡ true

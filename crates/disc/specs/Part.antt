@@ -1,7 +1,7 @@
 -- "A caller may ask for a session: its descriptors are shown as that part of the lent table itself, uncopied."
 use Rattle.std.specs.Prelude.{◌≡◌, ℕ, ◌+◌, ◌-◌, List, take, drop, leb, eqb}
 use Rattle.std.specs.Borrow.{Bor}
-use Rattle.ground.specs.Tests.{◌and◌, if◌then◌else◌}
+use Rattle.ground.specs.Tests.{◌and◌, choose◌then◌else◌}
 use Rattle.table.specs.Layout.{header, descriptors, last_session}
 use Rattle.sessions.specs.Session.{size, starts, session}
 use Rattle.disc.specs.Rules.{fault, is_fit}
@@ -15,11 +15,11 @@ no_session = 10
 
 -- "The session part tests fitness (4, empty part) before 10": 10 where "a session asked for is 0 or over S"
 unfoldable pub part_refusal : List ℕ → ℕ → ℕ
-part_refusal t k = if is_fit t then (if leb 1 k and leb k (last_session t) then 0 else no_session) else unfit
+part_refusal t k = choose is_fit t then (choose leb 1 k and leb k (last_session t) then 0 else no_session) else unfit
 
 -- K6: "Refusal 4 carries that number": the first broken rule of the table beside 4, and 0 beside every other number
 unfoldable pub rule_with : ℕ → List ℕ → ℕ
-rule_with number t = if eqb number unfit then fault t else 0
+rule_with number t = choose eqb number unfit then fault t else 0
 
 -- a number and the rule beside it
 abbrev pub refusal_with : ℕ → ℕ → Refusal
@@ -31,10 +31,10 @@ part_refused t k = refusal_with (part_refusal t k) (rule_with (part_refusal t k)
 
 -- where the part begins and how long it is: exactly the session's descriptors, or empty at 0
 unfoldable pub part_start : List ℕ → ℕ → ℕ
-part_start t k = if eqb (part_refusal t k) 0 then header + starts (descriptors t) (k - 1) else 0
+part_start t k = choose eqb (part_refusal t k) 0 then header + starts (descriptors t) (k - 1) else 0
 
 unfoldable pub part_size : List ℕ → ℕ → ℕ
-part_size t k = if eqb (part_refusal t k) 0 then size (session (descriptors t) (k - 1)) else 0
+part_size t k = choose eqb (part_refusal t k) 0 then size (session (descriptors t) (k - 1)) else 0
 
 -- r is the part of s that begins at `at` and is n long: the same place in memory, the bytes uncopied
 pub record PartOf (s r : Bor (List ℕ)) (at n : ℕ) : Type 0 where

@@ -1,6 +1,6 @@
 -- What one walk over the descriptors asks of each, in the order in which it passes them: WalkFit shows that this is fitness.
 use Rattle.std.specs.Prelude.{ℕ, zero, suc, ◌+◌, ◌*◌, Bool, List, length, leb, eqb}
-use Rattle.ground.specs.Tests.{◌and◌, every, if◌then◌else◌}
+use Rattle.ground.specs.Tests.{◌and◌, every, choose◌then◌else◌}
 use Rattle.table.specs.Layout.{row, A2, B0, C0}
 use Rattle.table.specs.Row.{row_from, row_at, frames_at}
 use Rattle.table.specs.Asked.{kept, a0_kept, a1_kept, extra_kept, extra_passed, climbs, holds}
@@ -29,7 +29,7 @@ tracks_kept d k f n floor = every n (track_kept d k f floor) and holds (row_at d
 
 -- where the tracks end; 0 where they are not kept
 unfoldable pub tracks_end : List ℕ → ℕ → ℕ → ℕ → ℕ → ℕ
-tracks_end d k f n floor = if tracks_kept d k f n floor then row * (3 + n) else 0
+tracks_end d k f n floor = choose tracks_kept d k f n floor then row * (3 + n) else 0
 
 -- all that is asked of the B0h and the C0h that may stand past the tracks
 unfoldable pub extras_kept : List ℕ → ℕ → Bool
@@ -43,15 +43,15 @@ session_kept k d floor =
 
 -- where a descriptor with POINT p ends that may stand at byte `at`: past it if it is kept, there if there is none, 0 if it is not kept
 unfoldable pub extra_end : List ℕ → ℕ → ℕ → ℕ → ℕ
-extra_end d k at p = if eqb (row_from d at).point p then (if extra_kept (row_from d at) k then at + row else 0) else at
+extra_end d k at p = choose eqb (row_from d at).point p then (choose extra_kept (row_from d at) k then at + row else 0) else at
 
 -- where a B0h and then a C0h end
 unfoldable pub extras_end : List ℕ → ℕ → ℕ → ℕ
-extras_end d k at = if eqb (extra_end d k at B0) 0 then 0 else extra_end d k (extra_end d k at B0) C0
+extras_end d k at = choose eqb (extra_end d k at B0) 0 then 0 else extra_end d k (extra_end d k at B0) C0
 
 -- where the session ends that d begins with: 0 where it is not kept, or does not begin with track `next`
 unfoldable pub session_end : ℕ → List ℕ → ℕ → ℕ → ℕ
-session_end k d next floor = if session_kept k d floor and eqb (first d) next then size d else 0
+session_end k d next floor = choose session_kept k d floor and eqb (first d) next then size d else 0
 
 -- the least frame at which the session after k others may start: past the lead-out before it, and 00:02:00 where there is none
 unfoldable pub floor_of : List ℕ → ℕ → ℕ
@@ -73,4 +73,4 @@ walk_kept n d = every n (step_kept d) and eqb (starts d n) (length d)
 
 -- what the walk over the descriptors of n sessions answers: their disc, or the first broken rule of 3 to 7
 unfoldable pub rows_reading : ℕ → List ℕ → Reading
-rows_reading n d = if walk_kept n d then Fit (disc_from n d) else Unfit (first_broken 3 (row_rules n d))
+rows_reading n d = choose walk_kept n d then Fit (disc_from n d) else Unfit (first_broken 3 (row_rules n d))

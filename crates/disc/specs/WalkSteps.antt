@@ -5,7 +5,7 @@ use Rattle.std.proofs.Common.{◌∙◌, add-one, add-zero, le-leb, eq-eqb, eqb-
 use native.Mathlib.Omega.{arith}
 use Rattle.std.proofs.Math.Decide.{ℕ_discrete}
 use Rattle.std.proofs.Math.ListN.{get_or-eq_default}
-use Rattle.ground.specs.Tests.{◌and◌, if◌then◌else◌, when, unless, every, and_on, and_off, and_late, and_both, and_head, and_tail, and_with, every-none, every_more, every-breaks}
+use Rattle.ground.specs.Tests.{◌and◌, choose◌then◌else◌, when, unless, every, and_on, and_off, and_late, and_both, and_head, and_tail, and_with, every-none, every_more, every-breaks}
 use Rattle.table.specs.Layout.{row, point_at, B0, C0}
 use Rattle.table.specs.Row.{row_from, row_at, frames_of, frames_at, names}
 use Rattle.table.specs.RowLaws.{start_of-frames}
@@ -91,20 +91,20 @@ module _ {d : List ℕ} {k f l floor p at low : ℕ} (c : Climbed d k f l floor 
       (λ e. let z = get_or-eq_default d 0 {n = at} w in omega arith))))))
 
   -- all are passed: what is left to test is the lead-out
-  pub climbed-end : l < p → {b : Bool} → holds (row_at d 2) low ≡ b → (if b then at else 0) ≡ tracks_end d k f (l + 1 - f) floor
+  pub climbed-end : l < p → {b : Bool} → holds (row_at d 2) low ≡ b → (choose b then at else 0) ≡ tracks_end d k f (l + 1 - f) floor
   unfolding tracks_end tracks_kept
   climbed-end i {b} h =
       let t = c.turns in
       let n : p - f ≡ l + 1 - f = omega arith in
-      ap (λ (x : Bool). if x then at else 0) (sym h ∙ and_on _ _ (rw n at c.passed) (rw (c.least, n)))
-      ∙ ap (λ (x : ℕ). if tracks_kept d k f (l + 1 - f) floor then x else 0) (c.place ∙ ap (λ (x : ℕ). row * (3 + x)) n)
+      ap (λ (x : Bool). choose x then at else 0) (sym h ∙ and_on _ _ (rw n at c.passed) (rw (c.least, n)))
+      ∙ ap (λ (x : ℕ). choose tracks_kept d k f (l + 1 - f) floor then x else 0) (c.place ∙ ap (λ (x : ℕ). row * (3 + x)) n)
 
 -- ---- the B0h and the C0h
 
 -- where one that may stand at descriptor j ends, by descriptors
 extra_end-rows :
     (d : List ℕ) (k j p : ℕ)
-    → extra_end d k (row * j) p ≡ (if extra_passed (row_at d j) k p then row * (j + one (point_at d j) p) else 0)
+    → extra_end d k (row * j) p ≡ (choose extra_passed (row_at d j) k p then row * (j + one (point_at d j) p) else 0)
 unfolding extra_end
 extra_end-rows d k j p = elim (ℕ_discrete (point_at d j) p) [
   | yes e ↦ when _ _ _ (eq-eqb _ _ e) ∙ rw (extra_passed-kept (row_at d j) k p e, one_is e, there)
@@ -133,23 +133,23 @@ extras_end-past d k at h =
 
 -- both end where the session does, if they are kept
 extras_end-rows :
-    (d : List ℕ) (k : ℕ) → extras_end d k (row * (3 + tracks d)) ≡ (if extras_kept d k then size d else 0)
+    (d : List ℕ) (k : ℕ) → extras_end d k (row * (3 + tracks d)) ≡ (choose extras_kept d k then size d else 0)
 unfolding extras_end extras_kept size
 extras_end-rows d k = decided (extra_passed (row_at d (3 + tracks d)) k B0) refl
   where
     first-end :
-        extra_end d k (row * (3 + tracks d)) B0 ≡ (if extra_passed (row_at d (3 + tracks d)) k B0 then row * (3 + tracks d + b0s d) else 0)
+        extra_end d k (row * (3 + tracks d)) B0 ≡ (choose extra_passed (row_at d (3 + tracks d)) k B0 then row * (3 + tracks d + b0s d) else 0)
     first-end = extra_end-rows d k (3 + tracks d) B0
 
     decided :
         (b : Bool) → extra_passed (row_at d (3 + tracks d)) k B0 ≡ b → extras_end d k (row * (3 + tracks d)) ≡
-        (if extras_kept d k then size d else 0)
+        (choose extras_kept d k then size d else 0)
     decided true e =
         let q : extra_end d k (row * (3 + tracks d)) B0 ≡ row * (3 + tracks d + b0s d) = first-end ∙ when _ _ _ e in
         unless _ _ _ (ne_eqb _ _ (λ z. let y = sym q ∙ z in omega arith))
         ∙ ap (λ (x : ℕ). extra_end d k x C0) q
         ∙ extra_end-rows d k (3 + tracks d + b0s d) C0
-        ∙ ap (λ (x : Bool). if x then size d else 0) (and_on _ _ e refl)
+        ∙ ap (λ (x : Bool). choose x then size d else 0) (and_on _ _ e refl)
     decided false e =
         when _ _ _ (eq-eqb _ _ (first-end ∙ unless _ _ _ e)) ∙ sym (unless _ _ _ (sym (and_off _ _ e)))
 
@@ -195,7 +195,7 @@ session_end_on k d next floor {end} w a n c e h g z b =
     let t = u.0 in
     let l : row * (3 + tracks d) ≤ length d = let q = u.1 in omega arith in
     ap (extras_end d k) u.1 ∙ extras_end-rows d k
-    ∙ ap (λ (x : Bool). if x then size d else 0)
+    ∙ ap (λ (x : Bool). choose x then size d else 0)
     (and_on _ _ (le-leb _ _ (size-whole d w l)) (and_on _ _ (le-leb _ _ a) (and_on _ _ (le-leb _ _ c) (and_on _ _ (le-leb _ _ e)
     (and_on _ _ h (and_on _ _ t refl)))))
     ∙ and_with (session_kept k d floor) (eqb (first d) next) (eq-eqb _ _ n))

@@ -1,6 +1,6 @@
 -- "Drive state and what moves it".
 use Rattle.std.specs.Prelude.{ℕ, Bool, true, false, not}
-use Rattle.ground.specs.Tests.{◌and◌, if◌then◌else◌}
+use Rattle.ground.specs.Tests.{◌and◌, choose◌then◌else◌}
 use Rattle.play.specs.declared.Play.{Play}
 use Rattle.deck.specs.declared.Deck.{Deck}
 use Rattle.deck.specs.declared.Shifted.{Shifted}
@@ -73,21 +73,21 @@ moves d = record { number = 0; state = d }
 
 -- "Button, laying and lifting test 2 before 5 to 7."; K2: "An outside call, testing 2"
 abbrev pub tested : Drive → Moved → Moved
-tested d r = if is_known_state d then r else refuse unknown_state d
+tested d r = choose is_known_state d then r else refuse unknown_state d
 
 -- "Button: an open tray closes; a closed one opens, unless locked (5). The lock never stops closing."; K7: "A press under refusal 5 now
 -- changes that event only"
 unfoldable pub button : Drive → Moved
 button d =
     tested d
-    (if d.deck.tray_open then moves (shift d (closing d.deck))
-    else (if d.deck.lock then refuse locked (noting d pressed) else moves (shift d (opening d.deck))))
+    (choose d.deck.tray_open then moves (shift d (closing d.deck))
+    else (choose d.deck.lock then refuse locked (noting d pressed) else moves (shift d (opening d.deck))))
 
 -- "Laying a disc needs an open tray without one (6)"
 unfoldable pub lay : Drive → Moved
 lay d =
     tested d
-    (if d.deck.tray_open and not d.deck.disc_in
+    (choose d.deck.tray_open and not d.deck.disc_in
     then moves (holding d true)
     else refuse cannot_lay d)
 
@@ -95,7 +95,7 @@ lay d =
 unfoldable pub lift : Drive → Moved
 lift d =
     tested d
-    (if d.deck.tray_open and d.deck.disc_in
+    (choose d.deck.tray_open and d.deck.disc_in
     then moves (holding d false)
     else refuse cannot_lift d)
 

@@ -4,7 +4,7 @@ use Rattle.std.specs.Prelude.{◌≡◌, Bool, ℕ, eqb}
 use Rattle.std.proofs.Math.Path.{refl}
 use Rattle.std.proofs.Common.{◌∙◌}
 use Rattle.std.proofs.Math.Bool.{true, false}
-use Rattle.ground.specs.Tests.{◌and◌, if◌then◌else◌, and_head, and_tail, and_both, when, unless, either}
+use Rattle.ground.specs.Tests.{◌and◌, choose◌then◌else◌, and_head, and_tail, and_both, when, unless, either}
 use Rattle.deck.specs.declared.Deck.{Deck}
 use Rattle.drive.specs.declared.state.Drive.{Drive}
 use Rattle.drive.specs.declared.state.Moved.{Moved}
@@ -21,7 +21,7 @@ Unmoved d r = (r.number ≡ 0 → ⊥) → r.state ≡ d
 
 -- a press with the number 5 changes the event only, and with any other number than 0 nothing
 abbrev pub Pressed : Drive → Moved → Type 0
-Pressed d r = (r.number ≡ 0 → ⊥) → r.state ≡ (if eqb r.number locked then noting d pressed else d)
+Pressed d r = (r.number ≡ 0 → ⊥) → r.state ≡ (choose eqb r.number locked then noting d pressed else d)
 
 -- ---- refusal 2
 
@@ -127,7 +127,7 @@ module _ (d : Drive) where
   -- ---- a refused call leaves the state as it was; a press under refusal 5 changes the event
 
   pub button-refused : Pressed d (button d)
-  unfolding if◌then◌else◌
+  unfolding choose◌then◌else◌
   button-refused = go (is_known_state d) d.deck.tray_open d.deck.lock refl refl refl
     where
       go : (k t l : Bool) → is_known_state d ≡ k → d.deck.tray_open ≡ t → d.deck.lock ≡ l → Pressed d (button d)

@@ -1,6 +1,6 @@
 -- 4Ah, GET EVENT STATUS NOTIFICATION: the answer, and what is left waiting after it.
 use Rattle.std.specs.Prelude.{ℕ, min, Bool, not, List, [], ◌∷◌, length, eqb, leb}
-use Rattle.ground.specs.Tests.{◌and◌, if◌then◌else◌}
+use Rattle.ground.specs.Tests.{◌and◌, choose◌then◌else◌}
 use Rattle.deck.specs.declared.Deck.{Deck}
 use Rattle.deck.specs.Deck.{no_event, with_event}
 use Rattle.gate.specs.Gate.{Result}
@@ -11,14 +11,14 @@ use Rattle.event.specs.EventClass.{media, supported, no_class, class_for}
 -- "status (bit 1 disc in, bit 0 tray open)"
 unfoldable pub media_status : Deck → ℕ
 media_status m =
-    if m.disc_in then (if m.tray_open then 0x03 else 0x02) else (if m.tray_open then 0x01 else 0x00)
+    choose m.disc_in then (choose m.tray_open then 0x03 else 0x02) else (choose m.tray_open then 0x01 else 0x00)
 
 -- "the class external always reports zeros": what each class reports as its event and its status
 unfoldable pub event_of : ℕ → Deck → ℕ
-event_of class m = if eqb class media then m.event else 0
+event_of class m = choose eqb class media then m.event else 0
 
 unfoldable pub status_of : ℕ → Deck → ℕ
-status_of class m = if eqb class media then media_status m else 0
+status_of class m = choose eqb class media then media_status m else 0
 
 -- "The answer is 00 06, class, 18, event, status .., 00 00"
 abbrev pub class_bytes : ℕ → Deck → List ℕ
@@ -30,11 +30,11 @@ none_bytes = 0x00 ∷ 0x02 ∷ 0x80 ∷ supported ∷ []
 
 -- the full answer
 unfoldable pub event_bytes : ℕ → Deck → List ℕ
-event_bytes class m = if eqb class no_class then none_bytes else class_bytes class m
+event_bytes class m = choose eqb class no_class then none_bytes else class_bytes class m
 
 -- "A media answer of at least five bytes clears the event": `given` counts the bytes that are given
 unfoldable pub cleared : ℕ → ℕ → Deck → Deck
-cleared class given m = if eqb class media and leb 5 given then with_event m no_event else m
+cleared class given m = choose eqb class media and leb 5 given then with_event m no_event else m
 
 -- the same, read off a full answer, `limit` bytes of it being asked for: it shows the class media, and at least five are given
 abbrev pub is_clearing : List ℕ → ℕ → Bool

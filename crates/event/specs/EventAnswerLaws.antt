@@ -4,7 +4,7 @@ use Rattle.std.proofs.Common.{sym, ap, ◌∙◌, arith, eq-eqb, ne_eqb, eqb-tru
 use mathlib.Core.List.{List}
 use Rattle.std.proofs.Math.ListN.{length}
 use Rattle.std.proofs.lemmas.Bool.{eqb-false, lt-leb}
-use Rattle.ground.specs.Tests.{if◌then◌else◌, when, unless, either, and_off, and_late, and_both}
+use Rattle.ground.specs.Tests.{choose◌then◌else◌, when, unless, either, and_off, and_late, and_both}
 use Rattle.deck.specs.declared.Deck.{Deck}
 use Rattle.deck.specs.Deck.{no_event, with_event}
 use Rattle.gate.specs.declared.fault.Fault.TheVariants.{BadField}
@@ -60,7 +60,7 @@ module _ (class : ℕ) (m : Deck) where
 
   -- so the answer tells whether it cleared the event: it shows the class media, and at least five bytes of it are given
   pub cleared-told : (limit : ℕ) → let full = event_bytes class m in
-      cleared class (min limit (length full)) m ≡ (if is_clearing full limit then with_event m no_event else m)
+      cleared class (min limit (length full)) m ≡ (choose is_clearing full limit then with_event m no_event else m)
   unfolding cleared
   cleared-told limit = rw event_bytes-shown
 
@@ -69,7 +69,7 @@ module _ (class : ℕ) (m : Deck) where
 -- a fault, or an answer of at most eight bytes that leaves the deck, or its event cleared
 module _ (P : Result Deck → Type 0) (limit : ℕ) (m : Deck) where
   pub get_event-ways : (b1 asked : ℕ) → P (fails BadField)
-      → ((full : List ℕ) → length full ≤ 8 → P (goes (if is_clearing full limit then with_event m no_event else m) false full limit 0 0))
+      → ((full : List ℕ) → length full ≤ 8 → P (goes (choose is_clearing full limit then with_event m no_event else m) false full limit 0 0))
       → P (get_event b1 asked limit m)
   unfolding answering
   get_event-ways b1 asked f g =

@@ -6,7 +6,7 @@ use Rattle.std.specs.Int.Bits.{bit_and}
 use Rattle.std.specs.Int.Count.{count_trailing_zeros}
 use Rattle.std.proofs.lemmas.Nat.{trailing_le}
 use Rattle.std.proofs.Math.Dec.{eqb-suc-zero}
-use Rattle.ground.specs.Tests.{◌and◌, if◌then◌else◌, when, unless, every, every-at}
+use Rattle.ground.specs.Tests.{◌and◌, choose◌then◌else◌, when, unless, every, every-at}
 use Rattle.deck.specs.Deck.{no_event}
 use Rattle.event.specs.EventClass.{external, media, supported, no_class, waiting, lowest, or_else, class_for}
 
@@ -43,15 +43,15 @@ bit4 b = eqb (b / 16 % 2) 1
 
 -- media where it is asked for and has an event waiting; else external where that is asked for; else media; else none
 abbrev pub by_bits : ℕ → Bool → ℕ
-by_bits asked waits = if bit4 asked and waits then media else (if bit3 asked then external else (if bit4 asked then media else no_class))
+by_bits asked waits = choose bit4 asked and waits then media else (choose bit3 asked then external else (choose bit4 asked then media else no_class))
 
 -- over all 256 bytes, with no event and with one
 all_quiet : every 256 (λ b. eqb (class_for b 0) (by_bits b false)) ≡ true
-unfolding every class_for or_else waiting count_trailing_zeros ◌and◌ if◌then◌else◌
+unfolding every class_for or_else waiting count_trailing_zeros ◌and◌ choose◌then◌else◌
 all_quiet = refl
 
 all-waiting : every 256 (λ b. eqb (class_for b 1) (by_bits b true)) ≡ true
-unfolding every class_for or_else waiting count_trailing_zeros ◌and◌ if◌then◌else◌
+unfolding every class_for or_else waiting count_trailing_zeros ◌and◌ choose◌then◌else◌
 all-waiting = refl
 
 -- which event waits does not matter

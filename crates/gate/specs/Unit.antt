@@ -1,6 +1,6 @@
 -- What the steps do to the attention unit.
 use Rattle.std.specs.Prelude.{false}
-use Rattle.ground.specs.Tests.{if◌then◌else◌}
+use Rattle.ground.specs.Tests.{choose◌then◌else◌}
 use Rattle.attention.specs.declared.sense.Sense.{Sense}
 use Rattle.attention.specs.declared.Unit.{Unit}
 use Rattle.attention.specs.Sense.{no_sense, changed, powered, same_sense}
@@ -18,7 +18,7 @@ clear u = hold no_sense u
 
 -- "if the power attention is pending, else the change attention"
 unfoldable pub pending_of : Unit → Pending
-pending_of u = if u.power then Power else (if u.change then Change else Nothing)
+pending_of u = choose u.power then Power else (choose u.change then Change else Nothing)
 
 -- "06/29/00 or 06/28/00"
 abbrev pub attention_sense : Pending → Sense
@@ -35,5 +35,5 @@ told Nothing u = u
 -- REQUEST SENSE: "A held sense other than 00/00/00 is given, then cleared, attentions untouched. Otherwise a pending attention, power first, is given and cleared"
 unfoldable pub give : Unit → Giving
 give u =
-    if same_sense u.sense no_sense then record { sense = attention_sense (pending_of u); unit = clear (told (pending_of u) u) }
+    choose same_sense u.sense no_sense then record { sense = attention_sense (pending_of u); unit = clear (told (pending_of u) u) }
     else record { sense = u.sense; unit = clear u }

@@ -7,7 +7,7 @@ use Rattle.std.proofs.Math.Decide.{ℕ_discrete}
 
 infixr 35 ◌and◌
 infixr 34 ◌or◌
-infix 1 if◌then◌else◌
+infix 1 choose◌then◌else◌
 -- both tests hold
 unfoldable pub ◌and◌ : Bool → Bool → Bool
 true and b = b
@@ -19,9 +19,9 @@ true or b = true
 false or b = b
 
 -- the first value where the test holds, else the second
-unfoldable pub if◌then◌else◌ {ℓ} : {A : Type ℓ} → Bool → A → A → A
-if true then x else y = x
-if false then x else y = y
+unfoldable pub choose◌then◌else◌ {ℓ} : {A : Type ℓ} → Bool → A → A → A
+choose true then x else y = x
+choose false then x else y = y
 
 -- the test p holds of 0, 1, .. and each number below n
 unfoldable pub every : ℕ → (ℕ → Bool) → Bool
@@ -91,17 +91,17 @@ or_else a b h = rw h
 -- ---- if
 
 module _ {ℓ} {A : Type ℓ} where
-  pub when : (b : Bool) (x y : A) → b ≡ true → (if b then x else y) ≡ x
-  unfolding if◌then◌else◌
+  pub when : (b : Bool) (x y : A) → b ≡ true → (choose b then x else y) ≡ x
+  unfolding choose◌then◌else◌
   when b x y h = rw h
 
-  pub unless : (b : Bool) (x y : A) → b ≡ false → (if b then x else y) ≡ y
-  unfolding if◌then◌else◌
+  pub unless : (b : Bool) (x y : A) → b ≡ false → (choose b then x else y) ≡ y
+  unfolding choose◌then◌else◌
   unless b x y h = rw h
 
   -- what holds of both values holds of the chosen one
-  pub either {κ} : (P : A → Type κ) (b : Bool) {x y : A} → (b ≡ true → P x) → (b ≡ false → P y) → P (if b then x else y)
-  unfolding if◌then◌else◌
+  pub either {κ} : (P : A → Type κ) (b : Bool) {x y : A} → (b ≡ true → P x) → (b ≡ false → P y) → P (choose b then x else y)
+  unfolding choose◌then◌else◌
   either P true f g = f refl
   either P false f g = g refl
 

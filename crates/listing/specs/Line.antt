@@ -1,7 +1,7 @@
 -- A packet's line: "its number, status, sense held afterwards (three, hex), byte count, bytes in hex or -, start, count".
 use Rattle.std.specs.Prelude.{ℕ, ◌+◌, ◌*◌, ◌≤◌, List, [], ◌∷◌, eqb, length}
 use Rattle.std.proofs.Common.{arith, length-append}
-use Rattle.ground.specs.Tests.{if◌then◌else◌, either}
+use Rattle.ground.specs.Tests.{choose◌then◌else◌, either}
 use Rattle.print.specs.Joined.{◌next◌, spaced, line_end}
 use Rattle.print.specs.Hex.{hex_byte, shown, shown-length}
 use Rattle.print.specs.Decimal.{decimal, decimal-length}
@@ -35,7 +35,7 @@ answered n o bytes = started n o next yielded o bytes next line_end
 
 -- K6: "the listing program prints it after the 4": the broken rule, and nothing after another number
 unfoldable pub rule_shown : ℕ → ℕ → List ℕ
-rule_shown number rule = if eqb number unfit then spaced (decimal rule) else []
+rule_shown number rule = choose eqb number unfit then spaced (decimal rule) else []
 
 unfoldable pub refusal : ℕ → ℕ → List ℕ
 refusal number rule = refused_word next spaced (decimal number) next rule_shown number rule
@@ -46,7 +46,7 @@ refused n number rule = decimal n next refusal number rule next line_end
 
 -- packet n's line, of its outcome and the bytes that it wrote
 unfoldable pub line_of : ℕ → Outcome → List ℕ → List ℕ
-line_of n o bytes = if eqb o.number 0 then answered n o bytes else refused n o.number o.rule
+line_of n o bytes = choose eqb o.number 0 then answered n o bytes else refused n o.number o.rule
 
 -- ---- no line is longer than the memory that the program lends for it
 

@@ -1,6 +1,6 @@
 -- 55h, MODE SELECT(10), of page 01h: l is the lent parameter list, n the list length that the packet gives.
 use Rattle.std.specs.Prelude.{ℕ, Bool, List, length, eqb}
-use Rattle.ground.specs.Tests.{◌and◌, ◌or◌, if◌then◌else◌}
+use Rattle.ground.specs.Tests.{◌and◌, ◌or◌, choose◌then◌else◌}
 use Rattle.page.specs.Page.{page_of, is_setting}
 use Rattle.deck.specs.declared.Deck.{Deck}
 use Rattle.deck.specs.Deck.{with_page}
@@ -20,11 +20,11 @@ is_page code len recovery = eqb code 0x01 and eqb len 0x06 and is_setting recove
 -- "05/26/00 unless" it does; then its recovery byte and retry count are set
 unfoldable pub selected : ℕ → ℕ → ℕ → ℕ → Deck → Result Deck
 selected code len recovery retry m =
-    if is_page code len recovery then done (with_page m (page_of recovery retry)) else fails ListField
+    choose is_page code len recovery then done (with_page m (page_of recovery retry)) else fails ListField
 
 -- "A list is 0 bytes (GOOD, nothing changes) or 16, its header not looked at."
 unfoldable pub mode_select : ℕ → List ℕ → Deck → Result Deck
 mode_select n l m =
-    if is_list_length n (length l)
-    then (if eqb n 0 then done m else selected (byte l 8) (byte l 9) (byte l 10) (byte l 11) m)
+    choose is_list_length n (length l)
+    then (choose eqb n 0 then done m else selected (byte l 8) (byte l 9) (byte l 10) (byte l 11) m)
     else fails ListLength

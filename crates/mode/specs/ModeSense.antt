@@ -1,6 +1,6 @@
 -- 5Ah, MODE SENSE(10), "for page 01h, eight header bytes and eight page bytes".
 use Rattle.std.specs.Prelude.{ℕ, ◌/◌, ◌%◌, false, List, [], ◌∷◌, eqb}
-use Rattle.ground.specs.Tests.{if◌then◌else◌}
+use Rattle.ground.specs.Tests.{choose◌then◌else◌}
 use Rattle.page.specs.declared.Page.{Page}
 use Rattle.page.specs.Page.{page_of, defaults}
 use Rattle.deck.specs.declared.Deck.{Deck}
@@ -33,13 +33,13 @@ changeable = page_of 0x37 0xFF
 
 -- the values that a page control asks for, of the current ones
 unfoldable pub values_of : ℕ → Page → Page
-values_of control current = if eqb control asks_changeable then changeable else (if eqb control asks_default then defaults else current)
+values_of control current = choose eqb control asks_changeable then changeable else (choose eqb control asks_default then defaults else current)
 
 -- "after step 3, in MODE SENSE 05/24/00 for another page, then 05/39/00 for saved values": b is the packet's byte 2
 unfoldable pub page_shown : ℕ → Page → Shown
 page_shown b current =
-    if eqb (page_in b) 0x01
-    then (if eqb (control_in b) asks_saved then Fails NoSaving else Values (values_of (control_in b) current))
+    choose eqb (page_in b) 0x01
+    then (choose eqb (control_in b) asks_saved then Fails NoSaving else Values (values_of (control_in b) current))
     else Fails BadField
 
 -- "Sense gives 00 0E and six zeros, then 01 06, recovery byte, retry count and four zeros."

@@ -1,6 +1,6 @@
 -- K2: "The state gains a play record: status, position, end."
 use Rattle.std.specs.Prelude.{ℕ, ◌+◌, min, Bool, eqb, leb}
-use Rattle.ground.specs.Tests.{◌and◌, ◌or◌, if◌then◌else◌}
+use Rattle.ground.specs.Tests.{◌and◌, ◌or◌, choose◌then◌else◌}
 use Rattle.address.specs.Address.{last}
 use Rattle.play.specs.declared.Play.{Play}
 
@@ -43,6 +43,6 @@ onward k r = min (r.position + k) r.end
 -- "where the status becomes 13h", wherever the new position is the end, of k = 0 too; "in any other status it changes nothing"
 unfoldable pub moved_on : ℕ → Play → Play
 moved_on k r =
-    if eqb r.status playing
-    then play_of (if eqb (onward k r) r.end then completed else playing) (onward k r) r.end
+    choose eqb r.status playing
+    then play_of (choose eqb (onward k r) r.end then completed else playing) (onward k r) r.end
     else r

@@ -6,12 +6,12 @@ use Rattle.std.proofs.Math.Decide.{dec_le}
 use Rattle.std.proofs.Math.Numerals.{unary_clauses}
 use Rattle.std.proofs.lemmas.Bool.{lt-leb}
 use Rattle.print.specs.Digits.{last_digits, IsDigitCount}
-use Rattle.ground.specs.Tests.{if◌then◌else◌, when, unless, either}
+use Rattle.ground.specs.Tests.{choose◌then◌else◌, when, unless, either}
 
 -- how many digits n has, at most `most`: one where it is below ten, else one more than a tenth of it has
 unfoldable pub places : ℕ → ℕ → ℕ
 places zero n = 0
-places (suc most) n = if leb n 9 then 1 else suc (places most (n / 10))
+places (suc most) n = choose leb n 9 then 1 else suc (places most (n / 10))
 
 -- the digits of a number of 64 bits, which has at most twenty
 unfoldable pub decimal : ℕ → List ℕ

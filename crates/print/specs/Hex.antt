@@ -1,11 +1,11 @@
 -- Bytes as hex: "Capital hex, two digits; - where no bytes".
 use Rattle.std.specs.Prelude.{ℕ, ◌+◌, ◌*◌, ◌/◌, ◌%◌, ◌≤◌, ◌<◌, ◌≡◌, refl, List, [], ◌∷◌, ◌++◌, ltb, length, take, get_or}
 use Rattle.std.proofs.Common.{sym, ap, ◌∙◌, append_assoc, add-one, arith, take-suc, lt-ltb, le-ltb}
-use Rattle.ground.specs.Tests.{if◌then◌else◌, when, unless}
+use Rattle.ground.specs.Tests.{choose◌then◌else◌, when, unless}
 
 -- the ASCII code of the digit that the last four bits of n write: `0` to `9`, then `A` to `F`
 unfoldable pub hex_digit : ℕ → ℕ
-hex_digit n = if ltb (n % 16) 10 then 48 + n % 16 else 55 + n % 16
+hex_digit n = choose ltb (n % 16) 10 then 48 + n % 16 else 55 + n % 16
 
 -- a byte's two digits
 abbrev pub hex_byte : ℕ → List ℕ

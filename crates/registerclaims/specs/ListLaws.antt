@@ -7,7 +7,7 @@ use mathlib.Core.List.{List, ◌∷◌}
 use Rattle.std.proofs.Math.Decide.{dec_lt}
 use Rattle.std.proofs.Math.ListN.{take}
 use Rattle.std.proofs.Math.Seq.{drop-drop}
-use Rattle.ground.specs.Tests.{if◌then◌else◌, either, when, unless}
+use Rattle.ground.specs.Tests.{choose◌then◌else◌, either, when, unless}
 use Rattle.drive.specs.declared.state.Drive.{Drive}
 use Rattle.taskfile.specs.declared.TaskFile.{TaskFile}
 use Rattle.taskfile.specs.declared.Turn.{Turn}
@@ -33,7 +33,7 @@ module _ (f : TaskFile) (a : Listing f) (l : List ℕ) (x : length l ≡ list_by
 
   -- and behind the last
   abbrev pub at : ℕ → Transfer
-  at j = if eqb j list_bytes then next Data (get_or l 15 0) t (before 15) else before j
+  at j = choose eqb j list_bytes then next Data (get_or l 15 0) t (before 15) else before j
 
   pub at_before : (j : ℕ) → j < list_bytes → at j ≡ before j
   at_before j h = unless _ _ _ (ne_eqb j list_bytes (λ e. omega arith))
@@ -55,7 +55,7 @@ module _ (f : TaskFile) (a : Listing f) (l : List ℕ) (x : length l ≡ list_by
 
   -- behind the last the record is in no list run
   done-untaking : is_taking (phase_of (at list_bytes).file) ≡ false
-  unfolding if◌then◌else◌
+  unfolding choose◌then◌else◌
   done-untaking =
       let w = list-last f a l x y in
       let g : TaskFile = entering f a l x y 15 in

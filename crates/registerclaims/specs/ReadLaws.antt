@@ -8,7 +8,7 @@ use native.Mathlib.Omega.{arith}
 use Rattle.std.proofs.Math.ListN.{get_or}
 use Rattle.std.proofs.Math.Seq.{get_or-take}
 use borrow.Author.Tests.{eqb-true, le-ltb, eq-eqb, ne_eqb}
-use Rattle.ground.specs.Tests.{if◌then◌else◌, either, when, unless}
+use Rattle.ground.specs.Tests.{choose◌then◌else◌, either, when, unless}
 use Rattle.drive.specs.declared.state.Drive.{Drive}
 use Rattle.table.specs.Layout.{bound}
 use Rattle.taskfile.specs.declared.TaskFile.{TaskFile}
@@ -29,7 +29,7 @@ use Rattle.registerclaims.specs.Transfer.{Transfer, transfer_of, handed, left, n
 
 -- the record behind j bytes of the answer: "status ends it"
 abbrev pub reached : TaskFile → ℕ → TaskFile
-reached f j = if eqb j f.len then ended (along f (f.len - 1)) else along f j
+reached f j = choose eqb j f.len then ended (along f (f.len - 1)) else along f j
 
 -- a byte v handed back, and nothing else
 abbrev pub given : Drive → ℕ → Answer

@@ -4,7 +4,7 @@ use Rattle.std.proofs.Math.Path.{refl}
 use Rattle.std.proofs.Common.{sym, ap, ◌∙◌, true≢false}
 use Rattle.std.proofs.Math.Bool.{true, false}
 use mathlib.Core.List.{List, [], ◌∷◌, ◌++◌, append_assoc, flat_map, head-eq_of_cons-eq, nil≢cons}
-use Rattle.ground.specs.Tests.{◌and◌, if◌then◌else◌, either}
+use Rattle.ground.specs.Tests.{◌and◌, choose◌then◌else◌, either}
 use Rattle.drive.specs.declared.state.Drive.{Drive as State}
 use Rattle.taskfile.specs.declared.TaskFile.{TaskFile}
 use Rattle.taskfile.specs.declared.Phase.{Phase}
@@ -91,8 +91,8 @@ list_with f v = set f.list f.at v
 abbrev pub data_call : Phase → TaskFile → ℕ → List ℕ → List ℕ → List drives.Call
 data_call Idle f v t m = []
 data_call PacketRun f v t m =
-    if eqb (f.at + 1) packet_bytes and not (takes_list (packet_with f v)) then packet (packet_with f v) t [] m ∷ [] else []
-data_call ListRun f v t m = if eqb (f.at + 1) list_bytes then packet f.packet t (list_with f v) m ∷ [] else []
+    choose eqb (f.at + 1) packet_bytes and not (takes_list (packet_with f v)) then packet (packet_with f v) t [] m ∷ [] else []
+data_call ListRun f v t m = choose eqb (f.at + 1) list_bytes then packet f.packet t (list_with f v) m ∷ [] else []
 data_call AnswerRun f v t m = []
 
 -- an access: a reset is a power-on, and any other that writes no data is nothing to the target
@@ -113,9 +113,9 @@ module _ (f : TaskFile) (v : ℕ) (t m : List ℕ) where
 
   -- b: the byte is the last; c: the packet takes a list
   packet-go : (b c : Bool) (x y z : TaskFile)
-      → call_of (if b then (if c then held x else record { due = Performs; file = y }) else held z)
-      ≡ (if b and not c then packet y.packet t [] m ∷ [] else [])
-  unfolding if◌then◌else◌ ◌and◌
+      → call_of (choose b then (choose c then held x else record { due = Performs; file = y }) else held z)
+      ≡ (choose b and not c then packet y.packet t [] m ∷ [] else [])
+  unfolding choose◌then◌else◌ ◌and◌
   packet-go true true x y z = refl
   packet-go true false x y z = refl
   packet-go false c x y z = refl
@@ -125,8 +125,8 @@ module _ (f : TaskFile) (v : ℕ) (t m : List ℕ) where
   packet-call = packet-go (eqb (f.at + 1) packet_bytes) (takes_list (packet_with f v)) _ _ _
 
   list-go : (b : Bool) (x y : TaskFile)
-      → call_of (if b then record { due = PerformsListed; file = x } else held y) ≡ (if b then packet x.packet t x.list m ∷ [] else [])
-  unfolding if◌then◌else◌
+      → call_of (choose b then record { due = PerformsListed; file = x } else held y) ≡ (choose b then packet x.packet t x.list m ∷ [] else [])
+  unfolding choose◌then◌else◌
   list-go true x y = refl
   list-go false x y = refl
 

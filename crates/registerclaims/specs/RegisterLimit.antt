@@ -2,21 +2,21 @@
 use Rattle.std.specs.Prelude.{ℕ, ◌-◌, ◌%◌, ◌≤◌, ◌<◌, ◌≡◌, refl, true, eqb}
 use Rattle.std.proofs.Common.{◌∙◌, arith, ltb-true, lt-ltb, eqb-true, eq-eqb, ne_eqb}
 use Rattle.std.proofs.lemmas.Bool.{eqb-false}
-use Rattle.ground.specs.Tests.{if◌then◌else◌, either, unless, and_head, and_tail, and_both}
+use Rattle.ground.specs.Tests.{choose◌then◌else◌, either, unless, and_head, and_tail, and_both}
 use Rattle.taskfile.specs.Run.{limit_of, is_limit}
 
 -- "0 and FFFFh count as 65,534"
 pub limit-zero : limit_of 0 ≡ 65534
-unfolding limit_of if◌then◌else◌
+unfolding limit_of choose◌then◌else◌
 limit-zero = refl
 
 pub limit-most : limit_of 0xFFFF ≡ 65534
-unfolding limit_of if◌then◌else◌
+unfolding limit_of choose◌then◌else◌
 limit-most = refl
 
 -- "1 as 2"
 pub limit-one : limit_of 1 ≡ 2
-unfolding limit_of if◌then◌else◌
+unfolding limit_of choose◌then◌else◌
 limit-one = refl
 
 -- past 1 what is over an even number is taken off

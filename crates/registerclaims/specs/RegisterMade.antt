@@ -2,7 +2,7 @@
 -- count.
 use Rattle.std.specs.Prelude.{ℕ, ◌<◌, ◌≡◌, refl, ◌↔◌, List, [], ◌∷◌, length, eqb}
 use Rattle.std.proofs.Common.{sym, ap, ◌∙◌, arith}
-use Rattle.ground.specs.Tests.{if◌then◌else◌}
+use Rattle.ground.specs.Tests.{choose◌then◌else◌}
 use Rattle.drive.specs.declared.state.Drive.{Drive}
 use Rattle.taskfile.specs.declared.TaskFile.{TaskFile}
 use Rattle.taskfile.specs.declared.Phase.{Phase}
@@ -45,10 +45,10 @@ made_always cs = after-made started cs made-started
 
 -- the run by its reason
 abbrev phase_at : ℕ → Phase
-phase_at n = if eqb n 0x03 then Idle else (if eqb n 0x01 then PacketRun else (if eqb n 0x00 then ListRun else AnswerRun))
+phase_at n = choose eqb n 0x03 then Idle else (choose eqb n 0x01 then PacketRun else (choose eqb n 0x00 then ListRun else AnswerRun))
 
 phase-back : (s : Phase) → phase_at (reason_of s) ≡ s
-unfolding if◌then◌else◌
+unfolding choose◌then◌else◌
 phase-back Idle = refl
 phase-back PacketRun = refl
 phase-back ListRun = refl

@@ -1,6 +1,6 @@
 -- K14 on Disc E: a run of register accesses, each group with what the host sees of it; computed from the definitions.
 use Rattle.std.specs.Prelude.{ℕ, zero, suc, ◌≡◌, refl, Bool, true, not, List, [], ◌∷◌, ◌++◌, replicate, eqb}
-use Rattle.ground.specs.Tests.{◌and◌, ◌or◌, if◌then◌else◌, every}
+use Rattle.ground.specs.Tests.{◌and◌, ◌or◌, choose◌then◌else◌, every}
 use Rattle.ground.specs.Memory.{fill}
 use Rattle.address.specs.Address.{is_msf}
 use Rattle.attention.specs.declared.sense.Sense.{Sense}
@@ -56,9 +56,9 @@ touched a v b =
       file = s.file;
       state = s.answer.state;
       memory = memory_of b.file (access_of a) v b.state table_e b.memory;
-      number = if eqb s.answer.number 0 then b.number else s.answer.number;
-      sizes = if (eqb a 0 or eqb a 8) and eqb s.answer.number 0 and begins b.file then b.sizes ++ (count_of b.file ∷ []) else b.sizes;
-      bytes = if eqb a 8 and eqb s.answer.number 0 then b.bytes ++ (s.answer.byte ∷ []) else b.bytes;
+      number = choose eqb s.answer.number 0 then b.number else s.answer.number;
+      sizes = choose (eqb a 0 or eqb a 8) and eqb s.answer.number 0 and begins b.file then b.sizes ++ (count_of b.file ∷ []) else b.sizes;
+      bytes = choose eqb a 8 and eqb s.answer.number 0 then b.bytes ++ (s.answer.byte ∷ []) else b.bytes;
       start = s.answer.start;
       blocks = s.answer.count;
     }
@@ -323,5 +323,5 @@ abbrev handed : Board
 handed = record { file = started; state = loaded_e; memory = replicate bound 0xFF; number = 0; sizes = []; bytes = []; start = 0; blocks = 0 }
 
 pub register_marked : all_seen handed register_marks ≡ true
-unfolding all_seen is_seen stepped wrote drained touched step_of memory_of gives fill access_of gone answered packet_end packet_byte list_byte answer_byte turn_of limit_of is_limit is_run takes_list is_packet_run is_list_run is_answer_run phase_of left_of same_bytes ◌and◌ ◌or◌ if◌then◌else◌ every is_msf sense_at same_sense among is_known is_status is_play among_bytes is_setting is_known_state power_on attend is_track is_extra start_of names simple free plain head_a0 head_a1 headed addressed row_test one size listed numbered is_session starts before follows in_place in_order rule1 rule2 each_row rises out_before begins_after rising rule7 first_broken late_rules row_rules fault is_fit next_out out_at covers wanted next_found found track_of is_mode in_mode all_in pending_of gate decode answering over in_range ranged values_of page_shown is_list_length is_page selected mode_select perform refusal_of answer
+unfolding all_seen is_seen stepped wrote drained touched step_of memory_of gives fill access_of gone answered packet_end packet_byte list_byte answer_byte turn_of limit_of is_limit is_run takes_list is_packet_run is_list_run is_answer_run phase_of left_of same_bytes ◌and◌ ◌or◌ choose◌then◌else◌ every is_msf sense_at same_sense among is_known is_status is_play among_bytes is_setting is_known_state power_on attend is_track is_extra start_of names simple free plain head_a0 head_a1 headed addressed row_test one size listed numbered is_session starts before follows in_place in_order rule1 rule2 each_row rises out_before begins_after rising rule7 first_broken late_rules row_rules fault is_fit next_out out_at covers wanted next_found found track_of is_mode in_mode all_in pending_of gate decode answering over in_range ranged values_of page_shown is_list_length is_page selected mode_select perform refusal_of answer
 register_marked = refl

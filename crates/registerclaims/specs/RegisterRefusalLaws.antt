@@ -6,7 +6,7 @@ use Rattle.std.proofs.Math.Bool.{true, false}
 use Rattle.std.proofs.lemmas.Bool.{false≢true}
 use mathlib.Core.List.{List, []}
 use Rattle.std.proofs.Math.Dec.{eqb}
-use Rattle.ground.specs.Tests.{◌and◌, ◌or◌, if◌then◌else◌, when, unless, either, and_head, and_tail}
+use Rattle.ground.specs.Tests.{◌and◌, ◌or◌, choose◌then◌else◌, when, unless, either, and_head, and_tail}
 use Rattle.ground.specs.Memory.{fill}
 use Rattle.deck.specs.declared.Deck.{Deck}
 use Rattle.drive.specs.declared.state.Drive.{Drive}
@@ -44,17 +44,17 @@ module _ (f g : TaskFile) (d : Drive) (t m : List ℕ) where
   asks-under : (l : List ℕ) → eqb (asks g l d t m).number 15 ≡ false
   asks-under l = ne_eqb (asks g l d t m).number 15 (λ h. let o = (reply-ordered d g.packet t (length m) l).most in omega arith)
 
-  gives-number : (n : ℕ) → eqb (gives f g d m).answer.number n ≡ (if ltb (length m) bound then eqb 3 n else eqb 0 n)
-  unfolding gives if◌then◌else◌
+  gives-number : (n : ℕ) → eqb (gives f g d m).answer.number n ≡ (choose ltb (length m) bound then eqb 3 n else eqb 0 n)
+  unfolding gives choose◌then◌else◌
   gives-number n = go (ltb (length m) bound)
     where
-      go : (b : Bool) → eqb (if b then stands f (plain 3 0 d) else stands g (plain 0 (get_or m f.at 0) d)).answer.number n
-          ≡ (if b then eqb 3 n else eqb 0 n)
+      go : (b : Bool) → eqb (choose b then stands f (plain 3 0 d) else stands g (plain 0 (get_or m f.at 0) d)).answer.number n
+          ≡ (choose b then eqb 3 n else eqb 0 n)
       go true = refl
       go false = refl
 
   pub step-15 : (e : Due) → eqb (step_by e f g d t m).answer.number 15 ≡ is_refused e
-  unfolding if◌then◌else◌
+  unfolding choose◌then◌else◌
   step-15 Refused = refl
   step-15 Held = refl
   step-15 Performs = asks-under []
@@ -106,13 +106,13 @@ module _ (f g : TaskFile) (d : Drive) (t m : List ℕ) (twelve : length g.packet
   asks-handed l = ordered-handed (rw twelve at (reply-ordered d g.packet t (length m) l))
 
   gives-handed : Handed (is_known_state d) (ltb (length m) bound) (is_loaded d.deck and not (is_fit t)) true false (gives f g d m).answer.number
-  unfolding ◌and◌ ◌or◌ if◌then◌else◌
+  unfolding ◌and◌ ◌or◌ choose◌then◌else◌
   gives-handed =
       let N = gives-number f g d t m in
       go (ltb (length m) bound) (N 0) (N 2) (N 3) (N 4) (N 15)
     where
-      go : (b : Bool) {n : ℕ} {known unfit : Bool} → eqb n 0 ≡ (if b then false else true) → eqb n 2 ≡ (if b then false else false)
-          → eqb n 3 ≡ (if b then true else false) → eqb n 4 ≡ (if b then false else false) → eqb n 15 ≡ (if b then false else false)
+      go : (b : Bool) {n : ℕ} {known unfit : Bool} → eqb n 0 ≡ (choose b then false else true) → eqb n 2 ≡ (choose b then false else false)
+          → eqb n 3 ≡ (choose b then true else false) → eqb n 4 ≡ (choose b then false else false) → eqb n 15 ≡ (choose b then false else false)
           → Handed known b unfit true false n
       go true h i j k l = record { two = i; three = j; four = k; any = rw (h, i, j) }
       go false h i j k l = record { two = i; three = j; four = k; any = rw h }
@@ -183,10 +183,10 @@ module _ (f : TaskFile) (v : ℕ) where
     read_step s h = rw h
 
     pub read-3 : eqb (step_of f Read v d t m).answer.number 3 ≡ is_answer_run f and ltb (length m) bound
-    unfolding ◌and◌ answer_byte if◌then◌else◌
+    unfolding ◌and◌ answer_byte choose◌then◌else◌
     read-3 = rw (phase_of-tested f).answer (go (phase_of f) refl)
       where
-        picks : (b : Bool) → (if b then true else false) ≡ b
+        picks : (b : Bool) → (choose b then true else false) ≡ b
         picks true = refl
         picks false = refl
 
@@ -215,7 +215,7 @@ Ends d m r =
     × (fill m (bytes_of r) ≡ m)
 
 reply_bare : (d : Drive) (m : List ℕ) (r : Reply Deck) → state_of r ≡ d → answer_of m r ≡ refusing r.number r.rule m → Ends d m r
-unfolding answered if◌then◌else◌
+unfolding answered choose◌then◌else◌
 reply_bare d m r s e g =
     let a = ap (λ (x : TargetAnswer). x.status) e in
     let b = ap (λ (x : TargetAnswer). x.full) e in
@@ -225,7 +225,7 @@ reply_bare d m r s e g =
     (rw (a, b, c, i, j, s), ap (λ (x : TargetAnswer). x.memory) e)
 
 pub reply_ends : (d : Drive) (p t l m : List ℕ) → ((answer d p t l (length m)).number ≡ 0 → ⊥) → Ends d m (answer d p t l (length m))
-unfolding if◌then◌else◌ ◌and◌
+unfolding choose◌then◌else◌ ◌and◌
 reply_ends d p t l m n =
     let u = call_unchanged (packet p t l m) d n in
     reply_bare d m (answer d p t l (length m)) u.0 u.1

@@ -3,7 +3,7 @@
 use Rattle.std.specs.Prelude.{ℕ, ◌≡◌, Bool, true, not, List, length, eqb, ltb, leb}
 use Rattle.std.proofs.Math.Path.{refl, ap}
 use Rattle.std.proofs.Common.{sym, ◌∙◌}
-use Rattle.ground.specs.Tests.{◌and◌, ◌or◌, if◌then◌else◌, and_assoc}
+use Rattle.ground.specs.Tests.{◌and◌, ◌or◌, choose◌then◌else◌, and_assoc}
 use Rattle.deck.specs.declared.Deck.{Deck}
 use Rattle.drive.specs.declared.state.Drive.{Drive}
 use Rattle.deck.specs.Deck.{is_loaded}
@@ -28,7 +28,7 @@ use Rattle.registerclaims.specs.RegisterRefusalLaws.{Handed, step-15, step-besid
 
 -- each of them has a number that is read as it
 pub register_access : (a : Access) → access_of (number_of a) ≡ a
-unfolding access_of if◌then◌else◌
+unfolding access_of choose◌then◌else◌
 register_access Data = refl
 register_access Features = refl
 register_access CountLow = refl
@@ -171,7 +171,7 @@ module _ (f : TaskFile) (v : ℕ) (d : Drive) (t m : List ℕ) where
   }
 
   pub register-reset : (step_of f Reset v d t m ≡ leaves reset_file 0 (power_on d)) × (memory_of f Reset v d t m ≡ m) × (phase_of reset_file ≡ Idle)
-  unfolding step_of memory_of turn_of phase_of is_packet_run is_list_run is_answer_run if◌then◌else◌ ◌and◌
+  unfolding step_of memory_of turn_of phase_of is_packet_run is_list_run is_answer_run choose◌then◌else◌ ◌and◌
   register-reset = (refl, refl, refl)
 
   -- ---- while idle
@@ -223,5 +223,5 @@ pub register_idle_packet : (f : TaskFile) (d : Drive) (t m : List ℕ) → phase
     × (memory_of f Command 0xA0 d t m ≡ m)
     × (phase_of (asked_file f) ≡ PacketRun)
     × (left_of (asked_file f) ≡ 12)
-unfolding step_of memory_of turn_of phase_of left_of is_packet_run if◌then◌else◌ ◌and◌
+unfolding step_of memory_of turn_of phase_of left_of is_packet_run choose◌then◌else◌ ◌and◌
 register_idle_packet f d t m idle = rw idle (refl, refl, refl, refl)

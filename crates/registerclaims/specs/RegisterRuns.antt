@@ -3,7 +3,7 @@ use Rattle.std.specs.Prelude.{ℕ, zero, suc, ◌-◌, ◌*◌, ◌≤◌, ◌<�
 use Rattle.std.proofs.Common.{sym, ap, ◌∙◌, arith, zero-add, take_all, ne_eqb}
 use Rattle.std.proofs.lemmas.List.{length-map}
 use Rattle.std.proofs.Math.ListN.{get_or-map}
-use Rattle.ground.specs.Tests.{if◌then◌else◌, unless}
+use Rattle.ground.specs.Tests.{choose◌then◌else◌, unless}
 use Rattle.drive.specs.declared.state.Drive.{Drive}
 use Rattle.table.specs.Layout.{bound}
 use Rattle.taskfile.specs.declared.TaskFile.{TaskFile}
@@ -108,7 +108,7 @@ showing g s = holding g g.features g.low g.high g.drive s
 
 -- "status ends it" at once where there are no bytes
 pub answer-none : (g : TaskFile) (s : ℕ) → answered g s 0 ≡ ended (showing g s)
-unfolding answered if◌then◌else◌
+unfolding answered choose◌then◌else◌
 answer-none g s = refl
 
 -- and else the first run begins

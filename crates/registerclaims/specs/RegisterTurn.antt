@@ -1,6 +1,6 @@
 -- What an access of the host is, and when it is out of turn or completes a packet: in the words of K14, over any record.
 use Rattle.std.specs.Prelude.{ℕ, ◌+◌, Bool, not, List, [], length, set, eqb}
-use Rattle.ground.specs.Tests.{◌and◌, ◌or◌, if◌then◌else◌}
+use Rattle.ground.specs.Tests.{◌and◌, ◌or◌, choose◌then◌else◌}
 use Rattle.deck.specs.declared.Deck.{Deck}
 use Rattle.drive.specs.declared.state.Drive.{Drive}
 use Rattle.gate.specs.Gate.{Reply}
@@ -66,10 +66,10 @@ module _ (f : TaskFile) where
 
     -- the packet and the list as it completes them; "Only 55h asking for 16 bytes takes a list; else it is empty"
     abbrev pub packet_at : List ℕ
-    packet_at = if is_packet_run f then set f.packet f.at v else f.packet
+    packet_at = choose is_packet_run f then set f.packet f.at v else f.packet
 
     abbrev pub list_at : List ℕ
-    list_at = if is_list_run f then set f.list f.at v else []
+    list_at = choose is_list_run f then set f.list f.at v else []
 
     -- the target's answer there
     abbrev pub reply_at : Drive → List ℕ → List ℕ → Reply Deck

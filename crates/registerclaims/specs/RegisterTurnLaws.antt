@@ -3,7 +3,7 @@ use Rattle.std.specs.Prelude.{ℕ, ◌+◌, ◌%◌, ◌≡◌, refl, Bool, leng
 use Rattle.std.proofs.Common.{◌∙◌, arith, length-set}
 use Rattle.std.proofs.Math.Bool.{true, false, not}
 use Rattle.std.proofs.lemmas.Bool.{false≢true}
-use Rattle.ground.specs.Tests.{◌and◌, ◌or◌, if◌then◌else◌, either}
+use Rattle.ground.specs.Tests.{◌and◌, ◌or◌, choose◌then◌else◌, either}
 use Rattle.claims.proofs.UnitLaws.{or-none}
 use Rattle.taskfile.specs.declared.TaskFile.{TaskFile}
 use Rattle.taskfile.specs.declared.Phase.{Phase}
@@ -35,20 +35,20 @@ due_itself e = record { refuses = refl; giving = refl; performing = refl }
 
 module _ (f : TaskFile) (v : ℕ) where
   packet-due : IsDue false false (ends_packet f v) (packet_byte f v).due
-  unfolding packet_byte packet_end if◌then◌else◌ ◌and◌
+  unfolding packet_byte packet_end choose◌then◌else◌ ◌and◌
   packet-due = go (eqb (f.at + 1) packet_bytes) (takes_list (set f.packet f.at v)) _ _ _
     where
       go : (ends list : Bool) (g h k : TaskFile)
-          → IsDue false false (ends and not list) (if ends then (if list then held g else record { due = Performs; file = h }) else held k).due
+          → IsDue false false (ends and not list) (choose ends then (choose list then held g else record { due = Performs; file = h }) else held k).due
       go true true g h k = due_itself _
       go true false g h k = due_itself _
       go false list g h k = due_itself _
 
   list-due : IsDue false false (ends_list f v) (list_byte f v).due
-  unfolding list_byte if◌then◌else◌
+  unfolding list_byte choose◌then◌else◌
   list-due = go (eqb (f.at + 1) list_bytes) _ _
     where
-      go : (ends : Bool) (g h : TaskFile) → IsDue false false ends (if ends then record { due = PerformsListed; file = g } else held h).due
+      go : (ends : Bool) (g h : TaskFile) → IsDue false false ends (choose ends then record { due = PerformsListed; file = g } else held h).due
       go true g h = due_itself _
       go false g h = due_itself _
 
@@ -61,11 +61,11 @@ module _ (f : TaskFile) (v : ℕ) where
 
   command-due : (s : Phase)
       → IsDue (not (eqb v 0xA0) or is_packet s or is_list s or is_answer s) false false (write_turn s f (command_turn f v)).due
-  unfolding ◌or◌ if◌then◌else◌
+  unfolding ◌or◌ choose◌then◌else◌
   command-due s = go s (eqb v 0xA0) _
     where
       go : (s : Phase) (b : Bool) (g : TaskFile)
-          → IsDue (not b or is_packet s or is_list s or is_answer s) false false (write_turn s f (if b then held g else refused_turn f)).due
+          → IsDue (not b or is_packet s or is_list s or is_answer s) false false (write_turn s f (choose b then held g else refused_turn f)).due
       go s true g = write-due s g
       go Idle false g = due_itself _
       go PacketRun false g = due_itself _

@@ -1,6 +1,6 @@
 -- K14: what one access hands on to the next; "Until the transfer ends the response memory is handed on as it was left."
 use Rattle.std.specs.Prelude.{ℕ, zero, suc, Bool, true, false, List, [], ◌∷◌, take, drop}
-use Rattle.ground.specs.Tests.{if◌then◌else◌}
+use Rattle.ground.specs.Tests.{choose◌then◌else◌}
 use Rattle.drive.specs.declared.state.Drive.{Drive}
 use Rattle.taskfile.specs.declared.TaskFile.{TaskFile}
 use Rattle.taskfile.specs.declared.Phase.{Phase}
@@ -55,12 +55,12 @@ is_giving AnswerRun = true
 unfoldable pub drain : ℕ → List ℕ → Transfer → List (List Answer)
 drain zero t x = []
 drain (suc k) t x =
-    if is_giving (phase_of x.file) then reads_of (count_of x.file) t x ∷ drain k t (after_reads (count_of x.file) t x) else []
+    choose is_giving (phase_of x.file) then reads_of (count_of x.file) t x ∷ drain k t (after_reads (count_of x.file) t x) else []
 
 -- and what they leave
 unfoldable pub drained : ℕ → List ℕ → Transfer → Transfer
 drained zero t x = x
-drained (suc k) t x = if is_giving (phase_of x.file) then drained k t (after_reads (count_of x.file) t x) else x
+drained (suc k) t x = choose is_giving (phase_of x.file) then drained k t (after_reads (count_of x.file) t x) else x
 
 -- ---- the host writes
 
@@ -79,7 +79,7 @@ is_taking AnswerRun = false
 unfoldable pub feed : ℕ → List ℕ → List ℕ → Transfer → List (List ℕ)
 feed zero l t x = []
 feed (suc k) l t x =
-    if is_taking (phase_of x.file)
+    choose is_taking (phase_of x.file)
     then take (count_of x.file) l ∷ feed k (drop (count_of x.file) l) t (after_writes (take (count_of x.file) l) t x)
     else []
 
@@ -87,4 +87,4 @@ feed (suc k) l t x =
 unfoldable pub fed : ℕ → List ℕ → List ℕ → Transfer → Transfer
 fed zero l t x = x
 fed (suc k) l t x =
-    if is_taking (phase_of x.file) then fed k (drop (count_of x.file) l) t (after_writes (take (count_of x.file) l) t x) else x
+    choose is_taking (phase_of x.file) then fed k (drop (count_of x.file) l) t (after_writes (take (count_of x.file) l) t x) else x

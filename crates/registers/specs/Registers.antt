@@ -1,6 +1,6 @@
 -- K14: "A crate above the first puts 004's ATAPI registers around the target."
 use Rattle.std.specs.Prelude.{ℕ, ◌≡◌, List, [], length, get_or, ltb}
-use Rattle.ground.specs.Tests.{if◌then◌else◌}
+use Rattle.ground.specs.Tests.{choose◌then◌else◌}
 use Rattle.ground.specs.Memory.{fill}
 use Rattle.deck.specs.declared.Deck.{Deck}
 use Rattle.drive.specs.declared.state.Drive.{Drive}
@@ -44,7 +44,7 @@ performed a f =
 -- "the runs read the memory lent at that call"
 unfoldable pub gives : TaskFile → TaskFile → Drive → List ℕ → Stepped
 gives f next d m =
-    if ltb (length m) bound then stands f (plain short_memory 0 d) else stands next (plain 0 (get_or m f.at 0) d)
+    choose ltb (length m) bound then stands f (plain short_memory 0 d) else stands next (plain 0 (get_or m f.at 0) d)
 
 -- what an access comes to, by what is due at it; "Reset .. is also a power-on of the target, in the default form"
 abbrev pub step_by : Due → TaskFile → TaskFile → Drive → List ℕ → List ℕ → Stepped

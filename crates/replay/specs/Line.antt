@@ -1,6 +1,6 @@
 -- The lines that a call prints.
 use Rattle.std.specs.Prelude.{ℕ, Bool, List, [], ◌∷◌, eqb, length, take}
-use Rattle.ground.specs.Tests.{if◌then◌else◌}
+use Rattle.ground.specs.Tests.{choose◌then◌else◌}
 use Rattle.ground.specs.Number.{bytes32}
 use Rattle.print.specs.Joined.{◌next◌, spaced, line_end}
 use Rattle.print.specs.Hex.{hex_byte, shown}
@@ -23,7 +23,7 @@ use Rattle.shelf.specs.declared.totals.Counted.TheVariants.{Is, TooLarge}
 
 -- `0` or `1`
 unfoldable pub digit : Bool → ℕ
-digit b = if b then 49 else 48
+digit b = choose b then 49 else 48
 
 -- three bytes, each after a space
 abbrev pub triple : Sense → List ℕ
@@ -61,7 +61,7 @@ call letter number = (letter ∷ []) next spaced (decimal number)
 
 -- K6: "where N is 4, in `p` and `s` lines, it is written `4.R`, R the broken rule"
 unfoldable pub rule_text : ℕ → ℕ → List ℕ
-rule_text number rule = if eqb number unfit then 46 ∷ decimal rule else []
+rule_text number rule = choose eqb number unfit then 46 ∷ decimal rule else []
 
 unfoldable pub ruled_call : ℕ → ℕ → ℕ → List ℕ
 ruled_call letter number rule = call letter number next rule_text number rule

@@ -1,6 +1,6 @@
 -- "Each session is read as the part of the table that begins at its A0 descriptor."
 use Rattle.std.specs.Prelude.{ℕ, zero, suc, ◌+◌, ◌-◌, ◌*◌, Bool, List, length, drop, leb, eqb}
-use Rattle.ground.specs.Tests.{◌and◌, ◌or◌, every, if◌then◌else◌}
+use Rattle.ground.specs.Tests.{◌and◌, ◌or◌, every, choose◌then◌else◌}
 use Rattle.table.specs.Layout.{row, session_at, point_at, pmin_at, A0, A1, A2, B0, C0}
 use Rattle.table.specs.Row.{row_at, names}
 use Rattle.sessions.specs.declared.session.Session.{Session}
@@ -19,7 +19,7 @@ tracks d = last d + 1 - first d
 
 -- one where POINT q is p, and none where it is not
 unfoldable pub one : ℕ → ℕ → ℕ
-one q p = if eqb q p then 1 else 0
+one q p = choose eqb q p then 1 else 0
 
 -- K1: "After a session's tracks there may stand at most one POINT B0h and then at most one C0h descriptor"
 abbrev pub b0s : List ℕ → ℕ
@@ -78,4 +78,4 @@ in_order n d = every n (in_place d) and eqb (starts d n) (length d)
 
 -- what the session reader answers
 unfoldable pub read_session : ℕ → List ℕ → Session
-read_session k d = if is_session k d then Is (first d) (last d) (size d) else Not
+read_session k d = choose is_session k d then Is (first d) (last d) (size d) else Not

@@ -3,7 +3,7 @@ use Rattle.std.specs.Prelude.{◌≡◌, refl, Bool, true, false, List, ℕ, zer
 use Rattle.std.proofs.Common.{sym, ap, ◌∙◌, arith, add-one, lt_of_not-le, le-leb, leb-true, eq-eqb, ne_eqb, eqb-true, length-drop, get_or-drop}
 use Rattle.std.proofs.Math.Decide.{dec_le, ℕ_discrete}
 use Rattle.std.proofs.Math.ListN.{get_or-eq_default}
-use Rattle.ground.specs.Tests.{every, if◌then◌else◌, either, and_head, and_tail, and_both, when, unless, every-at}
+use Rattle.ground.specs.Tests.{every, choose◌then◌else◌, either, and_head, and_tail, and_both, when, unless, every-at}
 use Rattle.table.specs.Layout.{row, session_at, point_at, A0, A1, A2, B0, C0}
 use Rattle.table.specs.Row.{row_at, names}
 use Rattle.sessions.specs.Session.{first, last, tracks, one, b0s, c0s, count, size, listed, numbered, is_session, starts, session, before, follows, in_place, in_order, read_session}
@@ -150,7 +150,7 @@ pub read_session_not : (k : ℕ) (s : List ℕ) → (IsSession k s → ⊥) → 
 unfolding read_session
 read_session_not k s n = decided (is_session k s) refl
   where
-    decided : (b : Bool) → is_session k s ≡ b → Not ≡ (if is_session k s then Is (first s) (last s) (size s) else Not)
+    decided : (b : Bool) → is_session k s ≡ b → Not ≡ (choose is_session k s then Is (first s) (last s) (size s) else Not)
     decided true e = absurd (n (is_session_parts e))
     decided false e = sym (unless _ _ _ e)
 

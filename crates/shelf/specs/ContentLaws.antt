@@ -7,7 +7,7 @@ use Prim.Native.Nat.{ℕ, zero, suc, ◌+◌, ◌-◌, ◌≤◌, ◌<◌}
 use native.Mathlib.Omega.{arith}
 use Rattle.std.proofs.Math.Decide.{dec_le, ℕ_discrete}
 use Rattle.std.proofs.lemmas.Bool.{lt-leb}
-use Rattle.ground.specs.Tests.{◌and◌, if◌then◌else◌, and_on, and_off, and_late, when, unless}
+use Rattle.ground.specs.Tests.{◌and◌, choose◌then◌else◌, and_on, and_off, and_late, when, unless}
 use Rattle.table.specs.Layout.{last_session, descriptors, flags_at, point_at, A0, A1, A2, B0, C0, is_track}
 use Rattle.table.specs.Row.{address_at}
 use Rattle.table.specs.RowLaws.{is_track_true, is_track-over}
@@ -34,7 +34,7 @@ use Rattle.shelf.specs.declared.content.Held.{Held}
 -- ---- of any table: each block is a data block, an audio block or one of no track
 
 three : (a b : Bool) → one_if (a and b) + one_if (a and not b) + one_if (not a) ≡ 1
-unfolding ◌and◌ one_if if◌then◌else◌
+unfolding ◌and◌ one_if choose◌then◌else◌
 three true true = refl
 three true false = refl
 three false true = refl
@@ -170,14 +170,14 @@ module _ {t : List ℕ} (f : Fit t) where
     -- of the track after i others of the session after k others; of that session and what stands before it
     abbrev track_such : ℕ → ℕ → ℕ
     track_such k i =
-        if such (track_at (descriptors t) (row_of k i))
+        choose such (track_at (descriptors t) (row_of k i))
         then edge (session (descriptors t) k) (tracks (session (descriptors t) k)) (i + 1)
         - edge (session (descriptors t) k) (tracks (session (descriptors t) k)) i
         else 0
 
     abbrev session_such : ℕ → ℕ
     session_such k =
-        (if such no_track then gap_before (descriptors t) k else 0) + sum_below (tracks (session (descriptors t) k)) (track_such k)
+        (choose such no_track then gap_before (descriptors t) k else 0) + sum_below (tracks (session (descriptors t) k)) (track_such k)
 
     abbrev counts : ℕ → ℕ
     counts e = count_below e (λ b. such (track_of (descriptors t) b))
@@ -185,7 +185,7 @@ module _ {t : List ℕ} (f : Fit t) where
     -- up to a session's first track
     gap-counts : (k : ℕ) → k < last_session t
         → counts (track_start (session (descriptors t) k) 0)
-        ≡ counts (out_before (descriptors t) k) + (if such no_track then gap_before (descriptors t) k else 0)
+        ≡ counts (out_before (descriptors t) k) + (choose such no_track then gap_before (descriptors t) k else 0)
     unfolding gap_before
     gap-counts k h =
         count_run _ (such no_track) (out_before (descriptors t) k) (track_start (session (descriptors t) k) 0) (out-begins k h)
@@ -242,10 +242,10 @@ module _ {t : List ℕ} (f : Fit t) where
   such-mode : (mode : Mode) (k : ℕ) → k < last_session t → session_such (is_mode mode) k ≡ mode_blocks mode (session (descriptors t) k)
   unfolding mode_blocks track_blocks is_mode is_track ◌and◌
   such-mode mode k h =
-      let z : (if is_mode mode no_track then gap_before (descriptors t) k else 0) ≡ 0 = unless _ _ _ refl in
+      let z : (choose is_mode mode no_track then gap_before (descriptors t) k else 0) ≡ 0 = unless _ _ _ refl in
       let e = sum_same (tracks (session (descriptors t) k)) (track_such (is_mode mode) k)
       (track_blocks mode (session (descriptors t) k) (tracks (session (descriptors t) k))) (λ i l. ap
-      (λ (x : Bool). if x
+      (λ (x : Bool). choose x
       then edge (session (descriptors t) k) (tracks (session (descriptors t) k)) (i + 1)
       - edge (session (descriptors t) k) (tracks (session (descriptors t) k)) i
       else 0) (mode-row k i h l)) in
@@ -259,7 +259,7 @@ module _ {t : List ℕ} (f : Fit t) where
   such-none : (k : ℕ) → k < last_session t → session_such is_none k ≡ gap_before (descriptors t) k
   unfolding is_none is_track ◌and◌
   such-none k h =
-      let g : (if is_none no_track then gap_before (descriptors t) k else 0) ≡ gap_before (descriptors t) k = when _ _ _ refl in
+      let g : (choose is_none no_track then gap_before (descriptors t) k else 0) ≡ gap_before (descriptors t) k = when _ _ _ refl in
       let z = sum-zero (tracks (session (descriptors t) k)) (track_such is_none k) (λ i l. unless _ _ _ (ap not (row-track k i h l))) in
       omega arith
 

@@ -2,7 +2,7 @@
 use Rattle.std.specs.Prelude.{◌≡◌, refl, Bool, true, false, ℕ, zero, suc, ◌+◌, ◌-◌, ◌≤◌, ◌<◌}
 use Rattle.std.proofs.Common.{◌∙◌, arith, add-one, lt_of_not-le}
 use Rattle.std.proofs.Math.Decide.{dec_le}
-use Rattle.ground.specs.Tests.{if◌then◌else◌, when, unless}
+use Rattle.ground.specs.Tests.{choose◌then◌else◌, when, unless}
 use Rattle.shelf.specs.Count.{sum_below, one_if, count_below}
 
 -- ---- sums
@@ -62,13 +62,13 @@ count_most (suc n) p =
 -- numbers from a up to e that pass the test alike: all of them are counted, or none
 pub count_run :
     (p : ℕ → Bool) (x : Bool) (a e : ℕ) → a ≤ e → ((b : ℕ) → a ≤ b → b < e → p b ≡ x)
-    → count_below e p ≡ count_below a p + (if x then e - a else 0)
+    → count_below e p ≡ count_below a p + (choose x then e - a else 0)
 count_run p x a zero l h =
     let z : a ≡ 0 = omega arith in
-    let n : (if x then 0 - a else 0) ≡ 0 = nothing x in
-    rw z (let m : (if x then 0 - 0 else 0) ≡ 0 = rw z at n in omega arith)
+    let n : (choose x then 0 - a else 0) ≡ 0 = nothing x in
+    rw z (let m : (choose x then 0 - 0 else 0) ≡ 0 = rw z at n in omega arith)
   where
-    nothing : (x : Bool) → (if x then 0 - a else 0) ≡ 0
+    nothing : (x : Bool) → (choose x then 0 - a else 0) ≡ 0
     nothing true = when true (0 - a) 0 refl ∙ omega arith
     nothing false = unless false (0 - a) 0 refl
 count_run p x a (suc e) l h = elim (dec_le a e) [
@@ -79,11 +79,11 @@ count_run p x a (suc e) l h = elim (dec_le a e) [
       rw z (let m = nothing x in omega arith))
 ]
   where
-    one_more : (x : Bool) → p e ≡ x → a ≤ e → (if x then suc e - a else 0) ≡ (if x then e - a else 0) + one_if (p e)
+    one_more : (x : Bool) → p e ≡ x → a ≤ e → (choose x then suc e - a else 0) ≡ (choose x then e - a else 0) + one_if (p e)
     one_more true q g = let u = one_if_true (p e) q in let v = when true (suc e - a) 0 refl in let w = when true (e - a) 0 refl in omega arith
     one_more false q g = let u = one_if_false (p e) q in let v = unless false (suc e - a) 0 refl in let w = unless false (e - a) 0 refl in omega arith
 
-    nothing : (x : Bool) → (if x then suc e - suc e else 0) ≡ 0
+    nothing : (x : Bool) → (choose x then suc e - suc e else 0) ≡ 0
     nothing true = when true (suc e - suc e) 0 refl ∙ omega arith
     nothing false = unless false (suc e - suc e) 0 refl
 

@@ -1,7 +1,7 @@
 -- A shelf of Table E, a disc of two sessions with a gap between them, tables of data length 0 and 1, and one cut off: its totals, by computation,
 -- block by block.
 use Rattle.std.specs.Prelude.{◌≡◌, refl, List, ◌∷◌, ◌++◌, ℕ, take}
-use Rattle.ground.specs.Tests.{◌and◌, ◌or◌, every, if◌then◌else◌}
+use Rattle.ground.specs.Tests.{◌and◌, ◌or◌, every, choose◌then◌else◌}
 use Rattle.address.specs.Address.{is_msf}
 use Rattle.table.specs.Layout.{is_track, is_extra}
 use Rattle.table.specs.Row.{start_of, names, simple, free, plain, head_a0, head_a1, headed, addressed, row_test}
@@ -37,5 +37,5 @@ example_totals = record {
 }
 
 pub example-tested : shelf example_shelf ≡ example_totals
-unfolding ◌and◌ ◌or◌ every if◌then◌else◌ is_msf is_track is_extra start_of names simple free plain head_a0 head_a1 headed addressed row_test one size listed numbered is_session starts before follows in_place in_order rule1 rule2 each_row rises out_before begins_after rising rule7 first_broken late_rules row_rules fault is_fit next_out out_at covers wanted next_found found track_of is_mode sum_below one_if count_below tracks_in blocks_in is_none if_fit of_table totals_of wholes_in rest_in wholes rest cut_off tables shelf
+unfolding ◌and◌ ◌or◌ every choose◌then◌else◌ is_msf is_track is_extra start_of names simple free plain head_a0 head_a1 headed addressed row_test one size listed numbered is_session starts before follows in_place in_order rule1 rule2 each_row rises out_before begins_after rising rule7 first_broken late_rules row_rules fault is_fit next_out out_at covers wanted next_found found track_of is_mode sum_below one_if count_below tracks_in blocks_in is_none if_fit of_table totals_of wholes_in rest_in wholes rest cut_off tables shelf
 example-tested = refl

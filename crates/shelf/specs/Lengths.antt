@@ -1,6 +1,6 @@
 -- The same blocks by the tracks' lengths, as the code counts them: no block is gone over.
 use Rattle.std.specs.Prelude.{ℕ, zero, suc, ◌+◌, ◌-◌, Bool, true, false, List, ltb}
-use Rattle.ground.specs.Tests.{if◌then◌else◌}
+use Rattle.ground.specs.Tests.{choose◌then◌else◌}
 use Rattle.table.specs.Layout.{flags_at}
 use Rattle.sessions.specs.Session.{tracks, session}
 use Rattle.disc.specs.Rules.{session_lead_out, track_start, out_before}
@@ -11,11 +11,11 @@ use Rattle.shelf.specs.declared.content.Run.{Run}
 
 -- of the session that s begins with, with n tracks: where the track after i others starts, and past the last the lead-out
 unfoldable pub edge : List ℕ → ℕ → ℕ → ℕ
-edge s n i = if ltb i n then track_start s i else session_lead_out s
+edge s n i = choose ltb i n then track_start s i else session_lead_out s
 
 -- the blocks of the track after i others, if it is of that mode
 unfoldable pub track_blocks : Mode → List ℕ → ℕ → ℕ → ℕ
-track_blocks mode s n i = if flagged mode (flags_at s (3 + i)) then edge s n (i + 1) - edge s n i else 0
+track_blocks mode s n i = choose flagged mode (flags_at s (3 + i)) then edge s n (i + 1) - edge s n i else 0
 
 -- the blocks of the session's tracks of that mode
 unfoldable pub mode_blocks : Mode → List ℕ → ℕ
@@ -35,9 +35,9 @@ idle = record { blocks = 0; running = false; from = 0 }
 -- what is known once a track has been passed that starts there
 unfoldable pub run_past : Bool → ℕ → Run → Run
 run_past b start r =
-    if b
-    then (if r.running then r else record { blocks = r.blocks; running = true; from = start })
-    else (if r.running then record { blocks = r.blocks + (start - r.from); running = false; from = 0 } else r)
+    choose b
+    then (choose r.running then r else record { blocks = r.blocks; running = true; from = start })
+    else (choose r.running then record { blocks = r.blocks + (start - r.from); running = false; from = 0 } else r)
 
 -- once the first i tracks have been passed
 unfoldable pub run_at : List ℕ → ℕ → Run
@@ -46,4 +46,4 @@ run_at s (suc i) = run_past (is_data (flags_at s (3 + i))) (track_start s i) (ru
 
 -- the blocks in all, where the next edge is there
 unfoldable pub blocks_to : ℕ → Run → ℕ
-blocks_to e r = if r.running then r.blocks + (e - r.from) else r.blocks
+blocks_to e r = choose r.running then r.blocks + (e - r.from) else r.blocks

@@ -3,7 +3,7 @@ use Rattle.std.specs.Prelude.{◌≡◌, refl, Bool, true, false, List, ℕ, zer
 use Rattle.std.proofs.Math.Path.{sym}
 use Rattle.std.proofs.Common.{subst, ◌∙◌, arith, add-one, lt_of_not-le, lt-ltb, le-ltb}
 use Rattle.std.proofs.Math.Decide.{dec_le}
-use Rattle.ground.specs.Tests.{if◌then◌else◌, when, unless}
+use Rattle.ground.specs.Tests.{choose◌then◌else◌, when, unless}
 use Rattle.table.specs.Layout.{flags_at}
 use Rattle.disc.specs.Rules.{session_lead_out, track_start}
 use Rattle.disc.specs.FitLaws.{Rises}
@@ -85,7 +85,7 @@ pub record Come (r : Run) (e blocks : ℕ) : Type 0 where
 
 come-next :
     (b x : Bool) (r : Run) (e e' blocks : ℕ) → r.running ≡ x → e ≤ e' → Come r e blocks
-    → Come (run_past b e r) e' (blocks + (if b then e' - e else 0))
+    → Come (run_past b e r) e' (blocks + (choose b then e' - e else 0))
 come-next true true r e e' blocks q l c =
     let u = c.from in
     let v = sym (blocks_to_on e r q) ∙ c.total in
@@ -134,7 +134,7 @@ blocks-most s n r (suc i) l =
     let m = track-most (is_data (flags_at s (3 + i))) in
     rw (add-one i) at (let z : sum_below (i + 1) (track_blocks Data s n) ≤ edge s n (i + 1) = omega arith in z)
   where
-    track-most : (b : Bool) → (if b then edge s n (i + 1) - edge s n i else 0) ≤ edge s n (i + 1) - edge s n i
+    track-most : (b : Bool) → (choose b then edge s n (i + 1) - edge s n i else 0) ≤ edge s n (i + 1) - edge s n i
     track-most true = let w = when true (edge s n (i + 1) - edge s n i) 0 refl in omega arith
     track-most false = let w = unless false (edge s n (i + 1) - edge s n i) 0 refl in omega arith
 

@@ -3,7 +3,7 @@ use Rattle.std.specs.Prelude.{◌≡◌, refl, Bool, true, false, List, [], ◌�
 use Rattle.std.proofs.Common.{sym, ap, ◌∙◌, append_assoc, append-nil, arith, lt_of_not-le, length-drop, take-append-drop, ne_eqb}
 use Rattle.std.proofs.Math.Decide.{dec_le}
 use Rattle.std.proofs.lemmas.Bool.{lt-leb}
-use Rattle.ground.specs.Tests.{if◌then◌else◌, and_off, and_late}
+use Rattle.ground.specs.Tests.{choose◌then◌else◌, and_off, and_late}
 use Rattle.table.specs.Layout.{bound, data_length, header}
 use Rattle.disc.specs.Rules.{rule1, fault, is_fit, first_broken}
 use Rattle.disc.specs.RulesLaws.{fault-first}
@@ -67,7 +67,7 @@ over_broken t h = rule1_broken t (sym (and_late _ _ (and_off _ _ (lt-leb _ _ h))
 
 -- its blocks, in all
 table-blocks : (t : List ℕ) → (of_table t).data_blocks + (of_table t).audio_blocks + (of_table t).trackless ≡ if_fit t (last_out t)
-unfolding of_table if_fit if◌then◌else◌
+unfolding of_table if_fit choose◌then◌else◌
 table-blocks t = decided (is_fit t) refl
   where
     decided : (b : Bool) → is_fit t ≡ b → (of_table t).data_blocks + (of_table t).audio_blocks + (of_table t).trackless ≡ if_fit t (last_out t)
@@ -79,7 +79,7 @@ table_each :
     (t : List ℕ)
     → (of_table t).fit
     + ((of_table t).rule1 + (of_table t).rule2 + (of_table t).rule3 + (of_table t).rule4 + (of_table t).rule5 + (of_table t).rule6 + (of_table t).rule7) ≡ 1
-unfolding of_table if_fit is_fit one_if if◌then◌else◌
+unfolding of_table if_fit is_fit one_if choose◌then◌else◌
 table_each t = which (fault t) refl (fault-first t).most
   where
     which : (n : ℕ) → fault t ≡ n → n ≤ 7

@@ -1,6 +1,6 @@
 -- "A program reads tables from standard input, each its data length plus 2 long": a stream of bytes cut into tables.
 use Rattle.std.specs.Prelude.{ℕ, zero, suc, ◌+◌, ◌-◌, List, [], ◌∷◌, ◌++◌, length, take, drop, leb, ◌≡◌}
-use Rattle.ground.specs.Tests.{if◌then◌else◌}
+use Rattle.ground.specs.Tests.{choose◌then◌else◌}
 use Rattle.ground.specs.Memory.{fill}
 use Rattle.table.specs.Layout.{data_length}
 use Rattle.shelf.specs.declared.totals.Totals.{Totals}
@@ -20,11 +20,11 @@ table_length s = data_length s + 2
 unfoldable pub wholes_in : ℕ → List ℕ → List (List ℕ)
 wholes_in zero s = []
 wholes_in (suc n) s =
-    if leb (table_length s) (length s) then take (table_length s) s ∷ wholes_in n (drop (table_length s) s) else []
+    choose leb (table_length s) (length s) then take (table_length s) s ∷ wholes_in n (drop (table_length s) s) else []
 
 unfoldable pub rest_in : ℕ → List ℕ → List ℕ
 rest_in zero s = s
-rest_in (suc n) s = if leb (table_length s) (length s) then rest_in n (drop (table_length s) s) else s
+rest_in (suc n) s = choose leb (table_length s) (length s) then rest_in n (drop (table_length s) s) else s
 
 -- all of them: there are no more than bytes
 unfoldable pub wholes : List ℕ → List (List ℕ)
@@ -52,7 +52,7 @@ counted a s = bounded (sum a (shelf s))
 
 -- totals, and how many bytes were counted for them
 unfoldable pub passed_to : Totals → ℕ → Passed
-passed_to a used = if within a then On a used else Over
+passed_to a used = choose within a then On a used else Over
 
 -- what was read so far: its whole tables are counted, and how many bytes they take is told
 unfoldable pub passed : Totals → List ℕ → Passed

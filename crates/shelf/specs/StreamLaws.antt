@@ -8,7 +8,7 @@ use Rattle.std.proofs.Math.ListN.{length, drop, length-drop}
 use Rattle.std.proofs.lemmas.List.{take-append-le, drop-append-le}
 use Rattle.std.proofs.Math.Seq.{take-append_seam}
 use Rattle.std.proofs.lemmas.Bool.{lt-leb}
-use Rattle.ground.specs.Tests.{if◌then◌else◌, when, unless, either}
+use Rattle.ground.specs.Tests.{choose◌then◌else◌, when, unless, either}
 use Rattle.ground.specs.Memory.{Laid, fill, fill_fits}
 use Rattle.shelf.specs.Totals.{nothing, sum, of_table, totals_of, within, bounded}
 use Rattle.shelf.specs.TotalsLaws.{sum_assoc, sum_comm, sum-nothing, nothing-sum, totals-none, totals-next, totals-one, totals-append, nothing-within, within-over, within_chose, bounded_is, bounded-over, bounded-told, bounded-told-over}
@@ -23,7 +23,7 @@ use Rattle.shelf.specs.declared.stream.Taken.TheVariants.{On as OnTaken, Over as
 
 -- how long the table is that s begins with, where it is whole; else 0
 unfoldable pub length_of_whole : List ℕ → ℕ
-length_of_whole s = if leb (table_length s) (length s) then table_length s else 0
+length_of_whole s = choose leb (table_length s) (length s) then table_length s else 0
 
 pub whole_length-whole : (s : List ℕ) → table_length s ≤ length s → length_of_whole s ≡ table_length s
 unfolding length_of_whole
@@ -56,7 +56,7 @@ wholes_in_enough (suc n) zero s h k = let l : length s < table_length s = omega 
 wholes_in_enough (suc n) (suc m) s h k = elim (dec_le (table_length s) (length s)) [
   | yes g ↦ (let l = length-drop (table_length s) s in
       let r = wholes_in_enough n m (drop (table_length s) s) (omega arith) (omega arith) in
-      ap (λ (x : List (List ℕ)). if leb (table_length s) (length s) then take (table_length s) s ∷ x else []) r)
+      ap (λ (x : List (List ℕ)). choose leb (table_length s) (length s) then take (table_length s) s ∷ x else []) r)
   | no g ↦ (let l = lt-leb _ _ (lt_of_not-le g) in unless _ _ _ l ∙ sym (unless _ _ _ l))
 ]
 
@@ -68,7 +68,7 @@ rest_in_enough (suc n) zero s h k = let l : length s < table_length s = omega ar
 rest_in_enough (suc n) (suc m) s h k = elim (dec_le (table_length s) (length s)) [
   | yes g ↦ (let l = length-drop (table_length s) s in
       let r = rest_in_enough n m (drop (table_length s) s) (omega arith) (omega arith) in
-      ap (λ (x : List ℕ). if leb (table_length s) (length s) then x else s) r)
+      ap (λ (x : List ℕ). choose leb (table_length s) (length s) then x else s) r)
   | no g ↦ (let l = lt-leb _ _ (lt_of_not-le g) in unless _ _ _ l ∙ sym (unless _ _ _ l))
 ]
 

@@ -1,7 +1,7 @@
 -- The thirteen totals: "prints, one a line: tables, fit ones, unfit ones by K6's rule, and over the fit ones tracks, data blocks, audio blocks,
 -- blocks of no track".
 use Rattle.std.specs.Prelude.{ℕ, ◌+◌, ◌≤◌, Bool, List, [], ◌∷◌, leb, eqb}
-use Rattle.ground.specs.Tests.{◌and◌, if◌then◌else◌}
+use Rattle.ground.specs.Tests.{◌and◌, choose◌then◌else◌}
 use Rattle.disc.specs.Rules.{fault, is_fit}
 use Rattle.tracks.specs.Track.{is_mode}
 use Rattle.tracks.specs.declared.track.Mode.TheVariants.{Data, Audio}
@@ -49,7 +49,7 @@ sum a b = record {
 
 -- a fit one adds that
 unfoldable pub if_fit : List ℕ → ℕ → ℕ
-if_fit t n = if is_fit t then n else 0
+if_fit t n = choose is_fit t then n else 0
 
 -- of one table; "unfit ones by K6's rule": the first that is broken
 unfoldable pub of_table : List ℕ → Totals
@@ -103,7 +103,7 @@ within a =
 
 -- "past that it stops with "total too large""
 unfoldable pub bounded : Totals → Counted
-bounded a = if within a then Is a else TooLarge
+bounded a = choose within a then Is a else TooLarge
 
 -- the totals in the order of their lines
 abbrev pub numbers_of : Totals → List ℕ

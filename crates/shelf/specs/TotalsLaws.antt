@@ -3,7 +3,7 @@ use Rattle.std.specs.Prelude.{◌≡◌, refl, Bool, true, false, ◌⊎◌, Lis
 use Rattle.std.proofs.Common.{sym, ap, ◌∙◌, true≢false, inl, inr, ⊎_elim, arith, add_assoc, add_comm, add-zero, zero-add, lt_of_not-le, le-leb, leb-true, eqb-true}
 use Rattle.std.proofs.Math.Decide.{dec_le}
 use Rattle.std.proofs.lemmas.Bool.{lt-leb}
-use Rattle.ground.specs.Tests.{◌and◌, if◌then◌else◌, and_head, and_tail, and_both, when, unless}
+use Rattle.ground.specs.Tests.{◌and◌, choose◌then◌else◌, and_head, and_tail, and_both, when, unless}
 use Rattle.disc.specs.Rules.{fault, is_fit}
 use Rattle.disc.specs.RulesLaws.{is_fit_true}
 use Rattle.disc.specs.FitLaws.{fit-span}
@@ -148,7 +148,7 @@ within-over a b h = decided (within (sum a b)) refl
     decided false e = e
 
 -- which of two it was that the test led to
-pub within_chose : {A : Type 0} (a : Totals) {x y r : A} → r ≡ (if within a then x else y)
+pub within_chose : {A : Type 0} (a : Totals) {x y r : A} → r ≡ (choose within a then x else y)
     → ((within a ≡ true) × (r ≡ x)) ⊎ ((within a ≡ false) × (r ≡ y))
 within_chose a {x} {y} {r} h = decided (within a) refl
   where
@@ -194,7 +194,7 @@ of_rule rule = record {
 }
 
 pub of_table-unfit : (t : List ℕ) → is_fit t ≡ false → of_table t ≡ of_rule (fault t)
-unfolding of_table if_fit is_fit one_if if◌then◌else◌
+unfolding of_table if_fit is_fit one_if choose◌then◌else◌
 of_table-unfit t h = rw h
 
 -- and one that is adds what it holds
@@ -218,7 +218,7 @@ of_fit n d a g = record {
 pub of_table_fit :
     (t : List ℕ) {n d a g : ℕ} → is_fit t ≡ true → n ≡ tracks_in t → d ≡ blocks_in (is_mode Data) t → a ≡ blocks_in (is_mode Audio) t
     → g ≡ blocks_in is_none t → of_fit n d a g ≡ of_table t
-unfolding of_table if_fit is_fit one_if if◌then◌else◌
+unfolding of_table if_fit is_fit one_if choose◌then◌else◌
 of_table_fit t h p q r s = let z : fault t ≡ 0 = eqb-true _ _ h in rw (z, p, q, r, s)
 
 -- what is read off the disc and counted in the table is what a fit table adds

@@ -1,6 +1,6 @@
 -- What the one walk over the table asks of a descriptor where it stands.
 use Rattle.std.specs.Prelude.{ℕ, Bool, true, leb, eqb}
-use Rattle.ground.specs.Tests.{◌and◌, if◌then◌else◌}
+use Rattle.ground.specs.Tests.{◌and◌, choose◌then◌else◌}
 use Rattle.table.specs.Layout.{A0, A1}
 use Rattle.table.specs.Row.{frames_of, names, simple, free, head_a0, head_a1}
 use Rattle.table.specs.declared.row.Row.{Row}
@@ -22,7 +22,7 @@ extra_kept r k = eqb r.session k and free r
 
 -- it is passed where a descriptor with POINT p may stand: one with that POINT is kept, and any other is none
 unfoldable pub extra_passed : Row → ℕ → ℕ → Bool
-extra_passed r k p = if eqb r.point p then extra_kept r k else true
+extra_passed r k p = choose eqb r.point p then extra_kept r k else true
 
 -- it holds an address that is `low` or later, with seconds to 59 and frames to 74
 unfoldable pub climbs : Row → ℕ → Bool

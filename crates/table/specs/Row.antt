@@ -1,6 +1,6 @@
 -- A descriptor of the lent table as a value, and the tests that rules 3, 4, 5 and 6 make of one.
 use Rattle.std.specs.Prelude.{ℕ, ◌+◌, ◌*◌, ◌/◌, Bool, true, List, length, get_or, eqb}
-use Rattle.ground.specs.Tests.{◌and◌, ◌or◌, if◌then◌else◌}
+use Rattle.ground.specs.Tests.{◌and◌, ◌or◌, choose◌then◌else◌}
 use Rattle.address.specs.Address.{frames, address_of, is_msf}
 use Rattle.table.specs.Layout.{row, A0, A1, A2, is_track, is_extra}
 use Rattle.table.specs.declared.row.Row.{Row}
@@ -31,7 +31,7 @@ blank = record { session = 0; flags = 0; tno = 0; point = 0; min = 0; sec = 0; f
 
 -- what the reader answers: the descriptor that eleven bytes write, and a blank one off any other number of bytes
 unfoldable pub row_of : List ℕ → Row
-row_of b = if eqb (length b) row then row_from b 0 else blank
+row_of b = choose eqb (length b) row then row_from b 0 else blank
 
 -- the address that it holds, counted in frames from 00:00:00 on
 unfoldable pub frames_of : Row → ℕ
@@ -66,7 +66,7 @@ free r = eqb (adr r) 5 and eqb r.tno 0
 
 -- rule 3, by POINT wherever the descriptor stands
 unfoldable pub plain : Row → Bool
-plain r = if is_extra r.point then free r else simple r
+plain r = choose is_extra r.point then free r else simple r
 
 -- "A0's PSEC is 00h, 10h or 20h and its PFRAME 0"
 unfoldable pub head_a0 : Row → Bool
@@ -78,12 +78,12 @@ head_a1 r = eqb r.psec 0 and eqb r.pframe 0
 
 -- rule 5; K1: "Rules 5 to 7 .. pass over" B0h and C0h
 unfoldable pub headed : Row → Bool
-headed r = if eqb r.point A0 then head_a0 r else (if eqb r.point A1 then head_a1 r else true)
+headed r = choose eqb r.point A0 then head_a0 r else (choose eqb r.point A1 then head_a1 r else true)
 
 -- rule 6: "A2 (lead-out) and every track hold an address from 00:02:00 to 99:59:74, seconds to 59, frames to 74"; it passes over them too
 unfoldable pub addressed : Row → Bool
-addressed r = if eqb r.point A2 or is_track r.point then is_msf r.pmin r.psec r.pframe else true
+addressed r = choose eqb r.point A2 or is_track r.point then is_msf r.pmin r.psec r.pframe else true
 
 -- the test that each of rules 3, 5 and 6 makes
 unfoldable pub row_test : ℕ → Row → Bool
-row_test n r = if eqb n 3 then plain r else (if eqb n 5 then headed r else addressed r)
+row_test n r = choose eqb n 3 then plain r else (choose eqb n 5 then headed r else addressed r)

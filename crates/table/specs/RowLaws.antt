@@ -3,7 +3,7 @@ use Rattle.std.specs.Prelude.{◌≡◌, refl, Bool, true, false, not, List, ℕ
 use Rattle.std.proofs.Common.{sym, ap, ◌∙◌, arith, add-zero, le-leb, eq-eqb, eqb-true, ne_eqb, length-drop, get_or-drop, get_or-take, length-take-le}
 use Rattle.std.proofs.Math.Decide.{ℕ_discrete}
 use Rattle.std.proofs.lemmas.Bool.{lt-leb}
-use Rattle.ground.specs.Tests.{◌and◌, ◌or◌, if◌then◌else◌, and_head, and_both, and_off, and_late, or_left, or_right, or_else, when, unless}
+use Rattle.ground.specs.Tests.{◌and◌, ◌or◌, choose◌then◌else◌, and_head, and_both, and_off, and_late, or_left, or_right, or_else, when, unless}
 use Rattle.address.specs.Address.{is_msf}
 use Rattle.address.specs.Laws.{InRange, is_msf_range}
 use Rattle.table.specs.Layout.{row, A0, A1, A2, B0, C0, is_track, is_extra}
@@ -84,7 +84,7 @@ unfolding plain
 plain-simple r h g = unless _ _ _ (is_extra_not r.point h g)
 
 pub row_test_3 : (r : Row) → row_test 3 r ≡ plain r
-unfolding row_test if◌then◌else◌
+unfolding row_test choose◌then◌else◌
 row_test_3 r = refl
 
 -- ---- rule 5
@@ -132,7 +132,7 @@ unfolding headed
 headed_other r h g = unless _ _ _ (ne_eqb _ _ h) ∙ unless _ _ _ (ne_eqb _ _ g)
 
 pub row_test_5 : (r : Row) → row_test 5 r ≡ headed r
-unfolding row_test if◌then◌else◌
+unfolding row_test choose◌then◌else◌
 row_test_5 r = refl
 
 -- ---- rule 6
@@ -155,7 +155,7 @@ unfolding addressed
 addressed_other r p e h = unless _ _ _ (rw e h)
 
 pub row_test_6 : (r : Row) → row_test 6 r ≡ addressed r
-unfolding row_test if◌then◌else◌
+unfolding row_test choose◌then◌else◌
 row_test_6 r = refl
 
 -- ---- what no rule asks an address of

@@ -1,6 +1,6 @@
 -- A packet met by the drive: "Numbers of refusal", then "Steps for a packet".
 use Rattle.std.specs.Prelude.{ℕ, not, List, length, eqb, ltb}
-use Rattle.ground.specs.Tests.{◌and◌, if◌then◌else◌}
+use Rattle.ground.specs.Tests.{◌and◌, choose◌then◌else◌}
 use Rattle.attention.specs.declared.Unit.{Unit}
 use Rattle.deck.specs.declared.Deck.{Deck}
 use Rattle.drive.specs.declared.state.Drive.{Drive}
@@ -35,14 +35,14 @@ steps c u m p t l = steps_by (kind_of c) c u m p t l
 -- "Packets test 1, 2, 3, 4, then the steps below": n is the length of the response memory. "When not loaded, the table isn't looked at."
 unfoldable pub refusal_of : Drive → List ℕ → List ℕ → ℕ → ℕ
 refusal_of d p t n =
-    if not (eqb (length p) 12) then not_twelve
-    else (if not (is_known_state d) then unknown_state
-    else (if ltb n bound then short_memory
-    else (if is_loaded d.deck and not (is_fit t) then unfit else 0)))
+    choose not (eqb (length p) 12) then not_twelve
+    else (choose not (is_known_state d) then unknown_state
+    else (choose ltb n bound then short_memory
+    else (choose is_loaded d.deck and not (is_fit t) then unfit else 0)))
 
 -- the answer to the packet p with the table t, K4's parameter list l and a response memory of n bytes; K6: "Refusal 4 carries that number";
 -- K9: no number is tested after the steps (claims' Whole: no full answer passes the bound)
 unfoldable pub answer : Drive → List ℕ → List ℕ → List ℕ → ℕ → Reply Deck
 answer d p t l n =
-    if eqb (refusal_of d p t n) 0 then steps (decode (code_of p)) d.unit d.deck p t l
+    choose eqb (refusal_of d p t n) 0 then steps (decode (code_of p)) d.unit d.deck p t l
     else refuse (refusal_of d p t n) (rule_with (refusal_of d p t n) t) d.unit d.deck

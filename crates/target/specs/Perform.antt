@@ -1,6 +1,6 @@
 -- Steps 3 to 5: what a packet comes to that is performed. (INQUIRY and 4Ah also with an attention pending, any other once none is.)
 use Rattle.std.specs.Prelude.{ℕ, ◌≡◌, not, List, [], take}
-use Rattle.ground.specs.Tests.{◌and◌, if◌then◌else◌}
+use Rattle.ground.specs.Tests.{◌and◌, choose◌then◌else◌}
 use Rattle.ground.specs.Memory.{fill}
 use Rattle.deck.specs.declared.Deck.{Deck}
 use Rattle.deck.specs.Deck.{is_loaded}
@@ -66,7 +66,7 @@ work Unknown p m t l = fails UnknownCode
 
 -- steps 3 and 4: "Unknown code: 05/20/00." (an unknown code needs no disc) "If the command needs a disc and the drive isn't loaded: .."
 unfoldable pub perform : Command → List ℕ → Deck → List ℕ → List ℕ → Result Deck
-perform c p m t l = if needs_disc c p and not (is_loaded m) then fails (no_medium m) else work c p m t l
+perform c p m t l = choose needs_disc c p and not (is_loaded m) then fails (no_medium m) else work c p m t l
 
 -- ---- what the code hands back, and what it writes
 

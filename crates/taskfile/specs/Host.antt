@@ -1,6 +1,6 @@
 -- K14: what each access of the host makes of the record, and what is due at it.
 use Rattle.std.specs.Prelude.{ℕ, ◌+◌, ◌-◌, ◌%◌, min, set, eqb}
-use Rattle.ground.specs.Tests.{if◌then◌else◌}
+use Rattle.ground.specs.Tests.{choose◌then◌else◌}
 use Rattle.taskfile.specs.declared.TaskFile.{TaskFile}
 use Rattle.taskfile.specs.declared.Phase.{Phase}
 use Rattle.taskfile.specs.declared.Phase.TheVariants.{Idle, PacketRun, ListRun, AnswerRun}
@@ -14,14 +14,14 @@ use Rattle.taskfile.specs.Run.{limit_of, takes_list, phase_of}
 -- an access by its number: 004's register addresses, data read and reset above them; what is none of these is a write to no register
 unfoldable pub access_of : ℕ → Access
 access_of n =
-    if eqb n 0 then Data
-    else (if eqb n 1 then Features
-    else (if eqb n 4 then CountLow
-    else (if eqb n 5 then CountHigh
-    else (if eqb n 6 then Drive
-    else (if eqb n 7 then Command
-    else (if eqb n 8 then Read
-    else (if eqb n 9 then Reset else Nowhere)))))))
+    choose eqb n 0 then Data
+    else (choose eqb n 1 then Features
+    else (choose eqb n 4 then CountLow
+    else (choose eqb n 5 then CountHigh
+    else (choose eqb n 6 then Drive
+    else (choose eqb n 7 then Command
+    else (choose eqb n 8 then Read
+    else (choose eqb n 9 then Reset else Nowhere)))))))
 
 -- "the record stays as it was"
 abbrev pub refused_turn : TaskFile → Turn
@@ -45,35 +45,35 @@ passed f = placed f f.reason f.limit f.len (f.at + 1)
 -- a byte went and more remain: behind a whole run the next one begins, "the smaller of what remains and the .. limit"
 unfoldable pub gone : TaskFile → TaskFile
 gone f =
-    if eqb ((f.at + 1) % f.limit) 0
+    choose eqb ((f.at + 1) % f.limit) 0
     then counting (passed f) (min f.limit (f.len - (f.at + 1)))
     else passed f
 
 -- the target's answer of status s and n bytes: it leaves in runs, or "status ends it" at once
 unfoldable pub answered : TaskFile → ℕ → ℕ → TaskFile
 answered f s n =
-    if eqb n 0 then ended (holding f f.features f.low f.high f.drive s)
+    choose eqb n 0 then ended (holding f f.features f.low f.high f.drive s)
     else begun (holding f f.features f.low f.high f.drive s) gives_answer_reason n
 
 -- the packet's end: 55h asking for 16 bytes takes its list, any other packet is performed with an empty one
 unfoldable pub packet_end : TaskFile → Turn
-packet_end f = if takes_list f.packet then held (begun f takes_list_reason list_bytes) else record { due = Performs; file = f }
+packet_end f = choose takes_list f.packet then held (begun f takes_list_reason list_bytes) else record { due = Performs; file = f }
 
 -- a byte of the packet
 unfoldable pub packet_byte : TaskFile → ℕ → Turn
 packet_byte f v =
-    if eqb (f.at + 1) packet_bytes then packet_end (limited (bearing f (set f.packet f.at v) f.list))
+    choose eqb (f.at + 1) packet_bytes then packet_end (limited (bearing f (set f.packet f.at v) f.list))
     else held (passed (bearing f (set f.packet f.at v) f.list))
 
 -- a byte of the list: "The target performs a packet at the call that completes it and its list"
 unfoldable pub list_byte : TaskFile → ℕ → Turn
 list_byte f v =
-    if eqb (f.at + 1) list_bytes then record { due = PerformsListed; file = bearing f f.packet (set f.list f.at v) }
+    choose eqb (f.at + 1) list_bytes then record { due = PerformsListed; file = bearing f f.packet (set f.list f.at v) }
     else held (gone (bearing f f.packet (set f.list f.at v)))
 
 -- a byte of the answer: behind the last "status ends it"
 unfoldable pub answer_byte : TaskFile → Turn
-answer_byte f = record { due = Gives; file = if eqb (f.at + 1) f.len then ended f else gone f }
+answer_byte f = record { due = Gives; file = choose eqb (f.at + 1) f.len then ended f else gone f }
 
 -- "15 exactly for .. a data write outside packet and list runs"
 abbrev pub data_turn : Phase → TaskFile → ℕ → Turn
@@ -98,7 +98,7 @@ write_turn AnswerRun f t = refused_turn f
 
 -- ".. a command other than A0h"
 abbrev pub command_turn : TaskFile → ℕ → Turn
-command_turn f v = if eqb v 0xA0 then held (asked f) else refused_turn f
+command_turn f v = choose eqb v 0xA0 then held (asked f) else refused_turn f
 
 -- the record with the byte v in the register that is written; "Writes of features, byte count and drive while idle are held"
 abbrev pub written : TaskFile → Access → ℕ → TaskFile

@@ -1,7 +1,7 @@
 -- K14: the limit, the bytes of a run, and which run a record is in.
 use Rattle.std.specs.Prelude.{ℕ, ◌-◌, ◌%◌, min, Bool, List, get_or, eqb, ltb, leb}
 use Rattle.ground.specs.Number.{word16}
-use Rattle.ground.specs.Tests.{◌and◌, if◌then◌else◌}
+use Rattle.ground.specs.Tests.{◌and◌, choose◌then◌else◌}
 use Rattle.table.specs.Layout.{bound}
 use Rattle.taskfile.specs.declared.TaskFile.{TaskFile}
 use Rattle.taskfile.specs.declared.Phase.{Phase}
@@ -10,7 +10,7 @@ use Rattle.taskfile.specs.TaskFile.{takes_list_reason, takes_packet_reason, give
 
 -- "0 and FFFFh count as 65,534, an odd limit as one less, 1 as 2"
 unfoldable pub limit_of : ℕ → ℕ
-limit_of c = if eqb c 0 then 65534 else (if eqb c 1 then 2 else c - c % 2)
+limit_of c = choose eqb c 0 then 65534 else (choose eqb c 1 then 2 else c - c % 2)
 
 -- the most bytes that an answer has
 abbrev pub most_bytes : ℕ
@@ -45,7 +45,7 @@ is_answer_run f = eqb f.reason gives_answer_reason and leb f.len most_bytes and 
 -- the run that a record is in; "A record that no call could have made is in no run"
 unfoldable pub phase_of : TaskFile → Phase
 phase_of f =
-    if is_packet_run f then PacketRun else (if is_list_run f then ListRun else (if is_answer_run f then AnswerRun else Idle))
+    choose is_packet_run f then PacketRun else (choose is_list_run f then ListRun else (choose is_answer_run f then AnswerRun else Idle))
 
 -- the bytes left of the run of the next byte
 abbrev pub left_in : TaskFile → ℕ

@@ -6,7 +6,7 @@ use Rattle.std.proofs.Math.Bool.{true, false}
 use native.Mathlib.Omega.{arith}
 use Rattle.std.proofs.Math.Dec.{eqb}
 use borrow.Author.Tests.{eqb-true, ltb-true, leb-true, eq-eqb, lt-ltb}
-use Rattle.ground.specs.Tests.{◌and◌, if◌then◌else◌, when, unless, and_head, and_tail, and_off, and_both}
+use Rattle.ground.specs.Tests.{◌and◌, choose◌then◌else◌, when, unless, and_head, and_tail, and_off, and_both}
 use Rattle.taskfile.specs.declared.TaskFile.{TaskFile}
 use Rattle.taskfile.specs.declared.Phase.{Phase}
 use Rattle.taskfile.specs.declared.Phase.TheVariants.{Idle, PacketRun, ListRun, AnswerRun}
@@ -83,11 +83,11 @@ module _ (f : TaskFile) where
     pub answer : is_answer_run f ≡ is_answer s
 
   pub phase_of-tested : Tested (phase_of f)
-  unfolding phase_of if◌then◌else◌
+  unfolding phase_of choose◌then◌else◌
   phase_of-tested = go (is_packet_run f) (is_list_run f) (is_answer_run f) refl refl refl
     where
       go : (p l a : Bool) → is_packet_run f ≡ p → is_list_run f ≡ l → is_answer_run f ≡ a
-          → Tested (if p then PacketRun else (if l then ListRun else (if a then AnswerRun else Idle)))
+          → Tested (choose p then PacketRun else (choose l then ListRun else (choose a then AnswerRun else Idle)))
       go true l a h i j =
           let e = is_packet_run-reason h in
           record { packet = h; list = is_list_run-other (ap (λ (r : ℕ). eqb r 0) e); answer = is_answer_run-other (ap (λ (r : ℕ). eqb r 2) e) }
@@ -112,7 +112,7 @@ module _ (f : TaskFile) where
 
   -- "status ends it (CoD 1, IO 1)": in no run
   pub phase_of-idle : f.reason ≡ shows_status_reason → phase_of f ≡ Idle
-  unfolding phase_of is_packet_run is_list_run is_answer_run if◌then◌else◌ ◌and◌
+  unfolding phase_of is_packet_run is_list_run is_answer_run choose◌then◌else◌ ◌and◌
   phase_of-idle h = rw h
 
   -- in a run of the packet: 12 bytes, not all of them here

@@ -1,6 +1,6 @@
 -- 43h, READ TOC: the full answer of each format, and which questions are bad. The disc is what was read off the table, d its descriptors.
 use Rattle.std.specs.Prelude.{ℕ, ◌+◌, ◌-◌, ◌*◌, Bool, true, false, not, List, ◌∷◌, ◌++◌, length, take, ltb, eqb}
-use Rattle.ground.specs.Tests.{◌and◌, if◌then◌else◌}
+use Rattle.ground.specs.Tests.{◌and◌, choose◌then◌else◌}
 use Rattle.ground.specs.Number.{bytes16}
 use Rattle.disc.specs.declared.disc.Disc.{Disc}
 use Rattle.table.specs.Layout.{row, rows}
@@ -38,10 +38,10 @@ format2 disc n d = headed 1 disc.sessions (whole (session d (n - 1)))
 -- the full answer of a format
 unfoldable pub toc_bytes : Disc → ℕ → Bool → ℕ → List ℕ → List ℕ
 toc_bytes disc f msf n d =
-    if eqb f 0 then format0 disc msf n d else (if eqb f 1 then format1 disc msf else format2 disc n d)
+    choose eqb f 0 then format0 disc msf n d else (choose eqb f 1 then format1 disc msf else format2 disc n d)
 
 -- "N over the last track and not AAh: 05/24/00", "N over S is 05/24/00", "Other formats: 05/24/00."
 unfoldable pub toc_bad : Disc → ℕ → ℕ → Bool
 toc_bad disc f n =
-    if eqb f 0 then ltb disc.last n and not (eqb n AA)
-    else (if eqb f 1 then false else (if eqb f 2 then ltb disc.sessions n else true))
+    choose eqb f 0 then ltb disc.last n and not (eqb n AA)
+    else (choose eqb f 1 then false else (choose eqb f 2 then ltb disc.sessions n else true))

@@ -1,6 +1,6 @@
 -- READ TOC's descriptors: "0, ADR/control, number, 0, address (4 bytes, or 0 M S F)".
 use Rattle.std.specs.Prelude.{ℕ, zero, suc, Bool, List, [], ◌∷◌, ◌++◌, leb}
-use Rattle.ground.specs.Tests.{◌and◌, if◌then◌else◌}
+use Rattle.ground.specs.Tests.{◌and◌, choose◌then◌else◌}
 use Rattle.address.specs.Address.{shown_address}
 use Rattle.table.specs.Layout.{flags_at, point_at, is_track}
 use Rattle.table.specs.Row.{address_at}
@@ -18,7 +18,7 @@ unfoldable pub is_shown : ℕ → List ℕ → ℕ → Bool
 is_shown n d j = is_track (point_at d j) and leb n (point_at d j)
 
 unfoldable pub shown_track : Bool → ℕ → List ℕ → ℕ → List ℕ
-shown_track msf n d j = if is_shown n d j then described_row msf d j else []
+shown_track msf n d j = choose is_shown n d j then described_row msf d j else []
 
 -- "8 bytes for each track numbered N or more", of the table's first descriptors
 unfoldable pub shown_tracks : Bool → ℕ → List ℕ → ℕ → List ℕ

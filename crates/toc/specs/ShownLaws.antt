@@ -1,7 +1,7 @@
 -- The laws of what is shown of the descriptors: how long it is, and how it is made, one descriptor after the other.
 use Rattle.std.specs.Prelude.{◌≡◌, refl, Bool, true, false, List, [], ◌++◌, ℕ, zero, suc, ◌+◌, ◌*◌, ◌≤◌, length, take, drop}
 use Rattle.std.proofs.Common.{sym, ap, ◌∙◌, arith, add-one, length-append, take-add}
-use Rattle.ground.specs.Tests.{if◌then◌else◌, when, unless, either}
+use Rattle.ground.specs.Tests.{choose◌then◌else◌, when, unless, either}
 use Rattle.table.specs.Layout.{row, flags_at, point_at}
 use Rattle.table.specs.Row.{address_at}
 use Rattle.toc.specs.declared.shown.Show.{Show}
@@ -12,7 +12,7 @@ use Rattle.toc.specs.Shown.{described, described_row, is_shown, shown_track, sho
 -- how many of the first descriptors are shown
 unfoldable pub shown_count : ℕ → List ℕ → ℕ → ℕ
 shown_count n d zero = 0
-shown_count n d (suc j) = if is_shown n d j then shown_count n d j + 1 else shown_count n d j
+shown_count n d (suc j) = choose is_shown n d j then shown_count n d j + 1 else shown_count n d j
 
 -- ---- shown_tracks
 
@@ -48,14 +48,14 @@ shown_tracks-length msf n d (suc j) =
     length-append (shown_tracks msf n d j) (shown_track msf n d j) ∙ step (is_shown n d j) refl (shown_tracks-length msf n d j)
   where
     step : (b : Bool) → is_shown n d j ≡ b → length (shown_tracks msf n d j) ≡ 8 * shown_count n d j
-        → length (shown_tracks msf n d j) + length (shown_track msf n d j) ≡ 8 * (if is_shown n d j then shown_count n d j + 1 else shown_count n d j)
+        → length (shown_tracks msf n d j) + length (shown_track msf n d j) ≡ 8 * (choose is_shown n d j then shown_count n d j + 1 else shown_count n d j)
     step true e h =
         let l : length (shown_track msf n d j) ≡ 8 = ap length (shown_track_is msf n d j e) ∙ described-length msf (flags_at d j) (point_at d j) (address_at d j) in
-        let k : (if is_shown n d j then shown_count n d j + 1 else shown_count n d j) ≡ shown_count n d j + 1 = when _ _ _ e in
+        let k : (choose is_shown n d j then shown_count n d j + 1 else shown_count n d j) ≡ shown_count n d j + 1 = when _ _ _ e in
         omega arith
     step false e h =
         let l : length (shown_track msf n d j) ≡ 0 = ap length (shown_track_not msf n d j e) in
-        let k : (if is_shown n d j then shown_count n d j + 1 else shown_count n d j) ≡ shown_count n d j = unless _ _ _ e in
+        let k : (choose is_shown n d j then shown_count n d j + 1 else shown_count n d j) ≡ shown_count n d j = unless _ _ _ e in
         omega arith
 
 -- never more than there are

@@ -1,6 +1,6 @@
 -- "A block belongs to the track with the greatest start not above it, if it lies below that track's session's lead-out; else to no track."
 use Rattle.std.specs.Prelude.{ℕ, zero, suc, ◌+◌, ◌/◌, ◌%◌, Bool, true, not, List, leb, ltb, eqb}
-use Rattle.ground.specs.Tests.{◌and◌, ◌or◌, every, if◌then◌else◌}
+use Rattle.ground.specs.Tests.{◌and◌, ◌or◌, every, choose◌then◌else◌}
 use Rattle.table.specs.Layout.{rows, flags_at, point_at, A2, is_track}
 use Rattle.table.specs.Row.{address_at}
 use Rattle.tracks.specs.declared.track.Track.{Track}
@@ -24,7 +24,7 @@ track_with d j out = record { number = point_at d j; flags = flags_at d j; start
 
 -- the lead-out past descriptor c: its own address if it is an A2, else the one that stood before it
 unfoldable pub next_out : Track → ℕ
-next_out c = if eqb c.number A2 then c.start else c.out
+next_out c = choose eqb c.number A2 then c.start else c.out
 
 -- the lead-out of the session in which descriptor j stands: that of the nearest A2 before it
 unfoldable pub out_at : List ℕ → ℕ → ℕ
@@ -50,7 +50,7 @@ wanted (Number n) c u = is_track c.number and eqb c.number n
 
 -- what is found once descriptor c has been looked at too
 unfoldable pub next_found : Ask → Track → Track → Track
-next_found a c u = if wanted a c u then c else u
+next_found a c u = choose wanted a c u then c else u
 
 -- the track found among the first n descriptors: by block, the one with the greatest start not above it
 unfoldable pub found : Ask → List ℕ → ℕ → Track
@@ -59,7 +59,7 @@ found a d (suc j) = next_found a (track_at d j) (found a d j)
 
 -- the track to which a block belongs, or no track (number 0): "if it lies below that track's session's lead-out"
 unfoldable pub track_of : List ℕ → ℕ → Track
-track_of d b = if ltb b (found (Block b) d (rows d)).out then found (Block b) d (rows d) else no_track
+track_of d b = choose ltb b (found (Block b) d (rows d)).out then found (Block b) d (rows d) else no_track
 
 -- the track of that number, or no track
 unfoldable pub track_numbered : List ℕ → ℕ → Track
@@ -80,8 +80,8 @@ all_in mode d a n = every n (λ i. in_mode mode d (a + i))
 -- descriptor c lets the run from a up to e pass: a track that starts within it is of that mode, and no lead-out stands within it
 unfoldable pub passes : Mode → Track → ℕ → ℕ → Bool
 passes mode c a e =
-    if leb a c.start and ltb c.start e
-    then (if is_track c.number then flagged mode c.flags else not (eqb c.number A2))
+    choose leb a c.start and ltb c.start e
+    then (choose is_track c.number then flagged mode c.flags else not (eqb c.number A2))
     else true
 
 -- every descriptor does

@@ -1,6 +1,6 @@
 -- `command::class::class_at` meets its contract: the table keeps its rule, a test of all 256 rows that computes to true.
 use mathlib.Core.Path.{refl, ◌∙◌}
-use Rattle.ground.specs.Tests.{◌and◌, if◌then◌else◌, every}
+use Rattle.ground.specs.Tests.{◌and◌, choose◌then◌else◌, every}
 use Rattle.command.specs.Command.{decode}
 use Rattle.command.specs.Class.{class_of}
 use Rattle.command.specs.ClassLaws.{row_at_ruled}
@@ -8,5 +8,5 @@ use borrow.Author.Rules.{rules}
 use Rattle.command.proofs.class.class_at.Goals as goal
 
 pub returns : goal.returns
-unfolding ◌and◌ if◌then◌else◌ every decode class_of
+unfolding ◌and◌ choose◌then◌else◌ every decode class_of
 returns c = c.row_of.ensures ∙ row_at_ruled _ refl c.args.code (search rules)
