@@ -6,8 +6,7 @@ use Rattle.ground.specs.Tests.{or_left}
 use Rattle.drive.specs.declared.state.Drive.{Drive}
 use Rattle.deck.specs.Deck.{is_loaded}
 use Rattle.claims.specs.Telling.{Attention}
-use Rattle.claims.specs.History.{Standing}
-use Rattle.claims.specs.Call.{Form, by_default, Call, powering, answer, next, event, history, final, is_pending, is_power_on, causes, tells}
+use Rattle.claims.specs.Call.{Form, by_default, Call, powering, answer, next, event, final, is_pending, causes, tells}
 use Rattle.claims.specs.Device.{pends, told-once}
 use Rattle.claims.proofs.DriveDevice.{drive, drive_turns, drive-told, greeting-causes}
 use Rattle.claims.proofs.RefusalLaws.{refused_silent}

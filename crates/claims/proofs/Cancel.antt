@@ -1,18 +1,18 @@
 -- For Exercise 14, "which calls cancel": what always does, as laws of this drive and of its whole state; and what does on some drives only
 -- or on none, computed on Disc E with the parts of the state that are left changed. `next c d` is the state after the call c on d, and
 -- `(answer c d).number` its number, as in Call.antt.
-use Rattle.std.specs.Prelude.{◌≡◌, refl, true, false, List, [], ◌∷◌, map, ◌↔◌, ℕ, replicate}
+use Rattle.std.specs.Prelude.{◌≡◌, refl, true, false, List, [], map, ◌↔◌, ℕ}
 use Rattle.std.proofs.Common.{◌∙◌}
 use Rattle.ground.specs.Tests.{◌or◌, choose◌then◌else◌, every, and_tail}
 use Rattle.address.specs.Address.{is_msf}
 use Rattle.drive.specs.declared.state.Drive.{Drive}
-use Rattle.attention.specs.Sense.{triple, sense_at, same_sense, among, is_known}
-use Rattle.play.specs.Play.{no_play, is_status, is_play}
+use Rattle.attention.specs.Sense.{sense_at, same_sense, among, is_known}
+use Rattle.play.specs.Play.{is_status, is_play}
 use Rattle.page.specs.Page.{among as among_bytes, is_setting}
 use Rattle.attention.specs.Unit.{attend}
-use Rattle.deck.specs.Deck.{loaded, is_loaded, with_lock, opening}
-use Rattle.drive.specs.State.{is_known_state, with_deck, holding, showing, power_on, power_on_without_change, button, lay, lift}
-use Rattle.table.specs.Layout.{bound, is_track, is_extra}
+use Rattle.deck.specs.Deck.{is_loaded}
+use Rattle.drive.specs.State.{is_known_state, power_on, power_on_without_change, button, lay, lift}
+use Rattle.table.specs.Layout.{is_track, is_extra}
 use Rattle.table.specs.Row.{start_of, names, simple, plain, head_a0, head_a1, headed, addressed, row_test}
 use Rattle.sessions.specs.Session.{one, size, listed, numbered, is_session, starts, follows, in_place, in_order}
 use Rattle.disc.specs.Rules.{rule1, rule2, each_row, rises, begins_after, rising, rule7, first_broken, late_rules, row_rules, fault, is_fit}
@@ -25,12 +25,11 @@ use Rattle.blocks.specs.Range.{over, in_range, ranged}
 use Rattle.audio.specs.Audio.{started, is_over, pause_resume}
 use Rattle.target.specs.Perform.{perform}
 use Rattle.target.specs.Packet.{refusal_of, answer as reply_to}
-use Rattle.claims.specs.Call.{Form, by_default, without_change, Call, powering, pressing, laying, lifting, packet, answer, next, final, is_eject_or_load}
-use Rattle.claims.specs.Marked.{table_e, loaded_e}
-use Rattle.claims.specs.Differing.{Part, change, sense, tray, disc, lock, play, event, same_flag, same_play, same_page, add, differing}
+use Rattle.claims.specs.Call.{Form, by_default, without_change, Call, powering, pressing, laying, lifting, packet, next, final, is_eject_or_load}
+use Rattle.claims.specs.Differing.{same_flag, same_play, same_page, add, differing}
 use Rattle.claims.proofs.Differing.{differing-none}
 use Rattle.claims.proofs.CancelLaws.{lay-lift, lift-lay, packet-same, power-same, same_power, power-tells, forms-same, forms-apart, press-press}
-use Rattle.claims.specs.Cancel.{Granted, Keeps, reloaded, sent, test_unit_ready, eject, load, prevent, allow, read, play_audio, pause, resume, held_e, locked_e, playing_e, paused_e, open_e, open_empty_e, open_locked_e, closed_empty_e, Instance, cancel, only, instances, found_in, said_of}
+use Rattle.claims.specs.Cancel.{Granted, Keeps, reloaded, Instance, instances, found_in, said_of}
 
 -- ---- what cancels
 

@@ -1,15 +1,14 @@
 -- K12, "Masters arrive as cue sheets": what is written for a sheet, which sheets are refused, and what the output memory then holds.
-use Rattle.std.specs.Prelude.{◌≡◌, refl, ◌↔◌, ◌⊎◌, Bool, true, false, List, ◌++◌, ℕ, ◌+◌, ◌*◌, ◌/◌, ◌%◌, ◌≤◌, ◌<◌, length, drop}
+use Rattle.std.specs.Prelude.{◌≡◌, refl, ◌↔◌, ◌⊎◌, true, false, List, ◌++◌, ℕ, ◌/◌, ◌%◌, ◌≤◌, ◌<◌, length, drop}
 use Rattle.std.proofs.Common.{sym, ap, ◌∙◌, inl, inr, ⊎_elim, true≢false, arith, lt_of_not-le, eqb-true}
 use Rattle.std.proofs.Math.Decide.{dec_le}
-use Rattle.ground.specs.Tests.{◌and◌, and_head, and_tail, and_both, and_off, and_assoc}
+use Rattle.ground.specs.Tests.{and_head}
 use Rattle.ground.specs.Memory.{fill, fill_fits, fill_none}
-use Rattle.table.specs.Layout.{bound, descriptors, rows, flags_at, point_at, psec_at, is_extra}
-use Rattle.table.specs.Row.{row_at}
+use Rattle.table.specs.Layout.{bound}
 use Rattle.disc.specs.Rules.{is_fit}
 use Rattle.disc.specs.RulesLaws.{is_fit_true, fit_sized}
 use Rattle.cue.specs.declared.write.Written.{Written}
-use Rattle.cue.specs.Sheet.{AA, swapped, tracks_of, lead_out_of, is_lead_out, first_of, last_of, is_framed, every_adr, is_numbered, is_described}
+use Rattle.cue.specs.Sheet.{AA, swapped, tracks_of, lead_out_of, is_lead_out, is_numbered, is_described}
 use Rattle.cue.specs.SheetLaws.{is_described_parts}
 use Rattle.cue.specs.Made.{table_of}
 use Rattle.cue.specs.MadeLaws.{table_with-length}
@@ -131,20 +130,6 @@ cue_numbers s m = elim (answer-cases s m) [
 -- that a described sheet's tracks are f, f + 1, .. l, from 1 to 99, asks no more of it than a fit table does
 pub cue_numbering : (s t : List ℕ) → Holds t (tracks_of s) (lead_out_of s) → is_numbered (tracks_of s) ≡ true
 cue_numbering s t h = held-numbered h
-
--- so 13 may be said with less in "as described": the lead-in first, the lead-out last, and every ADR
-pub cue_13-framed : (s : List ℕ) (m : ℕ)
-    → ((answer s m).number ≡ 13) ↔ ((bound ≤ m) × (length s % 8 ≡ 0) × ((is_framed s and every_adr s ≡ false) ⊎ NoTable s))
-unfolding is_described
-cue_13-framed s m = (
-  λ h. let c = (cue_13 s m).0 h in (c.0, c.1, ⊎_elim (split (is_framed s and every_adr s) refl) inr c.2),
-  λ h. (cue_13 s m).1 (h.0, h.1, ⊎_elim (λ n. inl (sym (and_assoc _ _ _) ∙ sym (and_off _ _ n))) inr h.2),
-)
-  where
-    split : (b : Bool) → is_framed s and every_adr s ≡ b → is_described s ≡ false → (is_framed s and every_adr s ≡ false) ⊎ NoTable s
-    split false e n = inl e
-    split true e n = inr (λ t h.
-        true≢false (sym (and_both _ _ (and_head _ _ e) (and_both _ _ (and_tail _ _ e) (cue_numbering s t h))) ∙ n))
 
 -- and the table of a sheet of bytes is one of bytes: `NoTable` says no less where it is read of these alone
 pub cue-bytes : (s : List ℕ) → Bytes s → Bytes (table_of s)

@@ -1,14 +1,13 @@
 -- The parts in which two states differ: there are none exactly when the states are the same.
-use Rattle.std.specs.Prelude.{◌≡◌, refl, Bool, true, false, not, ◌↔◌, eqb}
+use Rattle.std.specs.Prelude.{◌≡◌, refl, Bool, true, false, ◌↔◌}
 use Rattle.std.proofs.Common.{sym, eq-eqb, eqb-true}
-use mathlib.Core.List.{List, [], ◌∷◌, nil≢cons}
-use Rattle.ground.specs.Tests.{◌and◌, and_head, and_tail, and_both}
+use mathlib.Core.List.{List, [], nil≢cons}
+use Rattle.ground.specs.Tests.{and_head, and_tail, and_both}
 use Rattle.play.specs.declared.Play.{Play}
 use Rattle.page.specs.declared.Page.{Page}
 use Rattle.drive.specs.declared.state.Drive.{Drive}
-use Rattle.attention.specs.Sense.{same_sense}
 use Rattle.attention.specs.SenseLaws.{same_sense-eq, same_sense_refl}
-use Rattle.claims.specs.Differing.{Part, power, change, sense, tray, disc, lock, play, page, event, same_flag, same_play, same_page, add, differing}
+use Rattle.claims.specs.Differing.{Part, same_flag, same_play, same_page, add, differing}
 
 -- ---- the laws
 

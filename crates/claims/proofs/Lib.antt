@@ -3,6 +3,7 @@ pub mod Cancel
 pub mod CancelLaws
 pub mod ContentsLaws
 pub mod CueSheet
+pub mod CueSheetFramed
 pub mod Differing
 pub mod DriveDevice
 pub mod Known
@@ -17,6 +18,7 @@ pub mod RefusalLaws
 pub mod Refused
 pub mod SingleLaws
 pub mod TrackList
+pub mod TrackListFirst
 pub mod TwinLaws
 pub mod TwoRuns
 pub mod UnitLaws

@@ -1,5 +1,5 @@
 -- MODE SELECT's is the only work that names the list, and 55h its only code.
-use Rattle.std.specs.Prelude.{◌≡◌, Bool, true, false, List, ℕ, eqb}
+use Rattle.std.specs.Prelude.{◌≡◌, Bool, false, List, ℕ, eqb}
 use Rattle.std.proofs.Math.Path.{refl}
 use Rattle.std.proofs.Common.{sym, ◌∙◌, true≢false}
 use Rattle.deck.specs.declared.Deck.{Deck}

@@ -1,8 +1,7 @@
 -- K4 on Disc E: a run of power-on, MODE SENSE and MODE SELECT, each with its marked result and the mode page after it.
-use Rattle.std.specs.Prelude.{ℕ, ◌≡◌, refl, Bool, true, List, [], ◌∷◌}
+use Rattle.std.specs.Prelude.{◌≡◌, refl, true}
 use Rattle.ground.specs.Tests.{◌and◌, ◌or◌, choose◌then◌else◌, every}
 use Rattle.address.specs.Address.{is_msf}
-use Rattle.deck.specs.declared.Deck.{Deck}
 use Rattle.attention.specs.Sense.{sense_at, same_sense, among, is_known}
 use Rattle.play.specs.Play.{is_status, is_play}
 use Rattle.page.specs.Page.{among as among_bytes, is_setting}
@@ -20,9 +19,9 @@ use Rattle.mode.specs.ModeSense.{values_of, page_shown}
 use Rattle.mode.specs.ModeSelect.{is_list_length, is_page, selected, mode_select}
 use Rattle.target.specs.Perform.{perform}
 use Rattle.target.specs.Packet.{refusal_of, answer}
-use Rattle.claims.specs.Marked.{loaded_e, gives, fails, same_bytes, same_outcome}
+use Rattle.claims.specs.Marked.{loaded_e, same_bytes, same_outcome}
 use Rattle.claims.specs.Differing.{same_page}
-use Rattle.claims.specs.Stepped.{packet, lends, powers, comes, after, Mark, mark, all_stepped}
+use Rattle.claims.specs.Stepped.{comes, after, all_stepped}
 use Rattle.claims.specs.Paged.{pages, page_marks}
 
 pub paged : all_stepped loaded_e page_marks ≡ true

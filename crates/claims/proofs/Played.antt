@@ -1,8 +1,7 @@
 -- K2 on Disc E, "Loaded, nothing pending": a run of audio commands and of moving on, each with its marked result and the play record after it.
-use Rattle.std.specs.Prelude.{ℕ, ◌≡◌, refl, Bool, true, List, [], ◌∷◌}
+use Rattle.std.specs.Prelude.{◌≡◌, refl, true}
 use Rattle.ground.specs.Tests.{◌and◌, ◌or◌, choose◌then◌else◌, every}
 use Rattle.address.specs.Address.{is_msf, to_msf, shown_address}
-use Rattle.deck.specs.declared.Deck.{Deck}
 use Rattle.attention.specs.Sense.{sense_at, same_sense, among, is_known}
 use Rattle.play.specs.Play.{is_status, is_play, moved_on}
 use Rattle.page.specs.Page.{among as among_bytes, is_setting}
@@ -23,9 +22,9 @@ use Rattle.audio.specs.Audio.{started, is_over, pause_resume}
 use Rattle.audio.specs.SubChannel.{sub_bad, index_of, relative, shown_relative, sub_bytes, reported}
 use Rattle.target.specs.Perform.{perform}
 use Rattle.target.specs.Packet.{refusal_of, answer}
-use Rattle.claims.specs.Marked.{loaded_e, gives, reads, fails, same_bytes, same_outcome}
+use Rattle.claims.specs.Marked.{loaded_e, same_bytes, same_outcome}
 use Rattle.claims.specs.Differing.{same_play}
-use Rattle.claims.specs.Stepped.{packet, moves, comes, after, Mark, mark, all_stepped}
+use Rattle.claims.specs.Stepped.{comes, after, all_stepped}
 use Rattle.claims.specs.Played.{plays, play_marks}
 
 pub played : all_stepped loaded_e play_marks ≡ true

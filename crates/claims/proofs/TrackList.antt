@@ -13,7 +13,6 @@ use Rattle.drive.specs.State.{is_known_state}
 use Rattle.table.specs.Layout.{bound}
 use Rattle.disc.specs.Rules.{is_fit}
 use Rattle.disc.specs.RulesLaws.{is_fit_true}
-use Rattle.disc.specs.FitLaws.{fit-span}
 use Rattle.disc.specs.Disc.{disc_of}
 use Rattle.gate.specs.Gate.{Reply}
 use Rattle.outcome.specs.Outcome.{bytes_of, state_of}
@@ -53,10 +52,6 @@ module _ (msf : Bool) (t : List ℕ) (f : is_fit t ≡ true) where
   -- "N 0": with an N up to the first track in its place it is the same list
   pub list-numbered : (n : ℕ) → n ≤ (disc_of t).first → list_with msf n t ≡ list_with msf 0 t
   list-numbered n h = list-made msf n t ∙ list-low msf n (contents_of t) (fit-numbers (is_fit_true f) n (omega arith)) ∙ sym (list-made msf 0 t)
-
-  -- so with N 1, of any fit table
-  pub list-numbered-1 : list_with msf 1 t ≡ list_with msf 0 t
-  list-numbered-1 = list-numbered 1 (fit-span (is_fit_true f)).low
 
 -- "For two fit tables of one session whose full format 0 answers (N 0, block addresses) are equal, every packet except READ TOC format 2,
 -- met by equal loaded states with equal response memory and parameter list, gets equal answers, states and response bytes."

@@ -1,12 +1,10 @@
 -- "Two runs that differ only in the fit tables lent after a power-on or a loading agree in every answer, state and response byte
 -- up to and including the answer that leaves nothing pending."
-use Rattle.std.specs.Prelude.{◌≡◌, true, List, ◌∷◌, ◌++◌, ℕ, ◌<◌, length}
+use Rattle.std.specs.Prelude.{◌≡◌, true, List, ◌∷◌, ◌++◌, length}
 use Rattle.drive.specs.declared.state.Drive.{Drive}
-use Rattle.claims.specs.Telling.{Answer}
-use Rattle.claims.specs.History.{Event, At}
 use Rattle.claims.specs.Runs.{Pairwise, pairwise_map, runs_long}
 use Rattle.claims.specs.Carried.{Board, runs-carried}
-use Rattle.claims.specs.Call.{Call, Happening, answer, next, event, history, final, is_attending, is_cause, Alike, same, tables, Sharing, itself, fitting, lend, left, history_on, final_on}
+use Rattle.claims.specs.Call.{Call, answer, next, event, history, final, is_cause, Alike, same, tables, Sharing, itself, fitting, lend, left, final_on}
 use Rattle.claims.specs.Device.{runs}
 use Rattle.claims.proofs.DriveDevice.{drive, cause_attends, lend_alike, left_alike}
 use Rattle.claims.specs.TwoRuns.{AgreeUpTo, AgreeCarried}

@@ -1,5 +1,5 @@
 -- K9: "with a fit table no full answer passes K1's bound, so refusal 3 covers it": every answer comes whole.
-use Rattle.std.specs.Prelude.{ℕ, ◌≤◌, min, ◌≡◌, refl, true, not, List, [], ◌∷◌, ◌++◌, length, take, drop}
+use Rattle.std.specs.Prelude.{ℕ, ◌≤◌, min, ◌≡◌, refl, true, not, List, ◌++◌, length, take, drop}
 use Rattle.std.proofs.Common.{ap, ◌∙◌, arith, length-take, le-ltb}
 use Rattle.ground.specs.Tests.{◌and◌, ◌or◌, choose◌then◌else◌}
 use Rattle.ground.specs.Memory.{fill_fits}

@@ -1,14 +1,10 @@
 -- "From power-on, over any calls: an attention is pending exactly when its cause happened at or since the last power-on
 -- and no later answer told it."
-use Rattle.std.specs.Prelude.{◌≡◌, refl, true, false, List, [], ◌∷◌, ◌++◌, ◌↔◌}
-use Rattle.std.proofs.Common.{◌∙◌}
-use Rattle.ground.specs.Tests.{or_left}
+use Rattle.std.specs.Prelude.{List}
 use Rattle.drive.specs.declared.state.Drive.{Drive}
-use Rattle.deck.specs.Deck.{is_loaded}
 use Rattle.claims.specs.Telling.{Attention}
 use Rattle.claims.specs.History.{Standing}
-use Rattle.claims.specs.Call.{Form, by_default, Call, powering, answer, next, event, history, final, is_pending, is_power_on, causes, tells}
-use Rattle.claims.specs.Device.{pends, told-once}
+use Rattle.claims.specs.Call.{Call, history, is_power_on, causes, tells}
 
 -- its cause happened at or since the last power-on, so that no power-on is later, and no later answer told it
 abbrev pub Stands : Attention → Drive → List Call → Type 0

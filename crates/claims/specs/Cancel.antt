@@ -1,33 +1,16 @@
 -- For Exercise 14, "which calls cancel": what always does, as laws of this drive and of its whole state; and what does on some drives only
 -- or on none, computed on Disc E with the parts of the state that are left changed. `next c d` is the state after the call c on d, and
 -- `(answer c d).number` its number, as in Call.antt.
-use Rattle.std.specs.Prelude.{◌≡◌, refl, true, false, List, [], ◌∷◌, map, ◌↔◌, ℕ, replicate}
-use Rattle.std.proofs.Common.{◌∙◌}
-use Rattle.ground.specs.Tests.{◌or◌, choose◌then◌else◌, every, and_tail}
-use Rattle.address.specs.Address.{is_msf}
+use Rattle.std.specs.Prelude.{◌≡◌, true, false, List, [], ◌∷◌, ℕ, replicate}
 use Rattle.drive.specs.declared.state.Drive.{Drive}
-use Rattle.attention.specs.Sense.{triple, sense_at, same_sense, among, is_known}
-use Rattle.play.specs.Play.{no_play, is_status, is_play}
-use Rattle.page.specs.Page.{among as among_bytes, is_setting}
-use Rattle.attention.specs.Unit.{attend}
-use Rattle.deck.specs.Deck.{loaded, is_loaded, with_lock, opening}
-use Rattle.drive.specs.State.{is_known_state, with_deck, holding, showing, power_on, power_on_without_change, button, lay, lift}
-use Rattle.table.specs.Layout.{bound, is_track, is_extra}
-use Rattle.table.specs.Row.{start_of, names, simple, plain, head_a0, head_a1, headed, addressed, row_test}
-use Rattle.sessions.specs.Session.{one, size, listed, numbered, is_session, starts, follows, in_place, in_order}
-use Rattle.disc.specs.Rules.{rule1, rule2, each_row, rises, begins_after, rising, rule7, first_broken, late_rules, row_rules, fault, is_fit}
-use Rattle.tracks.specs.Track.{next_out, out_at, covers, wanted, next_found, found, track_of, is_mode, in_mode, all_in}
-use Rattle.gate.specs.Unit.{pending_of}
-use Rattle.gate.specs.Gate.{gate}
-use Rattle.command.specs.Command.{decode}
-use Rattle.command.specs.Tray.{eject as ejects, load as loads, start_stop}
-use Rattle.blocks.specs.Range.{over, in_range, ranged}
-use Rattle.audio.specs.Audio.{started, is_over, pause_resume}
-use Rattle.target.specs.Perform.{perform}
-use Rattle.target.specs.Packet.{refusal_of, answer as reply_to}
-use Rattle.claims.specs.Call.{Form, by_default, without_change, Call, powering, pressing, laying, lifting, packet, answer, next, final, is_eject_or_load}
+use Rattle.attention.specs.Sense.{triple}
+use Rattle.play.specs.Play.{no_play}
+use Rattle.deck.specs.Deck.{loaded, with_lock, opening}
+use Rattle.drive.specs.State.{with_deck, holding, showing}
+use Rattle.table.specs.Layout.{bound}
+use Rattle.claims.specs.Call.{by_default, without_change, Call, powering, pressing, laying, lifting, packet, answer, next, final}
 use Rattle.claims.specs.Marked.{table_e, loaded_e}
-use Rattle.claims.specs.Differing.{Part, change, sense, tray, disc, lock, play, event, same_flag, same_play, same_page, add, differing}
+use Rattle.claims.specs.Differing.{Part, change, sense, tray, disc, lock, play, event, differing}
 
 -- the call is not refused
 abbrev pub Granted : Call → Drive → Type 0

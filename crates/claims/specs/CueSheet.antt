@@ -1,23 +1,9 @@
 -- K12, "Masters arrive as cue sheets": what is written for a sheet, which sheets are refused, and what the output memory then holds.
-use Rattle.std.specs.Prelude.{◌≡◌, refl, ◌↔◌, ◌⊎◌, Bool, true, false, List, ◌++◌, ℕ, ◌+◌, ◌*◌, ◌/◌, ◌%◌, ◌≤◌, ◌<◌, length, drop}
-use Rattle.std.proofs.Common.{sym, ap, ◌∙◌, inl, inr, ⊎_elim, true≢false, arith, lt_of_not-le, eqb-true}
-use Rattle.std.proofs.Math.Decide.{dec_le}
-use Rattle.ground.specs.Tests.{◌and◌, and_head, and_tail, and_both, and_off, and_assoc}
-use Rattle.ground.specs.Memory.{fill, fill_fits, fill_none}
-use Rattle.table.specs.Layout.{bound, descriptors, rows, flags_at, point_at, psec_at, is_extra}
+use Rattle.std.specs.Prelude.{◌≡◌, false, List, ℕ, ◌+◌, ◌*◌, ◌<◌, length}
+use Rattle.table.specs.Layout.{descriptors, rows, flags_at, point_at, psec_at, is_extra}
 use Rattle.table.specs.Row.{row_at}
-use Rattle.disc.specs.Rules.{is_fit}
-use Rattle.disc.specs.RulesLaws.{is_fit_true, fit_sized}
-use Rattle.cue.specs.declared.write.Written.{Written}
-use Rattle.cue.specs.Sheet.{AA, swapped, tracks_of, lead_out_of, is_lead_out, first_of, last_of, is_framed, every_adr, is_numbered, is_described}
-use Rattle.cue.specs.SheetLaws.{is_described_parts}
-use Rattle.cue.specs.Made.{table_of}
-use Rattle.cue.specs.MadeLaws.{table_with-length}
-use Rattle.cue.specs.MadeFit.{made-fit, made_holds, made-A0-flags, made-A1-flags, made-type, made-times, made_plain, held-numbered}
-use Rattle.cue.specs.Write.{Answer, refuse, answer, Turned}
-use Rattle.cue.specs.WriteLaws.{short, broken, other, none, made, answer-cases}
-use Rattle.cue.specs.Held.{Holds, Bytes}
-use Rattle.cue.specs.BytesLaws.{table_of-bytes}
+use Rattle.cue.specs.Sheet.{tracks_of, lead_out_of, first_of, last_of}
+use Rattle.cue.specs.Held.{Holds}
 
 -- ---- the table of a sheet
 

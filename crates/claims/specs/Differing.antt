@@ -1,13 +1,11 @@
 -- The parts in which two states differ: there are none exactly when the states are the same.
-use Rattle.std.specs.Prelude.{◌≡◌, refl, Bool, true, false, not, ◌↔◌, eqb}
-use Rattle.std.proofs.Common.{sym, eq-eqb, eqb-true}
-use mathlib.Core.List.{List, [], ◌∷◌, nil≢cons}
-use Rattle.ground.specs.Tests.{◌and◌, and_head, and_tail, and_both}
+use Rattle.std.specs.Prelude.{Bool, true, false, not, eqb}
+use mathlib.Core.List.{List, [], ◌∷◌}
+use Rattle.ground.specs.Tests.{◌and◌}
 use Rattle.play.specs.declared.Play.{Play}
 use Rattle.page.specs.declared.Page.{Page}
 use Rattle.drive.specs.declared.state.Drive.{Drive}
 use Rattle.attention.specs.Sense.{same_sense}
-use Rattle.attention.specs.SenseLaws.{same_sense-eq, same_sense_refl}
 
 -- the parts of a state: the two attentions, the held sense, tray, disc and lock, K2's play record, K4's mode page, K7's media event
 pub data Part : Type 0 where

@@ -4,10 +4,8 @@ use Rattle.std.specs.Prelude.{◌≡◌, true, List, ◌∷◌, ◌++◌, ℕ, �
 use Rattle.drive.specs.declared.state.Drive.{Drive}
 use Rattle.claims.specs.Telling.{Answer}
 use Rattle.claims.specs.History.{Event, At}
-use Rattle.claims.specs.Runs.{Pairwise, pairwise_map, runs_long}
-use Rattle.claims.specs.Carried.{Board, runs-carried}
-use Rattle.claims.specs.Call.{Call, Happening, answer, next, event, history, final, is_attending, is_cause, Alike, same, tables, Sharing, itself, fitting, lend, left, history_on, final_on}
-use Rattle.claims.specs.Device.{runs}
+use Rattle.claims.specs.Carried.{Board}
+use Rattle.claims.specs.Call.{Call, Happening, history, is_attending, history_on}
 
 -- after calls in common and c, the calls cs and ds: the events at place i have the same answer, with the memory that it leaves, and the same
 -- state after it (K2: "demand 3's state includes the record"), where each answer after c and before that place leaves an attention pending
