@@ -1,15 +1,9 @@
 -- the claims
-pub mod RegisterRefused
 pub mod RegisterMade
 pub mod RegisterLimit
 pub mod RegisterRuns
-pub mod TargetRuns
-pub mod ListRuns
-pub mod PacketRuns
 pub mod RunsBetween
 pub mod RegisterHistory
-pub mod RegisterAttentions
-pub mod RegisterTwoRuns
 pub mod RegisterUnique
 pub mod RegisterMarked
 -- their notions
@@ -19,13 +13,10 @@ pub mod RegisterRecord
 pub mod Transfer
 pub mod Cut
 -- their proofs
-pub mod RegisterTurnLaws
-pub mod RegisterRefusalLaws
 pub mod RegisterMadeLaws
 pub mod Along
 pub mod ReadLaws
 pub mod WriteLaws
-pub mod ListLaws
 -- over any device, and over any loop
 pub mod Agreeing
 pub mod Loop

@@ -172,9 +172,6 @@ abbrev pub Joined : ℕ → List ℕ → List ℕ → Transfer → Type 0
 Joined m b t x =
     (k : ℕ) → rounded_up (length b) m ≤ k → (joined (map (map byte_of) (drain k t x)) ≡ b) × (length (drain k t x) ≡ rounded_up (length b) m)
 
-pub leaves-whole : {m : ℕ} {b t : List ℕ} {x : Transfer} → Leaves m b t x → Joined m b t x
-leaves-whole w k e = (leaves-joined w k e, leaves-number w k e)
-
 -- an ended transfer is in no run
 pub over-idle : {x y : Transfer} → Over x y → phase_of y.file ≡ Idle
 over-idle {x} {y} w = rw w.file (ended-idle (counted x.file y.file))

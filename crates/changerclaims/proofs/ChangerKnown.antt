@@ -7,7 +7,7 @@ use Rattle.changer.specs.declared.Slot.{Slot}
 use Rattle.changer.specs.declared.Changer.{Changer}
 use Rattle.changer.specs.Changer.{is_in_order, power_on, power_on_without_change, moves_on}
 use Rattle.changer.specs.ChangerPacket.{answer, state_of}
-use Rattle.changerclaims.specs.ChangerKnownLaws.{power_known, answer-known, moves_known, answer_order, moves_order, power_order, answer-not-2, answer-not-11}
+use Rattle.changerclaims.proofs.ChangerKnownLaws.{power_known, answer-known, moves_known, answer_order, moves_order, power_order, answer-not-2, answer-not-11}
 
 -- ---- refusal 2
 

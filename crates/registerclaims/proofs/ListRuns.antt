@@ -20,10 +20,10 @@ use Rattle.registerclaims.specs.Loop.{loops-got, loops-going, loops-done}
 use Rattle.registerclaims.specs.Along.{along, Listing, begun-along, list_left, Shows, along-shows}
 use Rattle.registerclaims.specs.Transfer.{Transfer, transfer_of, next, after_writes, feed, fed}
 use Rattle.registerclaims.specs.RegisterRuns.{Leaves}
-use Rattle.registerclaims.specs.RegisterTurnLaws.{listed-limit}
-use Rattle.registerclaims.specs.TargetRuns.{listed-runs}
+use Rattle.registerclaims.proofs.RegisterTurnLaws.{listed-limit}
+use Rattle.registerclaims.proofs.TargetRuns.{listed-runs}
 use Rattle.registerclaims.specs.WriteLaws.{writes-last, entered, over, over-listing, entering-phase, list-turn, list-last}
-use Rattle.registerclaims.specs.ListLaws.{before, at, at_before, writes-on, write-loops}
+use Rattle.registerclaims.proofs.ListLaws.{before, at, at_before, writes-on, write-loops}
 
 -- "The target performs a packet at the call that completes it and its list": with the list l, and the packet and the limit as x has them
 pub record Completes (l : List ℕ) (x : TaskFile) (w : Turn) : Type 0 where

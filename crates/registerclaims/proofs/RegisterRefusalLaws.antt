@@ -36,7 +36,7 @@ use Rattle.taskfile.specs.HostLaws.{turn_of-ways, is_refused, is_performed, is_g
 use Rattle.registers.specs.declared.Stepped.{Stepped}
 use Rattle.registers.specs.Registers.{plain, stands, asks, performed, gives, step_by, memory_by, step_of, memory_of}
 use Rattle.registerclaims.specs.RegisterTurn.{is_out_of_turn, is_completing, packet_at, list_at, reply_at}
-use Rattle.registerclaims.specs.RegisterTurnLaws.{turn-due, turn-stays}
+use Rattle.registerclaims.proofs.RegisterTurnLaws.{turn-due, turn-stays}
 
 -- ---- the number, by what is due
 

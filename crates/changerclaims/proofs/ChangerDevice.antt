@@ -33,7 +33,7 @@ use Rattle.claims.proofs.DriveDevice.{move_on-turn}
 use Rattle.claims.proofs.RefusalLaws.{refused_untold}
 use Rattle.claims.specs.Device.{Device, Told, told, cause-lives}
 use Rattle.changerclaims.specs.ChangerKind.{carried_result, carried_kind, kind_on, rule_of, reply-kind, drive_tray, drive-moves}
-use Rattle.changerclaims.specs.ChangerKeptLaws.{returned_empty}
+use Rattle.changerclaims.proofs.ChangerKeptLaws.{returned_empty}
 use Rattle.changerclaims.specs.ChangerCall.{Call, powering, moving_on, packet, Answer, answer_with, answer, next, event, is_pending, is_attending, is_powering, is_packet, is_power_on, is_load, holds, taking, takes_disc, is_loading, is_cause, causes, tells, is_success, Alike, same, lists, tables, Lent, lend, left}
 
 -- ---- what a packet comes to: a Load of a slot that holds a disc is a loading, and nothing else is

@@ -29,7 +29,8 @@ use Rattle.claims.proofs.PacketLaws.{packet_blind}
 use Rattle.claims.proofs.DriveDevice.{cause_attends}
 use Rattle.registerclaims.specs.RegisterCall.{Console, Call, accessing, outside, Answer, answer, next, history, final, turn, due_call, target_call, have_packet, completes, Alike, same, fitting, gives_answer, is_live, is_free, is_free_on, lend, left, answers, follows, final_on}
 use Rattle.registerclaims.specs.Agreeing.{AgreeWhile, AgreeUntil, agree-until}
-use Rattle.registerclaims.specs.RegisterHistory.{target_state, target_exactly, data_call, access_call}
+use Rattle.registerclaims.specs.RegisterHistory.{data_call, access_call}
+use Rattle.registerclaims.proofs.RegisterHistory.{target_state, target_exactly}
 
 -- ---- an access that is not free does not look at the table
 

@@ -11,7 +11,7 @@ use Rattle.claims.specs.Runs.{Pairwise, pairwise_map, runs_long}
 use Rattle.claims.specs.Carried.{runs-carried}
 use Rattle.claims.specs.Device.{pends, blocked, told-once, runs}
 use Rattle.changerclaims.specs.ChangerCall.{Call, powering, packet, Answer, Happening, answer, next, event, history, final, is_pending, is_attending, is_packet, is_power_on, is_load, is_loading, is_cause, causes, tells, is_success, Alike, same, tables, Sharing, itself, fitting, lend, left, Board, history_on, final_on}
-use Rattle.changerclaims.specs.ChangerDevice.{changer, changer-told, power_alone, loading-disc, refused_silent, packet_blocked, own_blocked, cause_attends, lend_alike, left_alike}
+use Rattle.changerclaims.proofs.ChangerDevice.{changer, changer-told, power_alone, loading-disc, refused_silent, packet_blocked, own_blocked, cause_attends, lend_alike, left_alike}
 
 -- ---- "From power-on, over any calls: an attention is pending exactly when its cause happened at or since the last power-on and no later
 -- answer told it."

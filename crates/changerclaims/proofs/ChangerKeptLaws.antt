@@ -5,7 +5,7 @@ use Rattle.std.proofs.Common.{sym, ap, ◌∙◌, arith, length-set, get_or-set_
 use Rattle.std.proofs.lemmas.Bool.{false≢true}
 use borrow.Author.Tests.{ltb-true, leb-true, le-leb, lt-ltb, not-true, not-false, eqb-true}
 use Rattle.std.proofs.Math.Dec.{eqb}
-use Rattle.ground.specs.Tests.{◌and◌, ◌or◌, choose◌then◌else◌, when, unless, either, and_head, and_tail, and_both, or_left, or_right}
+use Rattle.ground.specs.Tests.{◌or◌, choose◌then◌else◌, when, unless, either, and_head, and_tail, and_both, or_left, or_right}
 use Rattle.attention.specs.declared.sense.Sense.{Sense}
 use Rattle.attention.specs.declared.Unit.{Unit}
 use Rattle.deck.specs.declared.Deck.{Deck}

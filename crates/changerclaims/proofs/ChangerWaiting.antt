@@ -10,7 +10,7 @@ use Rattle.claims.specs.MediaEvent.{Media, pressed, number_of}
 use Rattle.claims.specs.Stands.{stands}
 use Rattle.claims.proofs.WaitingLaws.{no-event}
 use Rattle.changerclaims.specs.ChangerCall.{Call, powering, answer, next, history, final, is_power_on, happens, replaces}
-use Rattle.changerclaims.specs.ChangerWaitingLaws.{is_waiting, event_turns, event-most}
+use Rattle.changerclaims.proofs.ChangerWaitingLaws.{is_waiting, event_turns, event-most}
 
 -- it happened, and later there was no power-on, no loading, no return, and no answer that clears
 abbrev pub Latest : Media → Changer → List Call → Type 0

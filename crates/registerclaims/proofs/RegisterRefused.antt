@@ -21,8 +21,8 @@ use Rattle.taskfile.specs.Host.{access_of, turn_of}
 use Rattle.registers.specs.declared.Stepped.{Stepped}
 use Rattle.registers.specs.Registers.{step_of, memory_of}
 use Rattle.registerclaims.specs.RegisterTurn.{number_of, reads_data, is_out_of_turn, is_completing, packet_at, list_at, reply_at}
-use Rattle.registerclaims.specs.RegisterTurnLaws.{turn-due, turn-lengths}
-use Rattle.registerclaims.specs.RegisterRefusalLaws.{Handed, step-15, step-beside, step-handed, refused-step, read-3, read_short, turn-performed, reply_ends}
+use Rattle.registerclaims.proofs.RegisterTurnLaws.{turn-due, turn-lengths}
+use Rattle.registerclaims.proofs.RegisterRefusalLaws.{Handed, step-15, step-beside, step-handed, refused-step, read-3, read_short, turn-performed, reply_ends}
 
 -- ---- the accesses
 

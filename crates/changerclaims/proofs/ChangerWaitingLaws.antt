@@ -27,7 +27,7 @@ use Rattle.claims.specs.MediaEvent.{Media, pressed, loaded, opened, number_of, o
 use Rattle.claims.proofs.WaitingLaws.{Noted, by-press, by-load, by-open, by_answer, by-none, opens_still, kind_noted, move_on-leaves, test_of, noted_turns}
 use Rattle.changerclaims.specs.ChangerCall.{Call, powering, moving_on, packet, next, event, final, is_powering, is_power_on, taking, is_loading, is_returning, happens, clears, replaces}
 use Rattle.changerclaims.specs.ChangerKind.{carried_kind, carried-reply, kind_on, rule_of, reply-kind, drive_tray, drive-moves}
-use Rattle.changerclaims.specs.ChangerDevice.{Acts, failed, took, gave, stood, own_acts, and_none, own_other}
+use Rattle.changerclaims.proofs.ChangerDevice.{Acts, failed, took, gave, stood, own_acts, and_none, own_other}
 
 -- ---- a packet of the changer's own
 

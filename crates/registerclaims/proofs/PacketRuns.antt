@@ -18,9 +18,9 @@ use Rattle.taskfile.specs.Host.{limited, begun, packet_end, turn_of}
 use Rattle.registerclaims.specs.RegisterLimit.{limit_limit}
 use Rattle.registerclaims.specs.Transfer.{Transfer, transfer_of, next, after_writes}
 use Rattle.registerclaims.specs.RegisterRuns.{Leaves}
-use Rattle.registerclaims.specs.TargetRuns.{packet-runs}
+use Rattle.registerclaims.proofs.TargetRuns.{packet-runs}
 use Rattle.registerclaims.specs.WriteLaws.{held_next, writes-after, writes-last, within, asking, asking-phase, asking-left, packet-turn, packet-last}
-use Rattle.registerclaims.specs.ListRuns.{Untouched, Enters, list-runs, list-answers}
+use Rattle.registerclaims.proofs.ListRuns.{Untouched, Enters, list-runs, list-answers}
 
 -- the record f at the packet's end: the packet p and "the host's byte count limit as held at the packet's end"
 abbrev pub ending : TaskFile → List ℕ → TaskFile

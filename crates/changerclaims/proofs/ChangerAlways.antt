@@ -14,9 +14,9 @@ use Rattle.changer.specs.Changer.{is_in_order, moves_on}
 use Rattle.changer.specs.ChangerPacket.{mechanism_of}
 use Rattle.changerclaims.specs.ChangerCall.{Call, powering, moving_on, packet, is_powering, answer, next, Board, lend, left, final_on}
 use Rattle.changerclaims.specs.ChangerDiscs.{one, discs_in, discs}
-use Rattle.changerclaims.specs.ChangerKeptLaws.{Order, is_in_order_order}
-use Rattle.changerclaims.specs.ChangerKept.{changer-discs}
-use Rattle.changerclaims.specs.ChangerKnown.{changer_known_power, changer_known-next, changer_known_move, changer_order_power, changer_order-next, changer_order_move}
+use Rattle.changerclaims.proofs.ChangerKeptLaws.{Order, is_in_order_order}
+use Rattle.changerclaims.proofs.ChangerKept.{changer-discs}
+use Rattle.changerclaims.proofs.ChangerKnown.{changer_known_power, changer_known-next, changer_known_move, changer_order_power, changer_order-next, changer_order_move}
 
 -- state and slots, after one call
 abbrev after : Call → Board → Board

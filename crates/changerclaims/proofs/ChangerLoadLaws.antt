@@ -26,7 +26,7 @@ use Rattle.changer.specs.Mechanism.{Mechanism, returned, taken_deck, takes, load
 use Rattle.changer.specs.ChangerPacket.{mechanism_of, is_load_unload, refusal_of, answer, state_of}
 use Rattle.changerclaims.specs.ChangerKind.{kind_on, rule_of, reply-kind}
 use Rattle.changerclaims.specs.ChangerRefusalLaws.{order-unrefused}
-use Rattle.changerclaims.specs.ChangerKeptLaws.{Order, is_in_order_order, taken, returned-ways, returned-others, own-load, load-own}
+use Rattle.changerclaims.proofs.ChangerKeptLaws.{Order, is_in_order_order, taken, returned-ways, returned-others, own-load, load-own}
 
 -- ---- GOOD, or nothing moves
 

@@ -22,8 +22,8 @@ use Rattle.changer.specs.Status.{status_bytes, status_length}
 use Rattle.changer.specs.Changer.{is_in_order}
 use Rattle.changer.specs.ChangerPacket.{mechanism_of, is_load_unload, is_status, is_tray, is_own, own, carried, answer, state_of, bytes_of, outcome_of}
 use Rattle.changerclaims.specs.ChangerDiscs.{discs}
-use Rattle.changerclaims.specs.ChangerKeptLaws.{is_in_order_order, answer-discs, answer-others, answer-slots, answer-own, own-load, own-status, own-tray, load-own, status-own, tray-own, answer-drive}
-use Rattle.changerclaims.specs.ChangerLoadLaws.{is_granted, goes_well, answer_still, load_unload-bad, load_unload-locked, load_unload-free, settle-granted, present-full, present-home, load-took, load-home, load-empty, load-leaves, unload-leaves, left-gave, left-rests}
+use Rattle.changerclaims.proofs.ChangerKeptLaws.{is_in_order_order, answer-discs, answer-others, answer-slots, answer-own, own-load, own-status, own-tray, load-own, status-own, tray-own, answer-drive}
+use Rattle.changerclaims.proofs.ChangerLoadLaws.{is_granted, goes_well, answer_still, load_unload-bad, load_unload-locked, load_unload-free, settle-granted, present-full, present-home, load-took, load-home, load-empty, load-leaves, unload-leaves, left-gave, left-rests}
 
 -- of every state, slots, packet, table, parameter list and length of the response memory
 module _ (c : Changer) (s : List Slot) (p t l : List ℕ) (n : ℕ) where

@@ -21,7 +21,7 @@ use Rattle.changer.specs.Changer.{is_in_order, emptied, power_on, power_on_witho
 use Rattle.changer.specs.ChangerPacket.{mechanism_of, refusal_of, answer, state_of}
 use Rattle.changerclaims.specs.ChangerKind.{with_deck, kind_on, rule_of, reply-kind}
 use Rattle.changerclaims.specs.ChangerRefusalLaws.{fit-unrefused, answer-ordered}
-use Rattle.changerclaims.specs.ChangerKeptLaws.{Order, is_in_order_order, order-is_in_order, taken, returned-ways, answer_ways, kind-disc, kind-tray}
+use Rattle.changerclaims.proofs.ChangerKeptLaws.{Order, is_in_order_order, order-is_in_order, taken, returned-ways, answer_ways, kind-disc, kind-tray}
 
 -- ---- refusal 2
 

@@ -19,7 +19,7 @@ use Rattle.taskfile.specs.Host.{answered}
 use Rattle.registerclaims.specs.Loop.{size_at, Loops}
 use Rattle.registerclaims.specs.Along.{Listing, along-count}
 use Rattle.registerclaims.specs.Transfer.{Transfer, transfer_of, next, after_writes, is_taking, feed, fed}
-use Rattle.registerclaims.specs.TargetRuns.{due-next}
+use Rattle.registerclaims.proofs.TargetRuns.{due-next}
 use Rattle.registerclaims.specs.WriteLaws.{entered, held_next, writes-after, over, entering, entering-phase, list-turn, list-last, untaking}
 
 answered_untaking : (g : TaskFile) (s n : ℕ) → is_taking (phase_of (answered g s n)) ≡ false

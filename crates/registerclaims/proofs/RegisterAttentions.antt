@@ -21,7 +21,7 @@ use Rattle.claims.specs.Attentions.{Stands}
 use Rattle.claims.proofs.Attentions.{attentions, attentions_once, attentions-told, attentions-refused, attentions_greeted}
 use Rattle.claims.proofs.DriveDevice.{drive-blocks}
 use Rattle.registerclaims.specs.RegisterCall.{Console, is_outside, Call, accessing, outside, answer, next, event, final, turn, due_call, target_call, target_calls, PowerOn, switching, resetting, have_packet, is_success}
-use Rattle.registerclaims.specs.RegisterHistory.{target_state, target-history, target-append, target_number, target-reset, answered_status}
+use Rattle.registerclaims.proofs.RegisterHistory.{target_state, target-history, target-append, target_number, target-reset, answered_status}
 
 -- ---- "From power-on, over any calls: an attention is pending exactly when its cause happened at or since the last power-on and no later
 -- answer told it."

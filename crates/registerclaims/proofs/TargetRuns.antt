@@ -26,8 +26,9 @@ use Rattle.claims.proofs.WholeLaws.{reply-held}
 use Rattle.claims.proofs.RefusalLaws.{refusal-ordered}
 use Rattle.registerclaims.specs.RegisterLimit.{Limit, limit_limit}
 use Rattle.registerclaims.specs.Transfer.{transfer_of, left, next}
-use Rattle.registerclaims.specs.RegisterRuns.{Leaves, Joined, leaves-whole, showing, ended-leaves, answer-runs, answer-none}
-use Rattle.registerclaims.specs.RegisterTurnLaws.{performs-limit, listed-limit}
+use Rattle.registerclaims.proofs.RegisterRunsJoined.{leaves-whole}
+use Rattle.registerclaims.specs.RegisterRuns.{Leaves, Joined, showing, ended-leaves, answer-runs, answer-none}
+use Rattle.registerclaims.proofs.RegisterTurnLaws.{performs-limit, listed-limit}
 
 -- an answer that has bytes was lent a memory that refusal 3 lets pass
 reply-passed : (d : Drive) (p t l : List ℕ) (n : ℕ) → 0 < length (bytes_of (answer d p t l n)) → bound ≤ n

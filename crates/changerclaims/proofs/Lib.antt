@@ -1,0 +1,10 @@
+pub mod ChangerAlways
+pub mod ChangerAttentions
+pub mod ChangerDevice
+pub mod ChangerKept
+pub mod ChangerKeptLaws
+pub mod ChangerKnown
+pub mod ChangerKnownLaws
+pub mod ChangerLoadLaws
+pub mod ChangerWaiting
+pub mod ChangerWaitingLaws

@@ -1,0 +1,11 @@
+pub mod ListLaws
+pub mod ListRuns
+pub mod PacketRuns
+pub mod RegisterAttentions
+pub mod RegisterHistory
+pub mod RegisterRefusalLaws
+pub mod RegisterRefused
+pub mod RegisterRunsJoined
+pub mod RegisterTurnLaws
+pub mod RegisterTwoRuns
+pub mod TargetRuns
