@@ -8,29 +8,20 @@ use Rattle.drive.specs.declared.state.Moved.{Moved}
 use Rattle.drive.specs.State.{is_known_state, move_on}
 use Rattle.claims.specs.Call.{Form, by_default, without_change}
 use Rattle.claims.specs.History.{None, end, but}
-use Rattle.claims.specs.Carried.{next_on}
 use Rattle.changer.specs.declared.Changer.{Changer}
 use Rattle.changer.specs.Changer.{is_in_order, moves_on}
 use Rattle.changer.specs.ChangerPacket.{mechanism_of}
-use Rattle.changerclaims.specs.ChangerCall.{Call, powering, moving_on, packet, is_powering, answer, next, Board, lend, left, final_on}
+use Rattle.changerclaims.specs.ChangerCall.{Call, powering, moving_on, packet, is_powering, Board, final_on}
 use Rattle.changerclaims.specs.ChangerDiscs.{one, discs_in, discs}
 use Rattle.changerclaims.proofs.ChangerKeptLaws.{Order, is_in_order_order}
 use Rattle.changerclaims.proofs.ChangerKept.{changer-discs}
 use Rattle.changerclaims.proofs.ChangerKnown.{changer_known_power, changer_known-next, changer_known_move, changer_order_power, changer_order-next, changer_order_move}
-
--- state and slots, after one call
-abbrev after : Call → Board → Board
-after = next_on answer next lend left
+use Rattle.changerclaims.specs.ChangerAlways.{after, Known, InOrder}
 
 -- what each call keeps a run of calls keeps
 run_keeps : (P : Board → Type 0) → ((c : Call) (b : Board) → P b → P (after c b)) → (calls : List Call) (b : Board) → P b → P (final_on b calls)
 run_keeps P f [] b h = h
 run_keeps P f (c ∷ calls) b h = run_keeps P f calls (after c b) (f c b h)
-
--- ---- refusal 2
-
-abbrev Known : Board → Type 0
-Known b = is_known_state b.state.drive ≡ true
 
 power_known : (f : Form) (b : Board) → Known (after (powering f) b)
 power_known by_default b = (changer_known_power b.state).0
@@ -43,11 +34,6 @@ call_known (packet p t l m s) b h = changer_known-next b.state b.memory.slots p 
 
 pub changer_known_always : (f : Form) (b : Board) (calls : List Call) → is_known_state (final_on b (powering f ∷ calls)).state.drive ≡ true
 changer_known_always f b calls = run_keeps Known call_known calls (after (powering f) b) (power_known f b)
-
--- ---- refusal 11
-
-abbrev InOrder : Board → Type 0
-InOrder b = is_in_order b.state b.memory.slots ≡ true
 
 power_order : (f : Form) (b : Board) → 1 ≤ length b.memory.slots → length b.memory.slots ≤ 31 → InOrder (after (powering f) b)
 power_order by_default b h k = (changer_order_power b.state b.memory.slots).0 ∙ and_both _ _ (le-leb _ _ h) (le-leb _ _ k)
@@ -62,11 +48,6 @@ pub changer_order_always : (f : Form) (b : Board) (calls : List Call) → 1 ≤ 
     let e : Board = final_on b (powering f ∷ calls) in
     is_in_order e.state e.memory.slots ≡ true
 changer_order_always f b calls h k = run_keeps InOrder call_order calls (after (powering f) b) (power_order f b h k)
-
--- ---- the discs
-
-abbrev discs_on : Board → ℕ
-discs_on b = discs b.state b.memory.slots
 
 move-disc : (k : ℕ) (c : Changer) → (moves_on k c).state.drive.deck.disc_in ≡ c.drive.deck.disc_in
 unfolding moves_on move_on

@@ -1,24 +1,17 @@
 -- Demand 3 over the changer: which attention is pending, that nothing succeeds under one, and what two runs may not tell.
-use Rattle.std.specs.Prelude.{◌≡◌, refl, true, false, List, [], ◌∷◌, ◌++◌, ◌↔◌, ℕ, ◌<◌, length}
+use Rattle.std.specs.Prelude.{◌≡◌, refl, true, false, List, [], ◌∷◌, ◌++◌, ◌↔◌, ℕ, length}
 use Rattle.ground.specs.Tests.{◌and◌}
 use Rattle.changer.specs.declared.Slot.{Slot}
 use Rattle.changer.specs.declared.Changer.{Changer}
 use Rattle.changer.specs.ChangerPacket.{is_own}
 use Rattle.claims.specs.Telling.{Attention, change, is_good}
-use Rattle.claims.specs.History.{Event, Standing, At}
 use Rattle.claims.specs.Call.{Form, is_needing}
 use Rattle.claims.specs.Runs.{Pairwise, pairwise_map, runs_long}
 use Rattle.claims.specs.Carried.{runs-carried}
 use Rattle.claims.specs.Device.{pends, blocked, told-once, runs}
-use Rattle.changerclaims.specs.ChangerCall.{Call, powering, packet, Answer, Happening, answer, next, event, history, final, is_pending, is_attending, is_packet, is_power_on, is_load, is_loading, is_cause, causes, tells, is_success, Alike, same, tables, Sharing, itself, fitting, lend, left, Board, history_on, final_on}
+use Rattle.changerclaims.specs.ChangerCall.{Call, powering, packet, answer, next, event, history, final, is_pending, is_packet, is_load, is_loading, is_cause, causes, tells, is_success, Alike, same, tables, Sharing, itself, fitting, lend, left, Board, final_on}
 use Rattle.changerclaims.proofs.ChangerDevice.{changer, changer-told, power_alone, loading-disc, refused_silent, packet_blocked, own_blocked, cause_attends, lend_alike, left_alike}
-
--- ---- "From power-on, over any calls: an attention is pending exactly when its cause happened at or since the last power-on and no later
--- answer told it."
-
--- its cause happened at or since the last power-on, so that no power-on is later, and no later answer told it
-abbrev pub Stands : Attention → Changer → List Call → Type 0
-Stands k handed calls = Standing is_power_on (causes k) (tells k) (history handed calls)
+use Rattle.changerclaims.specs.ChangerAttentions.{Stands, AgreeUpTo, AgreeCarried}
 
 -- for any handed state: after a power-on, in either form, and any calls, each packet with any slots
 pub changer_attentions : (k : Attention) (f : Form) (handed : Changer) (calls : List Call)
@@ -65,25 +58,6 @@ changer_no_success-own = own_blocked
 pub changer_no_success_since : (k : Attention) (f : Form) (handed : Changer) (calls : List Call) (c : Call)
     → Stands k handed (powering f ∷ calls) → is_success (event c (final handed (powering f ∷ calls))) ≡ false
 changer_no_success_since k f handed calls c = blocked changer k (powering f) handed calls c refl
-
--- ---- "Two runs that differ only in the fit tables lent after a power-on or a loading agree in every answer, state and response byte up to and
--- including the answer that leaves nothing pending."
-
--- after calls in common and c, the calls cs and ds: the events at place i have the same answer, with the memory and the slots that it leaves, and
--- the same state after it, where each answer after c and before that place leaves an attention pending
-abbrev pub AgreeUpTo : Changer → List Call → Call → List Call → List Call → Type 0
-AgreeUpTo handed common c cs ds =
-    (i : ℕ) (e f : Happening) → At (history handed (common ++ c ∷ cs)) i e → At (history handed (common ++ c ∷ ds)) i f
-    → ((j : ℕ) (g : Happening) → length common < j → j < i → At (history handed (common ++ c ∷ cs)) j g → is_attending g.new ≡ true)
-    → (e.answer ≡ f.answer) × (e.new ≡ f.new)
-
--- the same with one response memory and one set of slot records carried from call to call: each packet is lent what the one before left
-abbrev pub AgreeCarried : Board → List Call → Call → List Call → List Call → Type 0
-AgreeCarried handed common c cs ds =
-    (i : ℕ) (e f : Event Call Board Answer) → At (history_on handed (common ++ c ∷ cs)) i e → At (history_on handed (common ++ c ∷ ds)) i f
-    → ((j : ℕ) (g : Event Call Board Answer) → length common < j → j < i → At (history_on handed (common ++ c ∷ cs)) j g
-    → is_attending g.new.state ≡ true)
-    → (e.answer ≡ f.answer) × (e.new ≡ f.new)
 
 -- up to that answer the runs agree even where the parameter lists differ: of any two lists, with one table or two fit ones
 pub changer_two_runs_lists : (handed : Changer) (common : List Call) (c : Call) → is_cause (event c (final handed common)) ≡ true

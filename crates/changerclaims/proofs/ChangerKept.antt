@@ -1,6 +1,6 @@
 -- K11: "Every other slot stays as it was; the discs in slots and drive keep their total over every packet." What a Load and an Unload leave,
 -- what A6h, BDh and 1Bh with LoEj 1 answer, and that every other packet is the drive's own.
-use Rattle.std.specs.Prelude.{◌≡◌, Bool, true, false, List, ℕ, ◌≤◌, length, take, eqb, ltb}
+use Rattle.std.specs.Prelude.{◌≡◌, Bool, true, false, List, ℕ, ◌≤◌, length, take, ltb}
 use Rattle.std.proofs.Common.{sym, ◌∙◌, arith}
 use Rattle.std.proofs.Math.Path.{ap}
 use Rattle.std.proofs.lemmas.Bool.{false≢true}
@@ -24,23 +24,21 @@ use Rattle.changer.specs.ChangerPacket.{mechanism_of, is_load_unload, is_status,
 use Rattle.changerclaims.specs.ChangerDiscs.{discs}
 use Rattle.changerclaims.proofs.ChangerKeptLaws.{is_in_order_order, answer-discs, answer-others, answer-slots, answer-own, own-load, own-status, own-tray, load-own, status-own, tray-own, answer-drive}
 use Rattle.changerclaims.proofs.ChangerLoadLaws.{is_granted, goes_well, answer_still, load_unload-bad, load_unload-locked, load_unload-free, settle-granted, present-full, present-home, load-took, load-home, load-empty, load-leaves, unload-leaves, left-gave, left-rests}
+use Rattle.changerclaims.specs.ChangerKept as said
 
 -- of every state, slots, packet, table, parameter list and length of the response memory
 module _ (c : Changer) (s : List Slot) (p t l : List ℕ) (n : ℕ) where
-  -- the state and the slots afterwards
   abbrev after : Changer
-  after = state_of (answer c s p t l n)
+  after = said.after c s p t l n
 
   abbrev slots_after : List Slot
-  slots_after = (answer c s p t l n).deck.slots
+  slots_after = said.slots_after c s p t l n
 
-  -- the packet is answered GOOD
   abbrev is_good : Bool
-  is_good = eqb (answer c s p t l n).number 0 and eqb (answer c s p t l n).status 0x00
+  is_good = said.is_good c s p t l n
 
-  -- a disc is in the drive
   abbrev has_disc : Bool
-  has_disc = c.drive.deck.disc_in
+  has_disc = said.has_disc c s p t l n
 
   -- "the discs in slots and drive keep their total over every packet", refused or not
   pub changer-discs : discs after slots_after ≡ discs c s
@@ -63,45 +61,23 @@ module _ (c : Changer) (s : List Slot) (p t l : List ℕ) (n : ℕ) where
       let e = answer_still c s p t l n h in
       (ap (λ (m : Mechanism). m.slots) e, ap (λ (m : Mechanism). m.home) e, ap (λ (m : Mechanism). m.deck) e)
 
-  -- ---- A6h that is answered GOOD
-
-  -- the state then, where `change` says that the change attention is pending: the power attention as it was, the sense cleared
   abbrev state_with : Bool → Deck → ℕ → Changer
-  state_with change deck home = record {
-    drive = record { unit = record { power = c.drive.unit.power; change = change; sense = triple 0x00 0x00 0x00 }; deck = deck };
-    home = home;
-  }
+  state_with = said.state_with c s p t l n
 
-  -- the drive closed, with a disc or without, and a media event; K2: "15h, position 0 and end 0"; lock and page as they were
   abbrev drive_with : Bool → ℕ → Deck
-  drive_with disc e = record {
-    tray_open = false;
-    disc_in = disc;
-    lock = c.drive.deck.lock;
-    play = record { status = 0x15; position = 0; end = 0 };
-    page = c.drive.deck.page;
-    event = e;
-  }
+  drive_with = said.drive_with c s p t l n
 
-  -- "takes the named slot's: present and changed go to 0 there, and it is a loading": the named slot is the home, the change attention is
-  -- pending, the event is 2
   abbrev Takes : Type 0
-  Takes =
-      (slot_at slots_after (named_slot p) ≡ record { present = false; changed = false })
-      × (after ≡ state_with true (drive_with true 2) (named_slot p))
+  Takes = said.Takes c s p t l n
 
-  -- the home slot with the disc back: "present 1, changed kept"
   abbrev home_slot : Slot
-  home_slot = record { present = true; changed = (slot_at s c.home).changed }
+  home_slot = said.home_slot c s p t l n
 
-  -- "returns the drive's disc to its home (present 1, changed kept; the state's home 0)", and takes none; "A return is an opening with a disc
-  -- for K2 and K7": the event is 3; it is no loading: the change attention is as it was
   abbrev Returns : Type 0
-  Returns = (slot_at slots_after c.home ≡ home_slot) × (after ≡ state_with c.drive.unit.change (drive_with false 3) 0)
+  Returns = said.Returns c s p t l n
 
-  -- or nothing moves, the drive being empty
   abbrev Rests : Type 0
-  Rests = (slots_after ≡ s) × (after ≡ state_with c.drive.unit.change c.drive.deck c.home)
+  Rests = said.Rests c s p t l n
 
   module _ (a6 : is_load_unload p ≡ true) (good : is_good ≡ true) where
     module _ (load : starts p ≡ true) where
@@ -140,23 +116,8 @@ module _ (c : Changer) (s : List Slot) (p t l : List ℕ) (n : ℕ) where
   -- ---- the changer's own packets, past the refusals, with nothing pending
 
   module _ (unrefused : (answer c s p t l n).number ≡ 0) (quiet : c.drive.unit.power or c.drive.unit.change ≡ false) where
-    -- "CHECK CONDITION is status 02h, no bytes, start 0, count 0, the triple held as sense and .. nothing else changed", nor the slots
     abbrev Checks : Sense → Type 0
-    Checks sense =
-        (outcome_of (answer c s p t l n)
-        ≡ record {
-          number = 0;
-          rule = 0;
-          status = 0x02;
-          len = 0;
-          start = 0;
-          count = 0;
-          state = record {
-            drive = record { unit = record { power = c.drive.unit.power; change = c.drive.unit.change; sense = sense }; deck = c.drive.deck };
-            home = c.home;
-          };
-        })
-        × (slots_after ≡ s)
+    Checks = said.Checks c s p t l n unrefused quiet
 
     checks : (f : Fault) → is_own p ≡ true → own p (mechanism_of c s) ≡ fails f → Checks (sense_of f)
     checks f h e =

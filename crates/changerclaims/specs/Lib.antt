@@ -8,3 +8,7 @@ pub mod ChangerDiscs
 -- their proofs
 pub mod ChangerKind
 pub mod ChangerRefusalLaws
+pub mod ChangerKept
+pub mod ChangerWaiting
+pub mod ChangerAlways
+pub mod ChangerAttentions

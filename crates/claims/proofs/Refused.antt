@@ -1,40 +1,26 @@
 -- "Unfit ones are refused by number; a refused call leaves state and memory as they were." K7: "A press under refusal 5 now changes that event
 -- only, the one exception to demand 1." Each number "given exactly when";
 -- K6: "Refusal 4 carries that number to every caller", the first broken rule.
-use Rattle.std.specs.Prelude.{◌≡◌, Bool, true, false, not, List, [], ℕ, ◌+◌, ◌*◌, ◌≤◌, length, eqb, ltb, leb}
+use Rattle.std.specs.Prelude.{◌≡◌, Bool, false, not, List, [], ℕ, ◌+◌, ◌*◌, ◌≤◌, length, eqb, ltb, leb}
 use Rattle.std.proofs.Math.Path.{refl}
 use Rattle.std.proofs.Common.{arith}
 use Rattle.ground.specs.Tests.{◌and◌, ◌or◌, choose◌then◌else◌}
 use Rattle.address.specs.Address.{to_msf, to_block, is_msf}
 use Rattle.drive.specs.declared.state.Drive.{Drive}
-use Rattle.attention.specs.Sense.{triple, sense_at, is_known}
+use Rattle.attention.specs.Sense.{sense_at}
 use Rattle.play.specs.Play.{is_status, is_play}
-use Rattle.page.specs.Page.{settings, among, is_setting}
-use Rattle.deck.specs.Deck.{is_loaded}
+use Rattle.page.specs.Page.{is_setting}
 use Rattle.drive.specs.State.{is_known_state}
 use Rattle.drive.specs.StateLaws.{power_on-with, power_on_without_change-with}
-use Rattle.table.specs.Layout.{bound, last_session, descriptors}
-use Rattle.sessions.specs.Session.{in_order}
-use Rattle.disc.specs.Rules.{rule1, rule2, each_row, rule7, is_fit}
+use Rattle.table.specs.Layout.{last_session}
+use Rattle.disc.specs.Rules.{is_fit}
 use Rattle.disc.specs.RulesLaws.{fault-first}
 use Rattle.disc.specs.Part.{part_refused}
 use Rattle.claims.specs.MediaEvent.{is_pressed}
 use Rattle.claims.specs.Call.{event, by_default, without_change, Call, powering, pressing, laying, lifting, moving_on, packet, memory_of, answer, next}
 use Rattle.claims.proofs.RefusalLaws.{call_unchanged, call_beside, reply-ordered, reply-broken, press-tested, press-locked, lay-tested, lift-tested, move-tested, part_parted, part_beside, part_broken, to_msf_number, to_block_number}
-
--- K7: "A press under refusal 5 now changes that event only", to 1, "button pressed on a locked closed tray"
-abbrev pressed_on : Drive → Drive
-pressed_on d = record {
-  unit = d.unit;
-  deck = record {
-    tray_open = d.deck.tray_open;
-    disc_in = d.deck.disc_in;
-    lock = d.deck.lock;
-    play = d.deck.play;
-    page = d.deck.page;
-    event = 1;
-  };
-}
+use Rattle.claims.specs.Refused.{pressed_on, is_first1, is_first2, is_first3, is_first4, is_first5, is_first6, is_first7}
+use Rattle.claims.specs.Refused as said
 
 -- a call with a number other than 0 leaves the state as it was, with this one exception, that a press under refusal 5 changes the event only;
 -- and it answers "status 0, 0 bytes, start 0, count 0" with the memory as it was
@@ -52,80 +38,35 @@ pub refused_unchanged : (c : Call) (d : Drive) → ((answer c d).number ≡ 0 �
     })
 refused_unchanged = call_unchanged
 
--- ---- K6: "the first broken rule of 1 to 7, tested in that order"
-
--- a rule is it where it is not kept and those before it are, each over the whole table
-module _ (t : List ℕ) where
-  abbrev is_first1 : Bool
-  is_first1 = not (rule1 t)
-
-  abbrev is_first2 : Bool
-  is_first2 = rule1 t and not (rule2 t)
-
-  abbrev is_first3 : Bool
-  is_first3 = rule1 t and rule2 t and not (each_row 3 (descriptors t))
-
-  abbrev is_first4 : Bool
-  is_first4 = rule1 t and rule2 t and each_row 3 (descriptors t) and not (in_order (last_session t) (descriptors t))
-
-  abbrev is_first5 : Bool
-  is_first5 =
-      rule1 t and rule2 t and each_row 3 (descriptors t) and in_order (last_session t) (descriptors t) and not (each_row 5 (descriptors t))
-
-  abbrev is_first6 : Bool
-  is_first6 =
-      rule1 t and rule2 t and each_row 3 (descriptors t) and in_order (last_session t) (descriptors t) and each_row 5 (descriptors t)
-      and not (each_row 6 (descriptors t))
-
-  abbrev is_first7 : Bool
-  is_first7 =
-      rule1 t and rule2 t and each_row 3 (descriptors t) and in_order (last_session t) (descriptors t) and each_row 5 (descriptors t)
-      and each_row 6 (descriptors t) and not (rule7 (last_session t) (descriptors t))
-
 module _ (d : Drive) where
-  -- the call gives the number
   abbrev gives : Call → ℕ → Bool
-  gives c n = eqb (answer c d).number n
+  gives = said.gives d
 
-  -- K6: it gives 4 and the rule
   abbrev breaks : Call → ℕ → Bool
-  breaks c i = gives c 4 and eqb (answer c d).rule i
+  breaks = said.breaks d
 
   -- of every call: the rule is one of 1 to 7 exactly with 4, and 0 exactly with every other number and with success
   pub refused-rule : (c : Call)
       → (leb 1 (answer c d).rule and leb (answer c d).rule 7 ≡ gives c 4) × (eqb (answer c d).rule 0 ≡ not (gives c 4))
   refused-rule c = let b = call_beside c d in (b.one, b.none)
 
-  -- ---- 2: "held sense is none of the ten below"; K2: "2 also covers another status, a position past its end, or an end over 449,849"; K4:
-  -- "refusal 2 admits these triples, and covers a recovery byte outside the twenty"; K7: "2 also covers an event over 3"
-
-  -- none of that holds of the state
   abbrev is_state : Bool
-  is_state = is_known_state d
+  is_state = said.is_state d
 
-  -- the held sense is one of the thirteen
   abbrev is_of_thirteen : Bool
-  is_of_thirteen = is_known d.unit.sense
+  is_of_thirteen = said.is_of_thirteen d
 
-  -- the status is one of the four
   abbrev is_of_four : Bool
-  is_of_four =
-      eqb d.deck.play.status 0x11
-      or eqb d.deck.play.status 0x12
-      or eqb d.deck.play.status 0x13
-      or eqb d.deck.play.status 0x15
+  is_of_four = said.is_of_four d
 
-  -- the position is not past its end, and the end is a block's address
   abbrev is_within : Bool
-  is_within = leb d.deck.play.position d.deck.play.end and leb d.deck.play.end 449849
+  is_within = said.is_within d
 
-  -- the recovery byte is one of the twenty
   abbrev is_of_twenty : Bool
-  is_of_twenty = among settings d.deck.page.recovery
+  is_of_twenty = said.is_of_twenty d
 
-  -- the event is not over 3
   abbrev is_up_to_three : Bool
-  is_up_to_three = leb d.deck.event 3
+  is_up_to_three = said.is_up_to_three d
 
   pub refused-2-state : is_state ≡ is_of_thirteen and (is_of_four and is_within) and is_of_twenty and is_up_to_three
   unfolding is_known_state is_play is_status is_setting
@@ -134,17 +75,14 @@ module _ (d : Drive) where
   -- ---- "Packets test 1, 2, 3, 4, then the steps below"; K9: and nothing more
 
   module _ (p t l m : List ℕ) where
-    -- the packet is 12 bytes
     abbrev is_twelve : Bool
-    is_twelve = eqb (length p) 12
+    is_twelve = said.is_twelve d p t l m
 
-    -- "response memory is under 4,360 bytes"; of K1 the bound: 6,538
     abbrev is_under : Bool
-    is_under = ltb (length m) bound
+    is_under = said.is_under d p t l m
 
-    -- "loaded .. and the table is not fit"
     abbrev is_unfit : Bool
-    is_unfit = is_loaded d.deck and not (is_fit t)
+    is_unfit = said.is_unfit d p t l m
 
     pub refused-1 : gives (packet p t l m) 1 ≡ not is_twelve
     refused-1 = (reply-ordered d p t (length m) l).one
@@ -158,9 +96,8 @@ module _ (d : Drive) where
     pub refused-4 : gives (packet p t l m) 4 ≡ is_twelve and is_state and not is_under and is_unfit
     refused-4 = (reply-ordered d p t (length m) l).four
 
-    -- K6: with the broken rule beside it, where the table is looked at
     abbrev is_looked : Bool
-    is_looked = is_twelve and is_state and not is_under and is_loaded d.deck
+    is_looked = said.is_looked d p t l m
 
     pub refused-4-rule1 : breaks (packet p t l m) 1 ≡ is_looked and is_first1 t
     refused-4-rule1 = reply-broken d p t (length m) l 1 refl (fault-first t).one
@@ -190,23 +127,8 @@ module _ (d : Drive) where
     pub refused-most : (answer (packet p t l m) d).number ≤ 4
     refused-most = let o = (reply-ordered d p t (length m) l).most in omega arith
 
-  -- ---- power-on
-
-  -- "Power-on .. keeps the handed state's tray and disc and is never refused: lock off, sense 00/00/00, power attention pending"; K2:
-  -- "Power-on .. set 15h, position 0 and end 0"; K4: "Power-on restores defaults", 0 and 0; K7: "power-on clears it", the event: of every
-  -- state, also one that refusal 2 meets. It hands back the state alone, and no number.
   abbrev restarted : Bool → Drive
-  restarted change = record {
-    unit = record { power = true; change = change; sense = triple 0x00 0x00 0x00 };
-    deck = record {
-      tray_open = d.deck.tray_open;
-      disc_in = d.deck.disc_in;
-      lock = false;
-      play = record { status = 0x15; position = 0; end = 0 };
-      page = record { recovery = 0x00; retry = 0x00 };
-      event = 0;
-    };
-  }
+  restarted = said.restarted d
 
   -- K3: "Power-on with a loaded disc now leaves both attentions pending by default"; with any other drive, 01's "change attention not"
   pub refused-power : next (powering by_default) d ≡ restarted (not d.deck.tray_open and d.deck.disc_in)
@@ -260,12 +182,11 @@ module _ (d : Drive) where
 -- ---- "The session part tests fitness (4, empty part) before 10": "a session asked for is 0 or over S"
 
 module _ (t : List ℕ) (k : ℕ) where
-  -- it is told the number, and K6: 4 with the rule
   abbrev part_gives : ℕ → Bool
-  part_gives n = eqb (part_refused t k).number n
+  part_gives = said.part_gives t k
 
   abbrev part_breaks : ℕ → Bool
-  part_breaks i = part_gives 4 and eqb (part_refused t k).rule i
+  part_breaks = said.part_breaks t k
 
   pub refused-part-4 : part_gives 4 ≡ not (is_fit t)
   refused-part-4 = (part_parted t k).four

@@ -1,25 +1,18 @@
 -- K7, for the lab: from power-on, over any calls, the media event is "the latest of" the three since the last power-on or clearing answer.
-use Rattle.std.specs.Prelude.{◌≡◌, refl, List, ◌∷◌, ◌↔◌, ℕ}
+use Rattle.std.specs.Prelude.{◌≡◌, refl, List, ◌↔◌}
 use Rattle.std.proofs.Common.{eq-eqb, eqb-true}
 use Rattle.drive.specs.declared.state.Drive.{Drive}
-use Rattle.claims.specs.History.{Standing}
-use Rattle.claims.specs.Call.{Form, Call, powering, answer, next, history, final, is_power_on}
+use Rattle.claims.specs.Call.{Form, Call, powering, answer, next, is_power_on}
 use Rattle.claims.specs.MediaEvent.{Media, number_of, happens, replaces}
 use Rattle.claims.specs.Stands.{stands}
 use Rattle.claims.proofs.Known.{known-event}
 use Rattle.claims.proofs.WaitingLaws.{no-event, is_waiting, event_turns}
-
--- it happened, and later there was no power-on, none of the three, and no answer that clears
-abbrev pub Latest : Media → Drive → List Call → Type 0
-Latest k handed calls = Standing is_power_on (happens k) replaces (history handed calls)
-
--- the media event after the calls
-abbrev pub event_after : Drive → List Call → ℕ
-event_after handed calls = (final handed calls).deck.event
+use Rattle.claims.specs.Waiting.{Latest, event_after}
+use Rattle.claims.specs.Waiting as said
 
 module _ (f : Form) (handed : Drive) (calls : List Call) where
   abbrev all : List Call
-  all = powering f ∷ calls
+  all = said.all f handed calls
 
   -- for any handed state: after a power-on, in either form, and any calls
   pub waiting : (k : Media) → (event_after handed all ≡ number_of k) ↔ Latest k handed all

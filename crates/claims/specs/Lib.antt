@@ -29,3 +29,5 @@ pub mod Stands
 pub mod Device
 pub mod Carried
 pub mod AddressLaws
+pub mod Refused
+pub mod Waiting

@@ -1,6 +1,6 @@
 -- K14: from PACKET to the last byte of the answer, for any packet, list, state, table and memory; true by joining the runs of packet, list and
 -- answer, each of which begins where the one before it ends.
-use Rattle.std.specs.Prelude.{ℕ, ◌+◌, ◌-◌, ◌<◌, ◌≡◌, refl, true, false, List, [], length, get_or, take}
+use Rattle.std.specs.Prelude.{ℕ, ◌+◌, ◌<◌, ◌≡◌, refl, true, false, List, [], length, get_or, take}
 use Rattle.std.proofs.Math.Path.{sym}
 use Rattle.std.proofs.Common.{ap, ◌∙◌, arith, zero-add}
 use Rattle.ground.specs.Tests.{when, unless}
@@ -9,34 +9,19 @@ use Rattle.outcome.specs.Outcome.{bytes_of}
 use Rattle.target.specs.Packet.{answer}
 use Rattle.taskfile.specs.declared.TaskFile.{TaskFile}
 use Rattle.taskfile.specs.declared.Turn.{Turn}
-use Rattle.taskfile.specs.declared.Phase.TheVariants.{PacketRun}
 use Rattle.taskfile.specs.declared.Access.TheVariants.{Data}
-use Rattle.taskfile.specs.declared.Due.TheVariants.{Held, Performs}
-use Rattle.taskfile.specs.TaskFile.{takes_list_reason, packet_bytes, list_bytes, count_of, bearing, asked}
-use Rattle.taskfile.specs.Run.{limit_of, takes_list, phase_of, left_of}
-use Rattle.taskfile.specs.Host.{limited, begun, packet_end, turn_of}
+use Rattle.taskfile.specs.declared.Due.TheVariants.{Performs}
+use Rattle.taskfile.specs.TaskFile.{takes_list_reason, packet_bytes, list_bytes, count_of, asked}
+use Rattle.taskfile.specs.Run.{limit_of, takes_list}
+use Rattle.taskfile.specs.Host.{begun, packet_end, turn_of}
 use Rattle.registerclaims.specs.RegisterLimit.{limit_limit}
-use Rattle.registerclaims.specs.Transfer.{Transfer, transfer_of, next, after_writes}
+use Rattle.registerclaims.specs.Transfer.{transfer_of, next, after_writes}
 use Rattle.registerclaims.specs.RegisterRuns.{Leaves}
 use Rattle.registerclaims.proofs.TargetRuns.{packet-runs}
-use Rattle.registerclaims.specs.WriteLaws.{held_next, writes-after, writes-last, within, asking, asking-phase, asking-left, packet-turn, packet-last}
-use Rattle.registerclaims.proofs.ListRuns.{Untouched, Enters, list-runs, list-answers}
-
--- the record f at the packet's end: the packet p and "the host's byte count limit as held at the packet's end"
-abbrev pub ending : TaskFile → List ℕ → TaskFile
-ending f p = limited (within (bearing f p f.list) 11)
-
--- the 12 bytes p enter the packet of x
-pub record Asks (p t : List ℕ) (x : Transfer) : Type 0 where
-  -- "While the packet enters, 12 to 1 bytes are left of the run and the byte count stays as it was"; state and memory too
-  pub phase : (j : ℕ) → j < packet_bytes → phase_of (after_writes (take j p) t x).file ≡ PacketRun
-  pub left : (j : ℕ) → j < packet_bytes → left_of (after_writes (take j p) t x).file ≡ packet_bytes - j
-  pub count : (j : ℕ) → j < packet_bytes → count_of (after_writes (take j p) t x).file ≡ count_of x.file
-  pub quiet : (j : ℕ) → j < packet_bytes → Untouched x (after_writes (take j p) t x)
-  -- before the last byte nothing more is due ..
-  pub waits : (j : ℕ) → j < 11 → (turn_of (after_writes (take j p) t x).file Data (get_or p j 0)).due ≡ Held
-  -- .. and at the last the packet is p
-  pub last : turn_of (after_writes (take 11 p) t x).file Data (get_or p 11 0) ≡ packet_end (ending x.file p)
+use Rattle.registerclaims.specs.WriteLaws.{held_next, writes-after, writes-last, asking, asking-phase, asking-left, packet-turn, packet-last}
+use Rattle.registerclaims.specs.ListRuns.{Enters}
+use Rattle.registerclaims.proofs.ListRuns.{list-runs, list-answers}
+use Rattle.registerclaims.specs.PacketRuns.{ending, Asks}
 
 module _ (f : TaskFile) (p : List ℕ) (d : Drive) (t m : List ℕ) (x : length p ≡ packet_bytes) (y : length f.packet ≡ packet_bytes) where
   behind : (j : ℕ) → j < packet_bytes → after_writes (take j p) t (transfer_of (asked f) d m) ≡ transfer_of (asking f p x y j) d m

@@ -1,15 +1,11 @@
 -- K14's refusals: "15 exactly for ..; the record stays as it was"; "A refusal by the target is handed on and ends the transfer"; and what an
 -- access does that is never refused. Of every record, byte, drive state, table and response memory, by what is due at the access.
-use Rattle.std.specs.Prelude.{ℕ, ◌≡◌, Bool, true, not, List, length, eqb, ltb, leb}
+use Rattle.std.specs.Prelude.{ℕ, ◌≡◌, Bool, true, not, List, length, eqb, leb}
 use Rattle.std.proofs.Math.Path.{refl, ap}
 use Rattle.std.proofs.Common.{sym, ◌∙◌}
 use Rattle.ground.specs.Tests.{◌and◌, ◌or◌, choose◌then◌else◌, and_assoc}
-use Rattle.deck.specs.declared.Deck.{Deck}
 use Rattle.drive.specs.declared.state.Drive.{Drive}
-use Rattle.deck.specs.Deck.{is_loaded}
-use Rattle.drive.specs.State.{is_known_state, power_on}
-use Rattle.disc.specs.Rules.{is_fit}
-use Rattle.gate.specs.Gate.{Reply}
+use Rattle.drive.specs.State.{power_on}
 use Rattle.taskfile.specs.declared.TaskFile.{TaskFile}
 use Rattle.taskfile.specs.declared.Phase.TheVariants.{Idle, PacketRun}
 use Rattle.taskfile.specs.declared.Access.{Access}
@@ -23,6 +19,8 @@ use Rattle.registers.specs.Registers.{step_of, memory_of}
 use Rattle.registerclaims.specs.RegisterTurn.{number_of, reads_data, is_out_of_turn, is_completing, packet_at, list_at, reply_at}
 use Rattle.registerclaims.proofs.RegisterTurnLaws.{turn-due, turn-lengths}
 use Rattle.registerclaims.proofs.RegisterRefusalLaws.{Handed, step-15, step-beside, step-handed, refused-step, read-3, read_short, turn-performed, reply_ends}
+use Rattle.registerclaims.specs.RegisterRefused.{leaves, HandedOn, asked_file}
+use Rattle.registerclaims.specs.RegisterRefused as said
 
 -- ---- the accesses
 
@@ -39,41 +37,18 @@ register_access Read = refl
 register_access Reset = refl
 register_access Nowhere = refl
 
--- ---- the refusals
-
--- the record f, the number n and the state d are handed back; rule, byte, start and count are 0
-abbrev leaves : TaskFile → ℕ → Drive → Stepped
-leaves f n d = record { file = f; answer = record { number = n; rule = 0; byte = 0; start = 0; count = 0; state = d } }
-
--- "After a refusal by the target: CoD 1, IO 1, idle, status 0, the number (and K6's rule) handed on": of the record f, the state d and the
--- memory m, where the target refuses by r; state, memory and the host's registers stay
-pub record HandedOn (f : TaskFile) (d : Drive) (m : List ℕ) (r : Reply Deck) (s : Stepped) (m' : List ℕ) : Type 0 where
-  pub answer : s.answer ≡ record { number = r.number; rule = r.rule; byte = 0; start = 0; count = 0; state = d }
-  pub memory : m' ≡ m
-  pub reason : s.file.reason ≡ 0x03
-  pub status : s.file.status ≡ 0x00
-  pub phase : phase_of s.file ≡ Idle
-  pub features : s.file.features ≡ f.features
-  pub low : s.file.low ≡ f.low
-  pub high : s.file.high ≡ f.high
-  pub drive : s.file.drive ≡ f.drive
-
 module _ (f : TaskFile) (v : ℕ) (d : Drive) (t m : List ℕ) where
-  -- the access gives the number
   abbrev gives : Access → ℕ → Bool
-  gives a n = eqb (step_of f a v d t m).answer.number n
+  gives = said.gives f v d t m
 
-  -- 2 does not meet the state
   abbrev is_state : Bool
-  is_state = is_known_state d
+  is_state = said.is_state f v d t m
 
-  -- the response memory is "under 6,538 bytes"
   abbrev is_under : Bool
-  is_under = ltb (length m) 6538
+  is_under = said.is_under f v d t m
 
-  -- "loaded .. and the table is not fit"
   abbrev is_unfit : Bool
-  is_unfit = is_loaded d.deck and not (is_fit t)
+  is_unfit = said.is_unfit f v d t m
 
   -- ---- which number
 
@@ -151,24 +126,8 @@ module _ (f : TaskFile) (v : ℕ) (d : Drive) (t m : List ℕ) where
         drive = ap (λ (x : Stepped). x.file.drive) k ∙ P.drive;
       }
 
-  -- ---- what is never refused
-
-  -- "Reset puts 14h and EBh in the byte count and ends any transfer"; it "is also a power-on of the target, in the default form; features and
-  -- drive stay, the reason shows CoD 1, IO 1", and "reset puts 00" in the status; packet and list stay too
   abbrev reset_file : TaskFile
-  reset_file = record {
-    features = f.features;
-    reason = 0x03;
-    low = 0x14;
-    high = 0xEB;
-    drive = f.drive;
-    status = 0x00;
-    packet = f.packet;
-    list = f.list;
-    limit = 0;
-    len = 0;
-    at = 0;
-  }
+  reset_file = said.reset_file f v d t m
 
   pub register-reset : (step_of f Reset v d t m ≡ leaves reset_file 0 (power_on d)) × (memory_of f Reset v d t m ≡ m) × (phase_of reset_file ≡ Idle)
   unfolding step_of memory_of turn_of phase_of is_packet_run is_list_run is_answer_run choose◌then◌else◌ ◌and◌
@@ -179,7 +138,7 @@ module _ (f : TaskFile) (v : ℕ) (d : Drive) (t m : List ℕ) where
   -- "Writes of features, byte count and drive while idle are held and have no other effect"
   module _ (idle : phase_of f ≡ Idle) where
     abbrev Holds : Access → TaskFile → Type 0
-    Holds a g = (step_of f a v d t m ≡ leaves g 0 d) × (memory_of f a v d t m ≡ m)
+    Holds = said.Holds f v d t m idle
 
     pub register-idle-features : Holds Features (holding f v f.low f.high f.drive f.status)
     unfolding step_of memory_of turn_of
@@ -201,22 +160,6 @@ module _ (f : TaskFile) (v : ℕ) (d : Drive) (t m : List ℕ) where
     pub register-idle-nowhere : Holds Nowhere f
     unfolding step_of memory_of turn_of
     register-idle-nowhere = rw idle (refl, refl)
-
--- "PACKET A0h asks for 12 bytes (reason: CoD 1, IO 0)"; "the byte count stays as it was"
-abbrev asked_file : TaskFile → TaskFile
-asked_file f = record {
-  features = f.features;
-  reason = 0x01;
-  low = f.low;
-  high = f.high;
-  drive = f.drive;
-  status = f.status;
-  packet = f.packet;
-  list = f.list;
-  limit = 12;
-  len = 12;
-  at = 0;
-}
 
 pub register_idle_packet : (f : TaskFile) (d : Drive) (t m : List ℕ) → phase_of f ≡ Idle
     → (step_of f Command 0xA0 d t m ≡ leaves (asked_file f) 0 d)

@@ -1,5 +1,5 @@
 -- No access but one that completes a packet with nothing pending looks at the lent table, so up to such a one two runs agree.
-use Rattle.std.specs.Prelude.{ℕ, ◌≡◌, refl, Bool, true, false, not, length}
+use Rattle.std.specs.Prelude.{ℕ, ◌≡◌, refl, true, false, not, length}
 use Rattle.std.proofs.Common.{sym, ◌∙◌, ⊎_elim}
 use Rattle.std.proofs.Math.Path.{ap}
 use Rattle.std.proofs.lemmas.Bool.{false≢true, not-true, not-false}
@@ -27,15 +27,11 @@ use Rattle.claims.specs.Carried.{Board}
 use Rattle.claims.specs.Stands.{or_cases}
 use Rattle.claims.proofs.PacketLaws.{packet_blind}
 use Rattle.claims.proofs.DriveDevice.{cause_attends}
-use Rattle.registerclaims.specs.RegisterCall.{Console, Call, accessing, outside, Answer, answer, next, history, final, turn, due_call, target_call, have_packet, completes, Alike, same, fitting, gives_answer, is_live, is_free, is_free_on, lend, left, answers, follows, final_on}
+use Rattle.registerclaims.specs.RegisterCall.{Console, Call, accessing, outside, Answer, answer, next, history, final, turn, due_call, target_call, completes, Alike, same, fitting, gives_answer, is_live, is_free, is_free_on, lend, left, answers, follows, final_on}
 use Rattle.registerclaims.specs.Agreeing.{AgreeWhile, AgreeUntil, agree-until}
 use Rattle.registerclaims.specs.RegisterHistory.{data_call, access_call}
 use Rattle.registerclaims.proofs.RegisterHistory.{target_state, target_exactly}
-
--- ---- an access that is not free does not look at the table
-
-abbrev any_packet : List drives.Call → Bool
-any_packet = have_packet (λ p. true)
+use Rattle.registerclaims.specs.RegisterTwoRuns.{any_packet}
 
 module _ (f n : TaskFile) (d : State) (m t u : List ℕ) (p : is_fit t ≡ true) (q : is_fit u ≡ true) where
   due-blind : (w : Due) → any_packet (due_call w n t m) and not (is_attending d) ≡ false

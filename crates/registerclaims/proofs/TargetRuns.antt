@@ -29,6 +29,7 @@ use Rattle.registerclaims.specs.Transfer.{transfer_of, left, next}
 use Rattle.registerclaims.proofs.RegisterRunsJoined.{leaves-whole}
 use Rattle.registerclaims.specs.RegisterRuns.{Leaves, Joined, showing, ended-leaves, answer-runs, answer-none}
 use Rattle.registerclaims.proofs.RegisterTurnLaws.{performs-limit, listed-limit}
+use Rattle.registerclaims.specs.TargetRuns as said
 
 -- an answer that has bytes was lent a memory that refusal 3 lets pass
 reply-passed : (d : Drive) (p t l : List ℕ) (n : ℕ) → 0 < length (bytes_of (answer d p t l n)) → bound ≤ n
@@ -67,9 +68,8 @@ performed-leaves g l d t m w =
         rw s at (answer-runs g a.status (length b) (state_of a) t (fill m b) w (omega arith) (omega arith))
 
 module _ (f : TaskFile) (x : Access) (v : ℕ) (d : Drive) (t m : List ℕ) where
-  -- the record at the completing access
-  abbrev pub whole : TaskFile
-  whole = (turn_of f x v).file
+  abbrev whole : TaskFile
+  whole = said.whole f x v d t m
 
   -- what an access leaves, by what is due at it
   pub due-next : (q : Due) → (turn_of f x v).due ≡ q → next x v t (transfer_of f d m) ≡ left (step_by q f whole d t m) (memory_by q whole d t m)

@@ -20,3 +20,8 @@ pub mod WriteLaws
 -- over any device, and over any loop
 pub mod Agreeing
 pub mod Loop
+pub mod RegisterRefused
+pub mod RegisterTwoRuns
+pub mod ListRuns
+pub mod PacketRuns
+pub mod TargetRuns
