@@ -16,6 +16,9 @@ use std::{io, str};
 // The system's numbers for a name that is too long, and for one that is no text.
 const TOO_LONG: i32 = 36;
 
+// What the system says of an argument that is not there.
+const INVALID: i32 = 22;
+
 const NO_TEXT: i32 = 84;
 
 // The most bytes of a name.
@@ -95,8 +98,12 @@ pub fn load(rt: &HostRuntime, i: usize, buf: &mut [u8]) -> Loaded
     let mut name = [0u8; NAME];
     match rt.arg(i, &mut name) {
         Ok(n) => load_file(rt, &name[..n], buf),
-        Err(_) => {
+        Err(FillError::TooLong) => {
             fail(rt, b"argument", io::Error::from_raw_os_error(TOO_LONG));
+            failed()
+        }
+        Err(FillError::NotPresent) => {
+            fail(rt, b"argument", io::Error::from_raw_os_error(INVALID));
             failed()
         }
     }

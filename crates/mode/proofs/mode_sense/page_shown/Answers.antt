@@ -5,8 +5,8 @@ use Rattle.mode.proofs.mode_sense.page_shown.Goals as goal
 
 pub returns-then-control-eq-SAVED : goal.returns-then-control-eq-SAVED
 returns-then-control-eq-SAVED c = let w = c.wide-control.ensures.same in
-    let v = c.wide.ensures.same in
-    sym (page_shown-saved _ _ (rw v at c.if-wide-eq-PAGE.true) (rw w at c.if-control-eq-SAVED.true))
+    let p = c.wide.ensures.same in
+    sym (page_shown-saved _ _ (rw p at c.if-wide-eq-PAGE.true) (rw w at c.if-control-eq-SAVED.true))
 
 pub returns-then-wide-eq-PAGE : goal.returns-then-wide-eq-PAGE
 returns-then-wide-eq-PAGE c = let w = c.wide-control.ensures.same in
