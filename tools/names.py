@@ -34,7 +34,7 @@ def main():
         return "`" + new + "`"
 
     for p in PAGES:
-        if p == "docs/port-edits.md" or p.startswith("docs/PORT"):
+        if p.startswith("docs/PORT"):
             continue
         with open(p, encoding="utf-8") as f:
             text = f.read()

@@ -1,5 +1,5 @@
 #!/usr/bin/env python3
-"""renamed.py: prints docs/PORT-NAMES.md, the names that specs/ declares at LANDED beside today's, file by file, where they differ."""
+"""renamed.py: prints the last part of docs/PORT.md, the names that specs/ declares at LANDED beside today's, file by file, where they differ."""
 import json, os, re, subprocess
 
 LANDED = "f34c601"
@@ -27,7 +27,7 @@ def plain(name):
 
 
 def main():
-    print("# Names of specs/ at LANDED and today\n")
+    print("## Names that were respelled, crate by crate\n")
     print("Made by `tools/renamed.py`: of each file of `specs/`, the declared names (fields among them) whose spelling differs; all others are as they were.")
     files = subprocess.run(["git", "ls-tree", "-r", "--name-only", LANDED, "crates"], capture_output=True, text=True).stdout.split("\n")
     crate = None
