@@ -29,7 +29,7 @@ use Rattle.changer.specs.Changer.{is_in_order}
 use Rattle.changer.specs.ChangerPacket.{mechanism_of, is_load_unload, is_status, is_tray, is_own, own, carried, steps, refusal_of, answer}
 use Rattle.changerclaims.specs.ChangerKind.{with_deck, carried_kind, kind_on, rule_of, reply-kind, drive_tray}
 use Rattle.changerclaims.specs.ChangerRefusalLaws.{order-unrefused, answer-refusal}
-use Rattle.changerclaims.specs.ChangerDiscs.{one, discs_in}
+use Rattle.changerclaims.specs.ChangerDiscs.{one, discs_in, discs_of}
 
 -- ---- what refusal 11 asks for
 
@@ -175,9 +175,6 @@ unfolding discs_in
 discs_in-set [] i x h = absurd (omega arith)
 discs_in-set (y ∷ s) zero x h = omega arith
 discs_in-set (y ∷ s) (suc i) x h = let e = discs_in-set s i x (omega arith) in omega arith
-
-abbrev pub discs_of : Mechanism → ℕ
-discs_of m = discs_in m.slots + one m.deck.disc_in
 
 back-discs : (m : Mechanism) → Order m → m.deck.disc_in ≡ true → discs_of (back m) ≡ discs_of m
 unfolding choose◌then◌else◌

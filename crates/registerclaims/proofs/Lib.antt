@@ -5,6 +5,7 @@ pub mod RegisterAttentions
 pub mod RegisterHistory
 pub mod RegisterRefusalLaws
 pub mod RegisterRefused
+pub mod RegisterRunQuiet
 pub mod RegisterRunsJoined
 pub mod RegisterTurnLaws
 pub mod RegisterTwoRuns

@@ -2,7 +2,7 @@
 use Rattle.std.specs.Prelude.{ℕ, ◌≡◌, refl, true, false, not, length}
 use Rattle.std.proofs.Common.{sym, ◌∙◌, ⊎_elim}
 use Rattle.std.proofs.Math.Path.{ap}
-use Rattle.std.proofs.lemmas.Bool.{false≢true, not-true, not-false}
+use Rattle.std.proofs.lemmas.Bool.{not-true, not-false}
 use mathlib.Core.List.{List, [], ◌∷◌, ◌++◌}
 use Rattle.ground.specs.Tests.{◌and◌, ◌or◌, and_late, and_off, or_left}
 use Rattle.ground.specs.Memory.{fill}
@@ -12,8 +12,6 @@ use Rattle.disc.specs.Rules.{is_fit}
 use Rattle.gate.specs.Gate.{Reply}
 use Rattle.outcome.specs.Outcome.{bytes_of}
 use Rattle.taskfile.specs.declared.TaskFile.{TaskFile}
-use Rattle.taskfile.specs.declared.Phase.{Phase}
-use Rattle.taskfile.specs.declared.Phase.TheVariants.{Idle, PacketRun, ListRun, AnswerRun}
 use Rattle.taskfile.specs.declared.Access.{Access}
 use Rattle.taskfile.specs.declared.Access.TheVariants.{Data, Features, CountLow, CountHigh, Drive, Command, Nowhere, Read, Reset}
 use Rattle.taskfile.specs.declared.Due.{Due}
@@ -29,9 +27,10 @@ use Rattle.claims.proofs.PacketLaws.{packet_blind}
 use Rattle.claims.proofs.DriveDevice.{cause_attends}
 use Rattle.registerclaims.specs.RegisterCall.{Console, Call, accessing, outside, Answer, answer, next, history, final, turn, due_call, target_call, completes, Alike, same, fitting, gives_answer, is_live, is_free, is_free_on, lend, left, answers, follows, final_on}
 use Rattle.registerclaims.specs.Agreeing.{AgreeWhile, AgreeUntil, agree-until}
-use Rattle.registerclaims.specs.RegisterHistory.{data_call, access_call}
+use Rattle.registerclaims.specs.RegisterHistory.{access_call}
 use Rattle.registerclaims.proofs.RegisterHistory.{target_state, target_exactly}
 use Rattle.registerclaims.specs.RegisterTwoRuns.{any_packet}
+use Rattle.registerclaims.proofs.RegisterRunQuiet.{run_quiet}
 
 module _ (f n : TaskFile) (d : State) (m t u : List ℕ) (p : is_fit t ≡ true) (q : is_fit u ≡ true) where
   due-blind : (w : Due) → any_packet (due_call w n t m) and not (is_attending d) ≡ false
@@ -56,13 +55,6 @@ blind c d s (fitting a v m {t} {u} p q) h =
       λ i. record { given = (e.0 i).answer; memory = e.1 i },
       λ i. record { file = (e.0 i).file; drive = (e.0 i).answer.state },
     )
-
--- in an answer run no access completes a packet, so while a board is live none is free
-run_quiet : (r : Phase) (f : TaskFile) (v : ℕ) (t m : List ℕ) → gives_answer r ≡ true → any_packet (data_call r f v t m) ≡ false
-run_quiet Idle f v t m h = absurd (false≢true h)
-run_quiet PacketRun f v t m h = absurd (false≢true h)
-run_quiet ListRun f v t m h = absurd (false≢true h)
-run_quiet AnswerRun f v t m h = refl
 
 access_quiet : (a : Access) (f : TaskFile) (v : ℕ) (t m : List ℕ) → gives_answer (phase_of f) ≡ true → any_packet (access_call a f v t m) ≡ false
 unfolding ◌or◌
