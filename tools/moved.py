@@ -1,49 +1,58 @@
 #!/usr/bin/env python3
 """moved.py CRATE..: prints, whole, the statements of the laws that stood in specs/ at LANDED and stand in proofs/ today, file by file."""
-import glob, os, re, sys
+import glob
+import os
+import re
+import sys
 
 DECL = re.compile(r"^(\s*)((?:unfoldable |abbrev |pub )*)([^\s:(){}]+)((?: ?\{[^}]*\}| ?\([^)]*\))*) :(?: |$)")
 HEAD = re.compile(r"^(\s*)((?:pub |unfoldable |abbrev )*)(record|data) ([^\s:(){}]+)")
 
 
 def shown(path):
+    """The sections and, in them, the definitions whole and of each law the statement; helpers under a where are no laws."""
     lines = open(path, encoding="utf-8").read().split("\n")
-    out, i = [], 0
+    out, stack, i = [], [], 0
     while i < len(lines):
         l = lines[i]
-        if l.startswith("module "):
-            out.append("")
+        indent = len(l) - len(l.lstrip())
+        if not l.strip() or l.lstrip().startswith(("--", "use ", "pub use ")):
+            i += 1
+            continue
+        while stack and stack[-1] >= indent:
+            stack.pop()
+        if l.lstrip().startswith("module "):
+            if not indent:
+                out.append("")
             out.append(l)
             while not lines[i].rstrip().endswith("where"):
                 i += 1
                 out.append(lines[i])
+            stack.append(indent)
             i += 1
             continue
-        m = DECL.match(l)
-        h = HEAD.match(l)
-        if (m or h) and not l.lstrip().startswith(("let ", "use ", "--")) and len((m or h)[1]) in (0, 2):
-            name = h[4] if h else m[3]
-            ind = (m or h)[1]
-            definition = h or "abbrev" in m[2] or "unfoldable" in m[2]
-            out.append(l)
+        head, law = HEAD.match(l), DECL.match(l)
+        if not (head or law) or indent != 2 * len(stack):
             i += 1
-            while i < len(lines) and lines[i].strip():
-                x = lines[i]
-                if not definition and (re.match(rf"{ind}{re.escape(name)}(\s|$)", x) or x.startswith(ind + "unfolding")):
-                    break
+            continue
+        name = head[4] if head else law[3]
+        whole = head or "abbrev" in law[2] or "unfoldable" in law[2]
+        ended = False
+        while i < len(lines):
+            x = lines[i]
+            deep = len(x) - len(x.lstrip())
+            if x is not l and x.strip() and (deep < indent or deep == indent and not re.match(rf"\s*({re.escape(name)}\s|unfolding )", x) and not re.match(r"\s*[)\]}]", x)):
+                break
+            if not whole and x is not l and x.strip() and deep == indent:
+                ended = True
+            if x.strip() and not x.lstrip().startswith("--") and not ended:
                 out.append(x)
-                i += 1
-            while i < len(lines) and lines[i].strip():
-                i += 1
-            continue
-        i += 1
+            i += 1
     return "\n".join(out).strip("\n")
 
 
 for crate in sys.argv[1:]:
     print(f"### {crate}\n")
     for p in sorted(glob.glob(f"crates/{crate}/proofs/*.antt")):
-        f = os.path.basename(p)
-        if f == "Lib.antt":
-            continue
-        print(f"`{p}`\n\n```text\n{shown(p)}\n```\n")
+        if os.path.basename(p) != "Lib.antt":
+            print(f"`{p}`\n\n```text\n{shown(p)}\n```\n")

@@ -45,11 +45,16 @@ for p in sorted(x for x in subprocess.run(["git", "ls-tree", "-r", "--name-only"
     bb = [x for x in b if not x[0].endswith("Answers.antt")]
     if len(bb) < len(aa):
         what.append(f"{len(aa) - len(bb)} pairs left out that made laws or imports follow")
+    if len(bb) > len(aa):
+        what.append(f"{len(bb) - len(aa)} pairs more, told above")
+    more = [x for x in b if x[0].endswith("Answers.antt")]
+    if more and not lost:
+        what.append(f"{len(more)} pairs more for Answers.antt")
     if {x[0] for x in bb if x[0].startswith("proofs/")} - {x[0] for x in aa}:
         what.append("its law stands in proofs/")
     sp = [x for x, y in zip(aa, bb) if len(aa) == len(bb) and (key(x[1]), key(x[2])) != (key(y[1]), key(y[2]))]
     if sp:
-        what.append("words (below)" if len(aa) == len(bb) else "")
+        what.append("words, told above" if len(aa) == len(bb) else "")
     if not what:
         what.append("spelling")
     m = said.get((c, l), "")

@@ -16,10 +16,10 @@ use std::{io, str};
 // The system's numbers for a name that is too long, and for one that is no text.
 const TOO_LONG: i32 = 36;
 
-// What the system says of an argument that is not there.
-const INVALID: i32 = 22;
-
 const NO_TEXT: i32 = 84;
+
+// Its number for an argument that is not there.
+const INVALID: i32 = 22;
 
 // The most bytes of a name.
 const NAME: usize = 4096;
