@@ -11,7 +11,7 @@ git mv crates/target crates/zztarget
 grep -rlE '\btarget\b' crates crates.txt | xargs sed -i -E 's/\btarget\b/zztarget/g'
 git add -A
 git -c user.name=port -c user.email=port@localhost commit -qm 'target under another name'
-python3 /opt/rattle/port/port.py
+python3 "$(dirname "$(rt doc)")/port/port.py"
 grep -rlE '\bzztarget\b' crates crates.txt | xargs sed -i -E 's/\bzztarget\b/target/g'
 mv crates/zztarget crates/target
 for turn in 1 2 3; do python3 "$here/tools/respell.py"; done
