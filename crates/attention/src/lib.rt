@@ -33,12 +33,10 @@ impl Unit {
     pub fn attend(self, loading: bool) -> Unit
         ensures { result ≡ attend loading self }
     {
-        let sense = self.sense;
         if loading {
             return Unit {
-                power: self.power,
                 change: true,
-                sense,
+                ..self
             };
         }
         self

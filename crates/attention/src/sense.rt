@@ -1,9 +1,9 @@
 // The thirteen sense triples (key/ASC/ASCQ): a table, searched to accept a held sense and cited by every CHECK CONDITION.
 ghost use Rattle.std.specs.Prelude.{◌≡◌};
-ghost use Rattle.attention.specs.Sense.{sense_at, same_sense, is_known};
+ghost use Rattle.attention.specs.Sense.{sense_at, is_known};
 
 #[repr(C)]
-#[derive(Clone, Copy)]
+#[derive(Clone, Copy, PartialEq, Eq)]
 pub struct Sense {
     pub key: u8,
     pub asc: u8,
@@ -109,35 +109,12 @@ const ROWS: [Sense; 13] = [
 pub fn sense_at(i: usize) -> Sense
     ensures { result ≡ sense_at i }
 {
-    if i < 13 {
-        return ROWS[i];
-    }
-    ROWS[NO_SENSE]
-}
-
-// The two triples are one.
-pub fn same(a: Sense, b: Sense) -> bool
-    ensures { result ≡ same_sense a b }
-{
-    if a.key == b.key {
-        if a.asc == b.asc {
-            return a.ascq == b.ascq;
-        }
-        return false;
-    }
-    false
+    ROWS.get(i).copied().unwrap_or(ROWS[NO_SENSE])
 }
 
 // The held sense is one of the thirteen.
 pub fn is_known(s: Sense) -> bool
     ensures { result ≡ is_known s }
 {
-    let mut i = 0;
-    while i < 13 {
-        if same(sense_at(i), s) {
-            return true;
-        }
-        i += 1;
-    }
-    false
+    ROWS.contains(&s)
 }

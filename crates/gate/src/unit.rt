@@ -4,7 +4,7 @@ ghost use Rattle.gate.specs.Unit.{hold, clear, pending_of, attention_sense, told
 ghost use Rattle.gate.specs.Gate.{sense_bytes};
 
 use attention::Unit;
-use attention::sense::{CHANGED, NO_SENSE, POWERED, Sense, same, sense_at};
+use attention::sense::{CHANGED, NO_SENSE, POWERED, Sense, sense_at};
 
 // The attention that is told next: power first.
 #[derive(Clone, Copy)]
@@ -88,7 +88,7 @@ pub fn give(u: Unit) -> Giving
     ensures { result ≡ give u }
 {
     let held = u.sense;
-    if same(held, sense_at(NO_SENSE)) {
+    if held == sense_at(NO_SENSE) {
         let a = first_pending(u);
         return Giving {
             sense: sense_of_pending(a),

@@ -150,6 +150,19 @@ laid-cut room {m} {b} {part} {e} {r} h l =
               (sym (take-take (length m) room b (omega arith)) ∙ sym (fill-over m (take room b) (omega arith)))))
         ]
 
+-- as many of the bytes as the memory holds, set into its front: the bytes are laid
+pub laid_front : (m s : List ℕ) (n : ℕ) → n ≡ min (length s) (length m) → Laid m s n (take n s ++ drop n m)
+unfolding fill
+laid_front m s n h = record {
+  count = h;
+  bytes = elim (dec_le (length s) (length m)) [
+    | yes k ↦ (let e : n ≡ length s = omega arith in
+        rw e (rw (take_all (length s) s (omega arith), take_all (length m) s (omega arith))))
+    | no k ↦ (let l = lt_of_not-le k in let e : n ≡ length m = omega arith in
+        rw e (rw (drop_of_length-le m {i = length m} (omega arith), drop_of_length-le m {i = length s} (omega arith))))
+  ];
+}
+
 -- ---- one byte after the other
 
 -- the next byte stored: one more is laid

@@ -1,5 +1,5 @@
 -- Tests that compute, sealed so that goals stay short, and the laws by which proofs use them.
-use Rattle.std.specs.Prelude.{◌≡◌, Bool, ℕ, zero, suc, ◌+◌, ◌<◌}
+use Rattle.std.specs.Prelude.{◌≡◌, Bool, ◌&&◌, ◌||◌, ℕ, zero, suc, ◌+◌, ◌<◌}
 use Rattle.std.proofs.Math.Path.{refl}
 use Rattle.std.proofs.Common.{sym, ◌∙◌, add-one, arith}
 use Rattle.std.proofs.Math.Bool.{true, false}
@@ -72,6 +72,12 @@ unfolding ◌and◌
 and_assoc true b c = refl
 and_assoc false b c = refl
 
+-- the library's test
+pub and_plain : (a b : Bool) → (a && b) ≡ a and b
+unfolding ◌and◌
+and_plain true b = refl
+and_plain false b = refl
+
 -- ---- or
 
 pub or_left : (a b : Bool) → a ≡ true → a or b ≡ true
@@ -87,6 +93,12 @@ or_right false b h = h
 pub or_else : (a b : Bool) → a ≡ false → a or b ≡ b
 unfolding ◌or◌
 or_else a b h = rw h
+
+-- the library's test
+pub or_plain : (a b : Bool) → (a || b) ≡ a or b
+unfolding ◌or◌
+or_plain true b = refl
+or_plain false b = refl
 
 -- ---- if
 

@@ -2,27 +2,20 @@
 ghost use Rattle.std.specs.Prelude.{◌<◌, take};
 ghost use Rattle.ground.specs.Memory.{Laid};
 
-// The one loop that copies bytes: lays src into the front of dst and says how many went in.
+// The one copier of bytes: lays src into the front of dst and says how many went in.
+#[tactic(auto, using(crate::specs::Memory::laid_front))]
 pub fn copy_front(src: &[u8], dst: &mut [u8]) -> usize
     ensures { Laid dst.old src.now result dst.new }
 {
-    let mut i = 0;
-    while i < src.len() {
-        if dst.len() <= i {
-            return i;
-        }
-        dst[i] = src[i];
-        i += 1;
-    }
-    i
+    let n = src.len().min(dst.len());
+    dst[..n].copy_from_slice(&src[..n]);
+    n
 }
 
 // Lays the first `room` bytes of src.
 pub fn put_cut(src: &[u8], room: usize, dst: &mut [u8]) -> usize
     ensures { Laid dst.old (take room src.now) result dst.new }
 {
-    if room < src.len() {
-        return copy_front(&src[..room], dst);
-    }
-    copy_front(src, dst)
+    let n = room.min(src.len());
+    copy_front(&src[..n], dst)
 }

@@ -2,7 +2,7 @@
 #![tactic(auto)]
 
 ghost use Rattle.std.specs.Prelude.{◌≡◌};
-ghost use Rattle.page.specs.Page.{defaults, among, is_setting};
+ghost use Rattle.page.specs.Page.{defaults, is_setting};
 
 #[repr(C)]
 #[derive(Clone, Copy)]
@@ -27,23 +27,9 @@ pub fn defaults() -> Page
     }
 }
 
-// The byte stands in the row.
-fn among(row: &[u8], b: u8) -> bool
-    ensures { result ≡ among row.now b }
-{
-    let mut i = 0;
-    while i < row.len() {
-        if row[i] == b {
-            return true;
-        }
-        i += 1;
-    }
-    false
-}
-
 // The recovery byte is one of the twenty settings.
 pub fn is_setting(b: u8) -> bool
     ensures { result ≡ is_setting b }
 {
-    among(&SETTINGS, b)
+    SETTINGS.contains(&b)
 }

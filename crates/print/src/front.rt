@@ -5,8 +5,5 @@ ghost use Rattle.print.specs.Front.{FrontOf};
 pub fn front(s: &[u8], n: usize) -> &[u8]
     ensures { FrontOf s.entry result n }
 {
-    if n < s.len() {
-        return &s[..n];
-    }
-    s
+    &s[..n.min(s.len())]
 }

@@ -30,10 +30,8 @@ pub fn put_hexes(bytes: &[u8], out: &mut [u8]) -> usize
     ensures { Laid out.old (hexes bytes.now) result out.new }
 {
     let mut at = 0;
-    let mut i = 0;
-    while i < bytes.len() {
-        at += put_hex(bytes[i], &mut out[at..]);
-        i += 1;
+    for b in bytes {
+        at += put_hex(*b, &mut out[at..]);
     }
     at
 }

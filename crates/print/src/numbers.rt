@@ -30,10 +30,8 @@ pub fn put_joined(numbers: &[u64], mark: u8, out: &mut [u8]) -> usize
     ensures { Laid out.old (joined mark numbers.now) result out.new }
 {
     let mut at = 0;
-    let mut i = 0;
-    while i < numbers.len() {
-        at += put_next(i, mark, numbers[i] as usize, &mut out[at..]);
-        i += 1;
+    for (i, n) in numbers.iter().enumerate() {
+        at += put_next(i, mark, *n as usize, &mut out[at..]);
     }
     at
 }

@@ -12,11 +12,9 @@ pub fn adler32(s: &[u8]) -> usize
 {
     let mut a = 1;
     let mut b = 0;
-    let mut i = 0;
-    while i < s.len() {
-        a = (a + wide(s[i])) % MODULUS;
+    for x in s {
+        a = (a + wide(*x)) % MODULUS;
         b = (b + a) % MODULUS;
-        i += 1;
     }
     b * 65536 + a
 }

@@ -1,20 +1,9 @@
--- `attention::sense::is_known` meets its contract: what the rows not yet seen decide is what the whole table decides.
-use mathlib.Core.Path.{refl, sym, ap, ◌∙◌}
-use native.Mathlib.Omega.{arith}
-use Rattle.attention.specs.declared.sense.Sense.{Sense}
-use Rattle.attention.specs.Sense.{same_sense, is_known}
-use Rattle.attention.specs.SenseLaws.{among-here, among_on, among_none}
+-- `attention::sense::is_known` meets its contract: the library's search of the table, by the derived equality, is the definition's.
+use Rattle.std.proofs.Common.{◌∙◌}
+use Rattle.attention.specs.Sense.{senses, is_known}
+use Rattle.attention.specs.SenseLaws.{among-any}
 use Rattle.attention.proofs.sense.is_known.Goals as goal
 
-pub loop-i-init : goal.loop-i-init
-unfolding is_known
-loop-i-init c = (omega arith, refl)
-
-pub returns-then-same : goal.returns-then-same
-returns-then-same c = among-here _ _ c.loop-i-test.true (ap (λ (r : Sense). same_sense r c.args.s) (sym c.sense_at.ensures) ∙ sym c.same.ensures ∙ c.if-same.true) ∙ c.loop-i.invariant.1
-
-pub loop-i-preserved : goal.loop-i-preserved
-loop-i-preserved c = (omega arith, sym (among_on _ _ c.loop-i-test.true (ap (λ (r : Sense). same_sense r c.args.s) (sym c.sense_at.ensures) ∙ sym c.same.ensures ∙ c.if-same.false)) ∙ c.loop-i.invariant.1)
-
 pub returns : goal.returns
-returns c = among_none _ _ c.loop-i-test.false ∙ c.loop-i.invariant.1
+unfolding is_known
+returns c = c.contains.ensures.value ∙ among-any senses c.args.s
