@@ -1,11 +1,9 @@
 -- Block addresses and M:S:F, as 01 fixes them under "The lent disc table" and refusal 8.
-use Rattle.std.specs.Prelude.{ℕ, ◌+◌, ◌-◌, ◌*◌, ◌/◌, ◌%◌, Bool, List, [], ◌∷◌, leb}
+use Rattle.std.specs.Prelude.{ℕ, ◌+◌, ◌-◌, ◌*◌, ◌/◌, ◌%◌, Bool, List, [], ◌∷◌, leb, Result, Ok, Err}
 use Rattle.ground.specs.Tests.{◌and◌, choose◌then◌else◌}
 use Rattle.ground.specs.Number.{bytes32}
 use Rattle.address.specs.declared.Msf.{Msf}
-use Rattle.address.specs.declared.Msf.TheVariants as msf
-use Rattle.address.specs.declared.Block.{Block}
-use Rattle.address.specs.declared.Block.TheVariants as block
+use Rattle.address.specs.declared.OutOfRange.{OutOfRange}
 
 -- "8: address over 449,849, or M:S:F outside rule 6"
 abbrev pub refused : ℕ
@@ -74,10 +72,10 @@ unfoldable pub shown_address : Bool → ℕ → List ℕ
 shown_address msf a = choose msf then 0 ∷ (to_msf a).minute ∷ (to_msf a).second ∷ (to_msf a).frame ∷ [] else bytes32 a
 
 -- the number and values of each case of the code's answers
-abbrev pub msf_meaning : Msf → MsfAnswer
-msf_meaning (msf.At m s f) = msf_at m s f
-msf_meaning msf.Refused = msf_refused
+abbrev pub msf_meaning : Result Msf OutOfRange → MsfAnswer
+msf_meaning (Ok m) = msf_at m.minute m.second m.frame
+msf_meaning (Err e) = msf_refused
 
-abbrev pub block_meaning : Block → BlockAnswer
-block_meaning (block.At a) = block_at a
-block_meaning block.Refused = block_refused
+abbrev pub block_meaning : Result ℕ OutOfRange → BlockAnswer
+block_meaning (Ok a) = block_at a
+block_meaning (Err e) = block_refused

@@ -1,10 +1,12 @@
 -- The laws of the two conversions: exactly the stated ranges convert, both round trips, strictly rising; what is shown of an address is four bytes.
-use Rattle.std.specs.Prelude.{◌≡◌, refl, Bool, true, false, List, ◌⊎◌, ℕ, ◌+◌, ◌*◌, ◌/◌, ◌≤◌, ◌<◌, length}
+use Rattle.std.specs.Prelude.{◌≡◌, refl, Bool, true, false, List, ◌⊎◌, ℕ, ◌+◌, ◌*◌, ◌/◌, ◌≤◌, ◌<◌, length, Result, Ok, Err}
 use Rattle.std.proofs.Common.{sym, ap, ◌∙◌, inl, inr, ⊎_elim, arith, lt_of_not-le, le-leb, leb-true}
 use Rattle.std.proofs.Math.Decide.{dec_le}
 use Rattle.std.proofs.lemmas.Bool.{lt-leb}
+use Rattle.std.specs.Result.{is_ok}
 use Rattle.ground.specs.Tests.{choose◌then◌else◌, when, unless, either, and_head, and_tail, and_both}
-use Rattle.address.specs.Address.{BlockAnswer, refused, last, frames, address_of, is_msf, minute_of, second_of, frame_of, msf_at, msf_refused, block_at, block_refused, to_msf, to_block, shown_address}
+use Rattle.address.specs.declared.OutOfRange.{OutOfRange}
+use Rattle.address.specs.Address.{BlockAnswer, refused, last, frames, address_of, is_msf, minute_of, second_of, frame_of, msf_at, msf_refused, block_at, block_refused, to_msf, to_block, shown_address, block_meaning}
 
 -- rule 6 of an M:S:F, its parts by name
 pub record InRange (m s f : ℕ) : Type 0 where
@@ -129,6 +131,11 @@ to_block-refuses m s f h = decided (is_msf m s f) refl
     decided : (b : Bool) → is_msf m s f ≡ b → false ≡ is_msf m s f
     decided true e = let z : ◌≡◌ {A = ℕ} refused 0 = ap (λ (r : BlockAnswer). r.number) (h ∙ when _ _ _ e) in absurd (omega arith)
     decided false e = sym e
+
+-- so an answer is a block exactly in the range
+pub to_block-tells : (m s f : ℕ) (r : Result ℕ OutOfRange) → block_meaning r ≡ to_block m s f → is_ok r ≡ is_msf m s f
+to_block-tells m s f (Ok a) e = to_block_accepts _ _ _ a e
+to_block-tells m s f (Err o) e = to_block-refuses _ _ _ e
 
 -- ---- shown_address
 

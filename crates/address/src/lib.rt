@@ -15,53 +15,45 @@ pub const LAST: usize = 449849;
 // Frames before block 0, which stands at 00:02:00.
 const LEAD: usize = 150;
 
-// A block's M:S:F, or refusal 8.
+// Minute, second and frame from 00:00:00 on.
 #[derive(Clone, Copy)]
-pub enum Msf {
-    At { minute: u8, second: u8, frame: u8 },
-    Refused,
+pub struct Msf {
+    pub minute: u8,
+    pub second: u8,
+    pub frame: u8,
 }
 
-// An M:S:F's block, or refusal 8.
-#[derive(Clone, Copy)]
-pub enum Block {
-    At(usize),
-    Refused,
-}
+// Refusal 8: an address that no M:S:F has, or an M:S:F that no block has.
+#[derive(Clone, Copy, Debug, PartialEq, Eq)]
+pub struct OutOfRange;
 
 // The M:S:F of a block address.
-pub fn to_msf(address: usize) -> Msf
+pub fn to_msf(address: usize) -> Result<Msf, OutOfRange>
     ensures { msf_meaning result ≡ to_msf address }
 {
     if LAST < address {
-        return Msf::Refused;
+        return Err(OutOfRange);
     }
     let frames = address + LEAD;
-    Msf::At {
+    Ok(Msf {
         minute: (frames / 75 / 60) as u8,
         second: (frames / 75 % 60) as u8,
         frame: (frames % 75) as u8,
-    }
+    })
 }
 
 // The block address of an M:S:F.
-pub fn to_block(minute: u8, second: u8, frame: u8) -> Block
+pub fn to_block(minute: u8, second: u8, frame: u8) -> Result<usize, OutOfRange>
     ensures { block_meaning result ≡ to_block minute second frame }
 {
-    if 99 < minute {
-        return Block::Refused;
-    }
-    if 59 < second {
-        return Block::Refused;
-    }
-    if 74 < frame {
-        return Block::Refused;
+    if 99 < minute || 59 < second || 74 < frame {
+        return Err(OutOfRange);
     }
     let frames = frames_of(minute, second, frame);
     if frames < LEAD {
-        return Block::Refused;
+        return Err(OutOfRange);
     }
-    Block::At(frames - LEAD)
+    Ok(frames - LEAD)
 }
 
 // Frames from 00:00:00 on.
@@ -75,36 +67,25 @@ fn frames_of(minute: u8, second: u8, frame: u8) -> usize
 pub fn address_of(minute: u8, second: u8, frame: u8) -> usize
     ensures { result ≡ address_of minute second frame }
 {
-    let frames = frames_of(minute, second, frame);
-    if LEAD <= frames {
-        return frames - LEAD;
-    }
-    0
+    frames_of(minute, second, frame).saturating_sub(LEAD)
 }
 
 // The M:S:F is one that rule 6 allows.
 pub fn is_msf(minute: u8, second: u8, frame: u8) -> bool
     ensures { result ≡ is_msf minute second frame }
 {
-    match to_block(minute, second, frame) {
-        Block::At(_) => true,
-        Block::Refused => false,
-    }
+    to_block(minute, second, frame).is_ok()
 }
 
 // An address as an answer shows it: four bytes, or 0 M S F.
 pub fn shown_address(msf: bool, a: usize) -> [u8; 4]
     ensures { result ≡ shown_address msf a }
 {
-    if msf {
-        return match to_msf(a) {
-            Msf::At {
-                minute,
-                second,
-                frame,
-            } => [0, minute, second, frame],
-            Msf::Refused => [0, 0, 0, 0],
-        };
+    if !msf {
+        return bytes32(a);
     }
-    bytes32(a)
+    match to_msf(a) {
+        Ok(m) => [0, m.minute, m.second, m.frame],
+        Err(OutOfRange) => [0, 0, 0, 0],
+    }
 }

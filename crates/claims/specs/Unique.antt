@@ -1,15 +1,13 @@
 -- "For any input a public function's promise leaves one possible result, one next state and one content of each lent memory, refusals as well."
 -- A law for each public function, by its name: two results that meet its promise are equal.
-use Rattle.std.specs.Prelude.{◌≡◌, refl, Bool, List, ℕ, ◌≤◌, ◌<◌, min, length, take, get_or}
+use Rattle.std.specs.Prelude.{◌≡◌, refl, Bool, List, ℕ, ◌≤◌, ◌<◌, min, length, take, get_or, Result, Ok, Err}
 use Rattle.std.proofs.Common.{sym, ap, ◌∙◌, arith}
 use Rattle.std.specs.Borrow.{Bor}
 use denote.Slice.{shr_slice_vals}
 use Rattle.ground.specs.Number.{Byte, word16, word32, bytes16, bytes32}
 use Rattle.ground.specs.Memory.{Laid, laid-only}
 use Rattle.address.specs.declared.Msf.{Msf}
-use Rattle.address.specs.declared.Msf.TheVariants as msf
-use Rattle.address.specs.declared.Block.{Block}
-use Rattle.address.specs.declared.Block.TheVariants as block
+use Rattle.address.specs.declared.OutOfRange.{OutOfRange}
 use Rattle.address.specs.Address.{shown_address, MsfAnswer, BlockAnswer, msf_meaning, block_meaning, to_msf, to_block, address_of, is_msf}
 use Rattle.attention.specs.declared.sense.Sense.{Sense}
 use Rattle.attention.specs.declared.Unit.{Unit}
@@ -97,22 +95,22 @@ part_once {s} {r} {q} a b =
 pub answer_once : {a : Reply Deck} {m m₁ m₂ : List ℕ} {r s : Outcome} → Answered a m r m₁ → Answered a m s m₂ → (r ≡ s) × (m₁ ≡ m₂)
 answer_once a b = (a.outcome ∙ sym b.outcome, a.memory ∙ sym b.memory)
 
--- an enum through its meaning: the two conversions' answers
-msf_injective : (r s : Msf) → msf_meaning r ≡ msf_meaning s → r ≡ s
-msf_injective (msf.At m n f) (msf.At k l g) e =
+-- a result through its meaning: the two conversions' answers
+msf_injective : (r s : Result Msf OutOfRange) → msf_meaning r ≡ msf_meaning s → r ≡ s
+msf_injective (Ok m) (Ok n) e =
     let a = ap (λ (x : MsfAnswer). x.minute) e in
     let b = ap (λ (x : MsfAnswer). x.second) e in
     let c = ap (λ (x : MsfAnswer). x.frame) e in
     rw (a, b, c)
-msf_injective (msf.At m n f) msf.Refused e = let z : ◌≡◌ {A = ℕ} 0 8 = ap (λ (x : MsfAnswer). x.number) e in absurd (omega arith)
-msf_injective msf.Refused (msf.At k l g) e = let z : ◌≡◌ {A = ℕ} 8 0 = ap (λ (x : MsfAnswer). x.number) e in absurd (omega arith)
-msf_injective msf.Refused msf.Refused e = refl
+msf_injective (Ok m) (Err o) e = let z : ◌≡◌ {A = ℕ} 0 8 = ap (λ (x : MsfAnswer). x.number) e in absurd (omega arith)
+msf_injective (Err o) (Ok n) e = let z : ◌≡◌ {A = ℕ} 8 0 = ap (λ (x : MsfAnswer). x.number) e in absurd (omega arith)
+msf_injective (Err o) (Err p) e = refl
 
-block_injective : (r s : Block) → block_meaning r ≡ block_meaning s → r ≡ s
-block_injective (block.At a) (block.At b) e = rw (ap (λ (x : BlockAnswer). x.address) e)
-block_injective (block.At a) block.Refused e = let z : ◌≡◌ {A = ℕ} 0 8 = ap (λ (x : BlockAnswer). x.number) e in absurd (omega arith)
-block_injective block.Refused (block.At b) e = let z : ◌≡◌ {A = ℕ} 8 0 = ap (λ (x : BlockAnswer). x.number) e in absurd (omega arith)
-block_injective block.Refused block.Refused e = refl
+block_injective : (r s : Result ℕ OutOfRange) → block_meaning r ≡ block_meaning s → r ≡ s
+block_injective (Ok a) (Ok b) e = rw (ap (λ (x : BlockAnswer). x.address) e)
+block_injective (Ok a) (Err o) e = let z : ◌≡◌ {A = ℕ} 0 8 = ap (λ (x : BlockAnswer). x.number) e in absurd (omega arith)
+block_injective (Err o) (Ok b) e = let z : ◌≡◌ {A = ℕ} 8 0 = ap (λ (x : BlockAnswer). x.number) e in absurd (omega arith)
+block_injective (Err o) (Err p) e = refl
 
 -- ---- ground
 
@@ -142,10 +140,10 @@ unique_put-cut room m b m₁ m₂ r s = laying_once
 
 -- ---- address
 
-pub unique-to_msf : (a : ℕ) (r s : Msf) → msf_meaning r ≡ to_msf a → msf_meaning s ≡ to_msf a → r ≡ s
+pub unique-to_msf : (a : ℕ) (r s : Result Msf OutOfRange) → msf_meaning r ≡ to_msf a → msf_meaning s ≡ to_msf a → r ≡ s
 unique-to_msf a r s p q = msf_injective r s (value_once p q)
 
-pub unique-to_block : (m n f : ℕ) (r s : Block) → block_meaning r ≡ to_block m n f → block_meaning s ≡ to_block m n f → r ≡ s
+pub unique-to_block : (m n f : ℕ) (r s : Result ℕ OutOfRange) → block_meaning r ≡ to_block m n f → block_meaning s ≡ to_block m n f → r ≡ s
 unique-to_block m n f r s p q = block_injective r s (value_once p q)
 
 pub unique_address_of : (m n f r s : ℕ) → r ≡ address_of m n f → s ≡ address_of m n f → r ≡ s

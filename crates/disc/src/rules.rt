@@ -10,7 +10,7 @@ ghost use Rattle.disc.specs.WalkSteps.{Reached, Trod};
 
 use crate::rows::{row_at, row_from};
 use ground::number::{wide, word16};
-use sessions::session::{Session, read_session, session_bytes};
+use sessions::session::{read_session, session_bytes};
 use table::layout::{BOUND, HEADER, PMIN, ROW};
 use table::row::{row_test, start_of};
 
@@ -71,20 +71,15 @@ fn rule4(n: u8, d: &[u8], passed: u8, from: usize, track: usize) -> bool
     let mut at = from;
     let mut next = track;
     while k < n {
-        match read_session(&d[at..], wide(k) + 1) {
-            Session::Is { first, last, bytes } => {
-                if wide(first) == next {
-                    at += bytes;
-                    next = wide(last) + 1;
-                    k += 1;
-                } else {
-                    return false;
-                }
-            }
-            Session::Not => {
-                return false;
-            }
+        let Some(s) = read_session(&d[at..], wide(k) + 1) else {
+            return false;
+        };
+        if wide(s.first) != next {
+            return false;
         }
+        at += s.bytes;
+        next = wide(s.last) + 1;
+        k += 1;
     }
     at == d.len()
 }

@@ -7,7 +7,7 @@ use crate::line::{
     put_address, put_counted, put_moved, put_msf, put_packet, put_part, put_written,
 };
 use crate::magazine::{call_changer, call_outside, call_power, set_slots};
-use address::{Block, Msf, to_block, to_msf};
+use address::{OutOfRange, to_block, to_msf};
 use attention::Unit;
 use attention::sense::Sense;
 use cue::write::write_table;
@@ -293,12 +293,8 @@ fn call_packet(
 fn call_msf(body: &[u8], bench: Bench, line: &mut [u8]) -> Turn {
     if body.len() == 4 {
         return match to_msf(word32(body[0], body[1], body[2], body[3])) {
-            Msf::At {
-                minute,
-                second,
-                frame,
-            } => printed(put_msf(0, minute, second, frame, line), bench),
-            Msf::Refused => printed(put_msf(address::REFUSED, 0, 0, 0, line), bench),
+            Ok(m) => printed(put_msf(0, m.minute, m.second, m.frame, line), bench),
+            Err(OutOfRange) => printed(put_msf(address::REFUSED, 0, 0, 0, line), bench),
         };
     }
     bad(bench, line)
@@ -308,8 +304,8 @@ fn call_msf(body: &[u8], bench: Bench, line: &mut [u8]) -> Turn {
 fn call_block(body: &[u8], bench: Bench, line: &mut [u8]) -> Turn {
     if body.len() == 3 {
         return match to_block(body[0], body[1], body[2]) {
-            Block::At(a) => printed(put_address(0, a, line), bench),
-            Block::Refused => printed(put_address(address::REFUSED, 0, line), bench),
+            Ok(a) => printed(put_address(0, a, line), bench),
+            Err(OutOfRange) => printed(put_address(address::REFUSED, 0, line), bench),
         };
     }
     bad(bench, line)

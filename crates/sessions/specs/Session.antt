@@ -1,10 +1,9 @@
 -- "Each session is read as the part of the table that begins at its A0 descriptor."
-use Rattle.std.specs.Prelude.{ℕ, zero, suc, ◌+◌, ◌-◌, ◌*◌, Bool, List, length, drop, leb, eqb}
+use Rattle.std.specs.Prelude.{ℕ, zero, suc, ◌+◌, ◌-◌, ◌*◌, Bool, List, length, drop, leb, eqb, Option, Some, None}
 use Rattle.ground.specs.Tests.{◌and◌, ◌or◌, every, choose◌then◌else◌}
 use Rattle.table.specs.Layout.{row, session_at, point_at, pmin_at, A0, A1, A2, B0, C0}
 use Rattle.table.specs.Row.{row_at, names}
 use Rattle.sessions.specs.declared.session.Session.{Session}
-use Rattle.sessions.specs.declared.session.Session.TheVariants.{Is, Not}
 
 -- "tracks f, f+1, .. l, with f in A0's PMIN, l in A1's": of the session that d begins with
 abbrev pub first : List ℕ → ℕ
@@ -77,5 +76,5 @@ unfoldable pub in_order : ℕ → List ℕ → Bool
 in_order n d = every n (in_place d) and eqb (starts d n) (length d)
 
 -- what the session reader answers
-unfoldable pub read_session : ℕ → List ℕ → Session
-read_session k d = choose is_session k d then Is (first d) (last d) (size d) else Not
+unfoldable pub read_session : ℕ → List ℕ → Option Session
+read_session k d = choose is_session k d then Some (record { first = first d; last = last d; bytes = size d }) else None

@@ -1,13 +1,14 @@
 -- The laws of a session and of where each begins.
-use Rattle.std.specs.Prelude.{◌≡◌, refl, Bool, true, false, List, ℕ, zero, suc, ◌+◌, ◌-◌, ◌*◌, ◌/◌, ◌%◌, ◌≤◌, ◌<◌, length, get_or, drop, eqb}
+use Rattle.std.specs.Prelude.{◌≡◌, refl, Bool, true, false, List, ℕ, zero, suc, ◌+◌, ◌-◌, ◌*◌, ◌/◌, ◌%◌, ◌≤◌, ◌<◌, length, get_or, drop, eqb, Option, Some, None}
 use Rattle.std.proofs.Common.{sym, ap, ◌∙◌, arith, add-one, lt_of_not-le, le-leb, leb-true, eq-eqb, ne_eqb, eqb-true, length-drop, get_or-drop}
 use Rattle.std.proofs.Math.Decide.{dec_le, ℕ_discrete}
 use Rattle.std.proofs.Math.ListN.{get_or-eq_default}
+use mir.Val.{bool_byte}
 use Rattle.ground.specs.Tests.{every, choose◌then◌else◌, either, and_head, and_tail, and_both, when, unless, every-at}
 use Rattle.table.specs.Layout.{row, session_at, point_at, A0, A1, A2, B0, C0}
 use Rattle.table.specs.Row.{row_at, names}
 use Rattle.sessions.specs.Session.{first, last, tracks, one, b0s, c0s, count, size, listed, numbered, is_session, starts, session, before, follows, in_place, in_order, read_session}
-use Rattle.sessions.specs.declared.session.Session.TheVariants.{Is, Not}
+use Rattle.sessions.specs.declared.session.Session.{Session}
 
 -- ---- one session
 
@@ -54,6 +55,11 @@ one_is e = when _ _ _ (eq-eqb _ _ e)
 pub one_not : {q p : ℕ} → (q ≡ p → ⊥) → one q p ≡ 0
 unfolding one
 one_not n = unless _ _ _ (ne_eqb _ _ n)
+
+-- the test's answer as a number
+pub one-counts : (q p : ℕ) → bool_byte (eqb q p) ≡ one q p
+unfolding one
+one-counts q p = either (λ (n : ℕ). bool_byte (eqb q p) ≡ n) (eqb q p) (λ e. rw e) (λ e. rw e)
 
 -- where one is counted, one stands
 pub one_point : (q p : ℕ) → 1 ≤ one q p → q ≡ p
@@ -141,16 +147,20 @@ listed_parts {d} {k} {f} {n} h =
       track = λ i l. names_parts _ _ _ _ (every-at n (λ j. names (row_at d (3 + j)) k (f + j)) (and_tail _ _ v) i l);
     }
 
+-- what the reader tells of the session that s begins with
+abbrev pub told : List ℕ → Session
+told s = record { first = first s; last = last s; bytes = size s }
+
 -- what the reader answers of a session, and of anything else
-pub read_session_is : {k : ℕ} {s : List ℕ} → IsSession k s → Is (first s) (last s) (size s) ≡ read_session k s
+pub read_session_is : {k : ℕ} {s : List ℕ} → IsSession k s → Some (told s) ≡ read_session k s
 unfolding read_session
 read_session_is i = sym (when _ _ _ (is_session_true i))
 
-pub read_session_not : (k : ℕ) (s : List ℕ) → (IsSession k s → ⊥) → Not ≡ read_session k s
+pub read_session_not : (k : ℕ) (s : List ℕ) → (IsSession k s → ⊥) → None ≡ read_session k s
 unfolding read_session
 read_session_not k s n = decided (is_session k s) refl
   where
-    decided : (b : Bool) → is_session k s ≡ b → Not ≡ (choose is_session k s then Is (first s) (last s) (size s) else Not)
+    decided : (b : Bool) → is_session k s ≡ b → None ≡ (choose is_session k s then Some (told s) else None)
     decided true e = absurd (n (is_session_parts e))
     decided false e = sym (unless _ _ _ e)
 
@@ -161,20 +171,20 @@ pub record Told (k : ℕ) (s : List ℕ) (f l b : ℕ) : Type 0 where
   pub high : l ≡ last s
   pub bytes : b ≡ size s
 
-pub read_session-told : (k : ℕ) (s : List ℕ) {f l b : ℕ} → Is f l b ≡ read_session k s → Told k s f l b
+pub read_session-told : (k : ℕ) (s : List ℕ) {r : Session} → Some r ≡ read_session k s → Told k s r.first r.last r.bytes
 unfolding read_session
-read_session-told k s {f} {l} {b} h = decided (is_session k s) refl
+read_session-told k s {r} h = decided (is_session k s) refl
   where
-    decided : (t : Bool) → is_session k s ≡ t → Told k s f l b
-    decided true e = let q : Is f l b ≡ Is (first s) (last s) (size s) = h ∙ when _ _ _ e in record { is = e; low = cc; high = cc; bytes = cc }
-    decided false e = let q : Is f l b ≡ Not = h ∙ unless _ _ _ e in let z : ◌≡◌ {A = ℕ} 0 1 = cc in absurd (omega arith)
+    decided : (t : Bool) → is_session k s ≡ t → Told k s r.first r.last r.bytes
+    decided true e = let q : Some r ≡ Some (told s) = h ∙ when _ _ _ e in record { is = e; low = cc; high = cc; bytes = cc }
+    decided false e = let q : Some r ≡ None = h ∙ unless _ _ _ e in cc
 
-pub read_session_told_not : (k : ℕ) (s : List ℕ) → Not ≡ read_session k s → is_session k s ≡ false
+pub read_session_told_not : (k : ℕ) (s : List ℕ) → None ≡ read_session k s → is_session k s ≡ false
 unfolding read_session
 read_session_told_not k s h = decided (is_session k s) refl
   where
     decided : (t : Bool) → is_session k s ≡ t → is_session k s ≡ false
-    decided true e = let q : Not ≡ Is (first s) (last s) (size s) = h ∙ when _ _ _ e in let z : ◌≡◌ {A = ℕ} 0 1 = cc in absurd (omega arith)
+    decided true e = let q : None ≡ Some (told s) = h ∙ when _ _ _ e in cc
     decided false e = e
 
 -- ---- where each session begins

@@ -10,9 +10,10 @@ use table::layout::{A0, A1, A2, B0, C0, PMIN, POINT, ROW, byte_at};
 
 // What reading a session finds: its first and last track and how many bytes its descriptors take.
 #[derive(Clone, Copy)]
-pub enum Session {
-    Is { first: u8, last: u8, bytes: usize },
-    Not,
+pub struct Session {
+    pub first: u8,
+    pub last: u8,
+    pub bytes: usize,
 }
 
 // Descriptor j is of session k and has POINT p.
@@ -21,10 +22,7 @@ fn named(d: &[u8], k: usize, j: usize, p: usize) -> bool
     ensures { result ≡ names (row_at d.now j) k p }
 {
     let at = ROW * j;
-    if wide(d[at]) == k {
-        return wide(d[at + POINT]) == p;
-    }
-    false
+    wide(d[at]) == k && wide(d[at + POINT]) == p
 }
 
 // The n descriptors after the third are the tracks from number f on.
@@ -32,15 +30,7 @@ fn lists_tracks(d: &[u8], k: usize, f: usize, n: usize) -> bool
     requires { (row * (3 + n) ≤ length d.now) × (f ≤ 256) × (n ≤ 256) }
     ensures { result ≡ every n (λ i. names (row_at d.now (3 + i)) k (f + i)) }
 {
-    let mut i = 0;
-    while i < n {
-        if named(d, k, 3 + i, f + i) {
-            i += 1;
-        } else {
-            return false;
-        }
-    }
-    true
+    (0..n).all(|i| named(d, k, 3 + i, f + i))
 }
 
 // The descriptors of session k name A0, A1, A2 and then the n tracks from number f on.
@@ -48,16 +38,10 @@ fn listed(d: &[u8], k: usize, f: usize, n: usize) -> bool
     requires { (row * (3 + n) ≤ length d.now) × (f ≤ 256) × (n ≤ 256) }
     ensures { result ≡ listed d.now k f n }
 {
-    if named(d, k, 0, wide(A0)) {
-        if named(d, k, 1, wide(A1)) {
-            if named(d, k, 2, wide(A2)) {
-                return lists_tracks(d, k, f, n);
-            }
-            return false;
-        }
-        return false;
-    }
-    false
+    named(d, k, 0, wide(A0))
+        && named(d, k, 1, wide(A1))
+        && named(d, k, 2, wide(A2))
+        && lists_tracks(d, k, f, n)
 }
 
 // The m descriptors from j on are of session k.
@@ -65,15 +49,7 @@ fn numbered(d: &[u8], k: usize, j: usize, m: usize) -> bool
     requires { row * (j + m) ≤ length d.now }
     ensures { result ≡ numbered d.now k j m }
 {
-    let mut i = 0;
-    while i < m {
-        if wide(d[ROW * (j + i)]) == k {
-            i += 1;
-        } else {
-            return false;
-        }
-    }
-    true
+    (0..m).all(|i| wide(d[ROW * (j + i)]) == k)
 }
 
 // How many tracks the session lists that begins at `at`, of any bytes.
@@ -84,10 +60,7 @@ fn tracks_at(d: &[u8], at: usize) -> usize
 {
     let f = byte_at(d, at + PMIN);
     let l = byte_at(d, at + ROW + PMIN);
-    if l + 1 < f {
-        return 0;
-    }
-    l + 1 - f
+    (l + 1).saturating_sub(f)
 }
 
 // How many descriptors with POINT p stand at byte i: one or none.
@@ -96,10 +69,7 @@ fn one_at(d: &[u8], i: usize, p: u8) -> usize
     ensures same { result ≡ one (point_at (drop i d.now) 0) p }
     ensures most { result ≤ 1 }
 {
-    if byte_at(d, i + POINT) == wide(p) {
-        return 1;
-    }
-    0
+    usize::from(byte_at(d, i + POINT) == wide(p))
 }
 
 // How many bytes the descriptors take of the session that begins at `at`, of any bytes.
@@ -122,47 +92,36 @@ pub fn session_bytes(d: &[u8]) -> usize
 }
 
 // The session k that d begins with, if it does.
-pub fn read_session(d: &[u8], k: usize) -> Session
+pub fn read_session(d: &[u8], k: usize) -> Option<Session>
     ensures { result ≡ read_session k d.now }
 {
     if d.len() < 3 * ROW {
-        return Session::Not;
+        return None;
     }
     let first = d[PMIN];
     let last = d[ROW + PMIN];
-    if first < 1 {
-        return Session::Not;
-    }
-    if last < first {
-        return Session::Not;
-    }
-    if 99 < last {
-        return Session::Not;
+    if first < 1 || last < first || 99 < last {
+        return None;
     }
     let bytes = session_bytes(d);
     if d.len() < bytes {
-        return Session::Not;
+        return None;
     }
     let f = wide(first);
     let n = wide(last) + 1 - f;
-    if listed(d, k, f, n) {
-        if numbered(d, k, 3 + n, bytes / ROW - (3 + n)) {
-            return Session::Is { first, last, bytes };
-        }
-        return Session::Not;
+    if listed(d, k, f, n) && numbered(d, k, 3 + n, bytes / ROW - (3 + n)) {
+        return Some(Session { first, last, bytes });
     }
-    Session::Not
+    None
 }
 
 // Where the session after n others begins, of any bytes.
 pub fn starts_after(d: &[u8], n: u8) -> usize
     ensures { result ≡ starts d.now n }
 {
-    let mut k: u8 = 0;
     let mut at = 0;
-    while k < n {
+    for _ in 0..n {
         at += size_at(d, at);
-        k += 1;
     }
     at
 }

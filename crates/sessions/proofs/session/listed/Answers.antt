@@ -1,37 +1,50 @@
 -- `sessions::session::listed` meets its contract: the four tests are the definition's, in its order.
-use mathlib.Core.Path.{◌≡◌, sym, ap, ◌∙◌}
-use mathlib.Core.Bool.{Bool}
-use Prim.Native.Nat.{ℕ}
+use Rattle.std.proofs.Common.{◌≡◌, sym, ap, ◌∙◌, ℕ, Bool}
 use Rattle.ground.specs.Number.{Byte}
-use Rattle.ground.specs.Tests.{and_on, and_off, and_late}
+use Rattle.ground.specs.Tests.{◌and◌, and_on, and_off, and_assoc}
+use Rattle.table.specs.Layout.{A0, A1, A2}
 use Rattle.table.specs.declared.row.Row.{Row}
-use Rattle.table.specs.Row.{names}
+use Rattle.table.specs.Row.{row_at, names}
 use Rattle.sessions.specs.Session.{listed}
 use Rattle.sessions.proofs.session.listed.Goals as goal
+use Rattle.sessions.proofs.session.listed.Goals.{then-named, else-named, then-named-2, else-named-2}
 
 -- what a test of a descriptor told, whose POINT was widened
-told : (s : Row) (k : ℕ) {p q : ℕ} {r b : Bool} → Byte p q → r ≡ names s k q → r ≡ b → names s k p ≡ b
-told s k w e h = ap (names s k) (sym w.same) ∙ sym e ∙ h
+told : (s : Row) (k : ℕ) {p q : ℕ} {r : Bool} → Byte p q → r ≡ names s k q → r ≡ names s k p
+told s k w e = e ∙ ap (names s k) w.same
+
+-- the tests one by one are the definition's
+joined : (a b c e : Bool) {v w r : Bool} → v ≡ a and b → w ≡ v and c → r ≡ w and e → r ≡ a and b and c and e
+joined a b c e p q s = s ∙ rw (q, p) (and_assoc (a and b) c e ∙ and_assoc a b (c and e))
 
 pub returns-then-named-3 : goal.returns-then-named-3
 unfolding listed
 returns-then-named-3 c =
-    and_on _ _ (told _ _ c.wide.ensures
-    c.named.ensures
-    c.if-named.true) (and_on _ _ (told _ _
-    c.wide-then-named.ensures c.named-then-named.ensures
-    c.if-named-2.true) (and_on _ _ (told _ _ c.wide-then-named-2.ensures
-    c.named-then-named-2.ensures c.if-named-3.true) c.lists_tracks.ensures))
+    let d = c.args.d.now in
+    let k = c.args.k in
+    let zero = told (row_at d 0) k c.wide.ensures c.named.ensures in
+    let one : c.if-named.value ≡ names (row_at d 0) k A0 and names (row_at d 1) k A1 = elim c.if-named.branch [
+      | then-named w ↦ and_on _ _ (sym zero ∙ w.if-named.true) (w.value-is ∙ told _ _ w.wide-then-named.ensures w.named-then-named.ensures)
+      | else-named w ↦ w.value-is ∙ w.if-named.false ∙ and_off _ _ (sym zero ∙ w.if-named.false)
+    ] in
+    let two : c.if-named-2.value ≡ c.if-named.value and names (row_at d 2) k A2 = elim c.if-named-2.branch [
+      | then-named-2 w ↦ and_on _ _ w.if-named-2.true (w.value-is ∙ told _ _ w.wide-then-named-2.ensures w.named-then-named-2.ensures)
+      | else-named-2 w ↦ w.value-is ∙ w.if-named-2.false ∙ and_off _ _ w.if-named-2.false
+    ] in
+    joined _ _ _ _ one two (and_on _ _ c.if-named-3.true c.lists_tracks.ensures)
 
-pub returns-then-named-2 : goal.returns-then-named-2
+pub returns-else-named-3 : goal.returns-else-named-3
 unfolding listed
-returns-then-named-2 c =
-    and_late _ _ (and_late _ _ (and_off _ _ (told _ _ c.wide-then-named-2.ensures c.named-then-named-2.ensures c.if-named-3.false)))
-
-pub returns-then-named : goal.returns-then-named
-unfolding listed
-returns-then-named c = and_late _ _ (and_off _ _ (told _ _ c.wide-then-named.ensures c.named-then-named.ensures c.if-named-2.false))
-
-pub returns : goal.returns
-unfolding listed
-returns c = and_off _ _ (told _ _ c.wide.ensures c.named.ensures c.if-named.false)
+returns-else-named-3 c =
+    let d = c.args.d.now in
+    let k = c.args.k in
+    let zero = told (row_at d 0) k c.wide.ensures c.named.ensures in
+    let one : c.if-named.value ≡ names (row_at d 0) k A0 and names (row_at d 1) k A1 = elim c.if-named.branch [
+      | then-named w ↦ and_on _ _ (sym zero ∙ w.if-named.true) (w.value-is ∙ told _ _ w.wide-then-named.ensures w.named-then-named.ensures)
+      | else-named w ↦ w.value-is ∙ w.if-named.false ∙ and_off _ _ (sym zero ∙ w.if-named.false)
+    ] in
+    let two : c.if-named-2.value ≡ c.if-named.value and names (row_at d 2) k A2 = elim c.if-named-2.branch [
+      | then-named-2 w ↦ and_on _ _ w.if-named-2.true (w.value-is ∙ told _ _ w.wide-then-named-2.ensures w.named-then-named-2.ensures)
+      | else-named-2 w ↦ w.value-is ∙ w.if-named-2.false ∙ and_off _ _ w.if-named-2.false
+    ] in
+    joined _ _ _ _ one two (c.if-named-3.false ∙ and_off _ _ c.if-named-3.false)

@@ -1,20 +1,14 @@
--- `sessions::session::lists_tracks` meets its contract: each turn tests the next descriptor, and the first that fails decides.
-use mathlib.Core.Path.{sym, ◌∙◌}
-use native.Mathlib.Omega.{arith}
-use native.Mathlib.Nat.{le_antisymm}
-use Rattle.ground.specs.Tests.{every-none, every_more, every-breaks}
+-- `sessions::session::lists_tracks` meets its contract: `all` asks of each of the n numbers what the definition asks.
+use Rattle.std.proofs.Common.{rules, ◌≡◌, ◌+◌, true, false, ℕ, refl, arith}
+use Rattle.std.proofs.lemmas.Iterator.{cases_from_all, YieldsList-from_range}
+use borrow.Author.Tests.{tests}
+use Rattle.ground.specs.Ranges.{every-answered}
+use Rattle.table.specs.Row.{row_at, names}
 use Rattle.sessions.proofs.session.lists_tracks.Goals as goal
 
-pub loop-i-init : goal.loop-i-init
-loop-i-init c = (omega arith, every-none _)
-
-pub loop-i-preserved : goal.loop-i-preserved
-loop-i-preserved c = (omega arith, every_more _ _ c.loop-i.invariant.1 (sym c.named.ensures ∙ c.if-named.true))
-
-pub returns-else-named : goal.returns-else-named
-returns-else-named c =
-    every-breaks _ _ c.loop-i.i c.loop-i-test.true (sym c.named.ensures ∙
-    c.if-named.false)
-
 pub returns : goal.returns
-returns c = rw (le_antisymm c.loop-i.invariant.0 c.loop-i-test.false) at (sym c.loop-i.invariant.1)
+returns c =
+    let p = λ (i : ℕ). names (row_at c.args.d.now (3 + i)) c.args.k (c.args.f + i) in
+    every-answered _ _ _
+    (cases_from_all _ _ _ (λ i. p i ≡ true) (λ i. p i ≡ false) c.all.ensures.ran (YieldsList-from_range 0 c.args.n c.args.n refl (omega arith))
+    (λ x q k. search (rules, tests)) (λ x q k. search (rules, tests)))

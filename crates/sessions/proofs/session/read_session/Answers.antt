@@ -9,6 +9,7 @@ use Rattle.table.specs.Layout.{row}
 use Rattle.sessions.specs.Session.{first, last, tracks, b0s, c0s, size, listed, numbered}
 use Rattle.sessions.specs.SessionLaws.{size-heads, size_extras, read_session_is, read_session_not}
 use Rattle.sessions.proofs.session.read_session.Goals as goal
+use Rattle.sessions.proofs.session.read_session.Goals.{else-listed-via-then-listed+else-numbered, else-listed-via-else-listed}
 
 -- what the test of the descriptors told, whose first and last track were widened
 told :
@@ -26,13 +27,7 @@ pub returns-then-d : goal.returns-then-d
 returns-then-d c = let z = size-heads c.args.d.now in read_session_not _ _ (λ s. let f = s.fits in omega arith)
 
 pub returns-then-first-lt1 : goal.returns-then-first-lt1
-returns-then-first-lt1 c = read_session_not _ _ (λ s. let l = s.low in omega arith)
-
-pub returns-then-last-first : goal.returns-then-last-first
-returns-then-last-first c = read_session_not _ _ (λ s. let o = s.order in omega arith)
-
-pub returns-then-last-gt99 : goal.returns-then-last-gt99
-returns-then-last-gt99 c = read_session_not _ _ (λ s. let h = s.high in omega arith)
+returns-then-first-lt1 c = read_session_not _ _ (λ s. let l = s.low in let o = s.order in let h = s.high in omega arith)
 
 pub returns-then-d-bytes : goal.returns-then-d-bytes
 returns-then-d-bytes c = read_session_not _ _ (λ s. let f = s.fits in omega arith)
@@ -66,14 +61,8 @@ returns-then-numbered c =
           c.if-numbered.true;
     }))
 
-pub returns-then-listed : goal.returns-then-listed
-returns-then-listed c =
-    read_session_not _ _ (λ s. false≢true
-    (sym (counted _ _ c.wide-f.ensures c.wide.ensures
-    c.session_bytes-bytes.ensures c.numbered.ensures c.if-numbered.false) ∙
-    s.numbers))
-
 pub returns : goal.returns
-returns c =
-    read_session_not _ _ (λ s. false≢true (sym (told _ _ c.wide-f.ensures c.wide.ensures
-    c.listed.ensures c.if-listed.false) ∙ s.lists))
+returns c = read_session_not _ _ (λ s. false≢true (elim c.else-listed.branch [
+  | else-listed-via-then-listed+else-numbered w ↦ sym (counted _ _ c.wide-f.ensures c.wide.ensures c.session_bytes-bytes.ensures w.numbered.ensures w.if-numbered.false) ∙ s.numbers
+  | else-listed-via-else-listed w ↦ sym (told _ _ c.wide-f.ensures c.wide.ensures c.listed.ensures w.if-listed.false) ∙ s.lists
+]))

@@ -1,11 +1,8 @@
 -- `sessions::session::starts_after` meets its contract: each turn passes one session more.
 use mathlib.Core.Path.{◌≡◌}
-use Prim.Native.Nat.{◌≤◌, ◌*◌, ◌-◌}
+use Prim.Native.Nat.{◌≤◌, ◌*◌}
 use Rattle.sessions.specs.Session.{starts}
 use Rattle.sessions.proofs.session.starts_after.Given as goal
 
-abbrev pub invariant-loop-k : goal.invariant-loop-k
-invariant-loop-k l = (l.k ≤ l.n) × (l.at ≡ starts l.d l.k) × (l.at ≤ 2871 * l.k)
-
-abbrev pub decreases-loop-k : goal.decreases-loop-k
-decreases-loop-k l = l.n - l.k
+abbrev pub invariant-loop : goal.invariant-loop
+invariant-loop l = (l.at ≡ starts l.d l.counter) × (l.at ≤ 2871 * l.counter)
