@@ -32,9 +32,9 @@ pub fn play_blocks(all: bool, a: usize, n: usize, l: usize, m: Deck) -> Done
         if all {
             return done_with(started(a, n, m));
         }
-        return Done::Fails(Fault::IllegalMode);
+        return Err(Fault::IllegalMode);
     }
-    Done::Fails(Fault::OutOfRange)
+    Err(Fault::OutOfRange)
 }
 
 // The status after a resume, or a pause.
@@ -52,10 +52,10 @@ pub fn pause_resume(resume: bool, m: Deck) -> Done
     ensures { result ≡ done_of (pause_resume resume m) }
 {
     if m.play.status == COMPLETED {
-        return Done::Fails(Fault::BadField);
+        return Err(Fault::BadField);
     }
     if m.play.status == NONE {
-        return Done::Fails(Fault::BadField);
+        return Err(Fault::BadField);
     }
     done_with(m.with_play(m.play.with_status(resumed(resume))))
 }

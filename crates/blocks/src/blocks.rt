@@ -4,7 +4,7 @@ ghost use Rattle.command.specs.Done.{done_of};
 ghost use Rattle.blocks.specs.Blocks.{capacity, stopped, seek, read};
 
 use crate::range::{in_range, last_block, over};
-use command::done::{Done, Went, done_with};
+use command::done::{Done, Went, done_with, went_with};
 use deck::Deck;
 use gate::fault::Fault;
 use ground::number::bytes32;
@@ -30,7 +30,7 @@ pub fn seek(a: usize, l: usize, m: Deck) -> Done
     ensures { result ≡ done_of (seek a l m) }
 {
     if over(a, l) {
-        return Done::Fails(Fault::OutOfRange);
+        return Err(Fault::OutOfRange);
     }
     done_with(stopped(m))
 }
@@ -41,15 +41,13 @@ pub fn read_blocks(all: bool, a: usize, n: usize, l: usize, m: Deck) -> Done
 {
     if in_range(a, n, l) {
         if all {
-            return Done::Goes(Went {
-                next: stopped(m),
-                loading: false,
-                len: 0,
+            return Ok(Went {
                 start: a,
                 count: n,
+                ..went_with(stopped(m))
             });
         }
-        return Done::Fails(Fault::IllegalMode);
+        return Err(Fault::IllegalMode);
     }
-    Done::Fails(Fault::OutOfRange)
+    Err(Fault::OutOfRange)
 }

@@ -1,5 +1,5 @@
 -- What the code of LOAD/UNLOAD hands back, and that it is what the definition says.
-use Rattle.std.specs.Prelude.{ℕ, ◌<◌, ◌≤◌, ◌≡◌, refl, Bool, true, false, List, [], length, take}
+use Rattle.std.specs.Prelude.{ℕ, ◌<◌, ◌≤◌, ◌≡◌, refl, Bool, true, false, List, [], length, take, Ok, Err}
 use Rattle.std.proofs.Common.{ap, ◌∙◌, get_or-set_same, get_or-set_other, lt-ltb, le-ltb}
 use Rattle.std.proofs.Math.Bool.{not}
 use Rattle.ground.specs.Tests.{when, unless, either}
@@ -9,7 +9,6 @@ use Rattle.deck.specs.Deck.{closing, with_disc}
 use Rattle.gate.specs.declared.fault.Fault.{Fault}
 use Rattle.gate.specs.declared.fault.Fault.TheVariants.{BadField, RemovalPrevented}
 use Rattle.gate.specs.Gate.{Result, fails, goes}
-use Rattle.command.specs.declared.done.Done.TheVariants.{Fails, Goes}
 use Rattle.command.specs.Done.{done, done_of}
 use Rattle.command.specs.Tray.{moving as shifted}
 use Rattle.target.specs.Perform.{written}
@@ -55,7 +54,7 @@ abbrev pub still_with : Deck → ℕ → Act
 still_with m home = record { done = done_of (done m); home = home; moves = staying }
 
 abbrev pub failed_with : Fault → ℕ → Act
-failed_with f home = record { done = Fails f; home = home; moves = staying }
+failed_with f home = record { done = Err f; home = home; moves = staying }
 
 -- ---- what a slot holds once a disc is back at its home
 
@@ -185,7 +184,7 @@ acted_on_quiet {r} b q x = record { acted = x; memory = (performed_quiet {r = de
 -- MECHANISM STATUS leaves its answer, cut
 pub acted_on_status : (m : Mechanism) (full : List ℕ) {limit n : ℕ} {b b' : List ℕ} → length full ≤ length b → Laid b (take limit full) n b'
     → ActedOn (goes m false full limit 0 0) m b
-    (record { done = Goes (record { next = m.deck; loading = false; len = n; start = 0; count = 0 }); home = m.home; moves = staying }) b'
+    (record { done = Ok (record { next = m.deck; loading = false; len = n; start = 0; count = 0 }); home = m.home; moves = staying }) b'
 acted_on_status m full {limit} h l =
     let x = performed_goes {r = goes m.deck false full limit 0 0} full refl h l in
     record {

@@ -9,7 +9,7 @@ ghost use Rattle.changer.specs.MechanismLaws.{mechanism, Acted, Homed, still_wit
 
 use crate::slots::{count_of, empty_slot, full_slot, moving, slot_of, staying};
 use crate::{Moves, Row};
-use command::done::{Done, Went, done_with};
+use command::done::{Done, Went, done_with, went_with};
 use deck::{Deck, Shifted};
 use gate::fault::Fault;
 use ground::number::wide;
@@ -38,7 +38,7 @@ pub(crate) fn failed(f: Fault, home: u8) -> Act
     ensures { result ≡ failed_with f home }
 {
     Act {
-        done: Done::Fails(f),
+        done: Err(f),
         home,
         moves: staying(),
     }
@@ -57,13 +57,9 @@ fn returned_deck(m: Deck) -> Deck
 fn shifted(s: Shifted) -> Done
     ensures { result ≡ done_of (shifted s) }
 {
-    let next = s.deck;
-    Done::Goes(Went {
-        next,
+    Ok(Went {
         loading: s.loading,
-        len: 0,
-        start: 0,
-        count: 0,
+        ..went_with(s.deck)
     })
 }
 

@@ -9,7 +9,7 @@ ghost use Rattle.changer.specs.MechanismLaws.{mechanism, ActedOn};
 use crate::load::Act;
 use crate::slots::{count_of, slot_of, staying};
 use crate::{Row, Slot};
-use command::done::{Done, Went};
+use command::done::{Done, Went, went_with};
 use deck::Deck;
 use ground::memory::copy_front;
 use ground::number::{bytes16, smaller};
@@ -89,12 +89,9 @@ pub(crate) fn mechanism_status(limit: usize, deck: Deck, home: u8, row: Row, mem
 {
     let len = put_status(home_shown(deck, home, row), row, limit, mem);
     Act {
-        done: Done::Goes(Went {
-            next: deck,
-            loading: false,
+        done: Ok(Went {
             len,
-            start: 0,
-            count: 0,
+            ..went_with(deck)
         }),
         home,
         moves: staying(),

@@ -46,11 +46,11 @@ use Rattle.tracks.specs.Track.{is_data, track_of, track_numbered, run_is}
 use Rattle.disc.specs.Disc.{reading}
 use Rattle.command.specs.declared.decode.Command.{Command}
 use Rattle.command.specs.declared.decode.Kind.{Kind}
-use Rattle.command.specs.declared.done.Done.{Done}
+use Rattle.command.specs.declared.done.Went.{Went}
 use Rattle.command.specs.Command.{decode, kind_of, needing, bit0, bit1, bit6}
 use Rattle.command.specs.Tray.{start_stop, prevent, no_medium}
 use Rattle.command.specs.Inquiry.{inquiry_bytes}
-use Rattle.command.specs.Done.{done, done_of}
+use Rattle.command.specs.Done.{Done, went_with, done, done_of}
 use Rattle.blocks.specs.Range.{in_range}
 use Rattle.blocks.specs.Blocks.{capacity, seek, read}
 use Rattle.audio.specs.declared.sub_channel.SubAsk.{SubAsk}
@@ -380,6 +380,9 @@ unique-bit1 b r s = value_once
 
 pub unique-bit6 : (b : ℕ) (r s : Bool) → r ≡ bit6 b → s ≡ bit6 b → r ≡ s
 unique-bit6 b r s = value_once
+
+pub unique-went_with : (m : Deck) (r s : Went) → r ≡ went_with m → s ≡ went_with m → r ≡ s
+unique-went_with m r s = value_once
 
 pub unique_done_with : (m : Deck) (r s : Done) → r ≡ done_of (done m) → s ≡ done_of (done m) → r ≡ s
 unique_done_with m r s = value_once

@@ -1,6 +1,6 @@
 // What a command comes to.
 ghost use Rattle.std.specs.Prelude.{◌≡◌};
-ghost use Rattle.command.specs.Done.{done, done_of};
+ghost use Rattle.command.specs.Done.{went_with, done, done_of};
 
 use deck::Deck;
 use gate::fault::Fault;
@@ -15,21 +15,25 @@ pub struct Went {
     pub count: usize,
 }
 
-#[derive(Clone, Copy)]
-pub enum Done {
-    Fails(Fault),
-    Goes(Went),
-}
+// What went well, or the fault.
+pub type Done = Result<Went, Fault>;
 
-// It went well, with nothing written and no blocks named.
-pub fn done_with(m: Deck) -> Done
-    ensures { result ≡ done_of (done m) }
+// It went well: the deck alone, with nothing written and no blocks named.
+pub fn went_with(next: Deck) -> Went
+    ensures { result ≡ went_with next }
 {
-    Done::Goes(Went {
-        next: m,
+    Went {
+        next,
         loading: false,
         len: 0,
         start: 0,
         count: 0,
-    })
+    }
+}
+
+// The same of a command.
+pub fn done_with(m: Deck) -> Done
+    ensures { result ≡ done_of (done m) }
+{
+    Ok(went_with(m))
 }

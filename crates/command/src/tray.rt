@@ -3,7 +3,7 @@ ghost use Rattle.std.specs.Prelude.{◌≡◌};
 ghost use Rattle.command.specs.Tray.{moving, eject, load, start_stop, prevent, no_medium};
 ghost use Rattle.command.specs.Done.{done_of};
 
-use crate::done::{Done, Went, done_with};
+use crate::done::{Done, Went, done_with, went_with};
 use crate::field::{bit0, bit1};
 use deck::{Deck, Shifted};
 use gate::fault::Fault;
@@ -12,13 +12,9 @@ use gate::fault::Fault;
 fn moving(s: Shifted) -> Done
     ensures { result ≡ done_of (moving s) }
 {
-    let next = s.deck;
-    Done::Goes(Went {
-        next,
+    Ok(Went {
         loading: s.loading,
-        len: 0,
-        start: 0,
-        count: 0,
+        ..went_with(s.deck)
     })
 }
 
@@ -30,7 +26,7 @@ fn eject(m: Deck) -> Done
         return done_with(m);
     }
     if m.lock {
-        return Done::Fails(Fault::RemovalPrevented);
+        return Err(Fault::RemovalPrevented);
     }
     moving(m.opening())
 }

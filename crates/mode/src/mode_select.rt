@@ -31,7 +31,7 @@ fn selected(code: u8, len: u8, recovery: u8, retry: u8, m: Deck) -> Done
     if is_page(code, len, recovery) {
         return done_with(m.with_page(Page { recovery, retry }));
     }
-    Done::Fails(Fault::ListField)
+    Err(Fault::ListField)
 }
 
 // MODE SELECT: n is the packet's list length, which is 0 or 16 and the lent list's. The list's header and its last four bytes are not looked at.
@@ -45,7 +45,7 @@ pub fn mode_select(n: usize, list: &[u8], m: Deck) -> Done
         if n == LIST {
             return selected(list[8], list[9], list[10], list[11], m);
         }
-        return Done::Fails(Fault::ListLength);
+        return Err(Fault::ListLength);
     }
-    Done::Fails(Fault::ListLength)
+    Err(Fault::ListLength)
 }

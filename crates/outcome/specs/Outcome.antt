@@ -1,5 +1,5 @@
 -- What the code hands back of a packet's answer.
-use Rattle.std.specs.Prelude.{ℕ, min, ◌≡◌, List, length, take}
+use Rattle.std.specs.Prelude.{ℕ, min, ◌≡◌, List, length, take, Ok, Err}
 use Rattle.ground.specs.Memory.{fill}
 use Rattle.attention.specs.declared.sense.Sense.{Sense}
 use Rattle.attention.specs.declared.Unit.{Unit}
@@ -9,8 +9,7 @@ use Rattle.attention.specs.Unit.{attend}
 use Rattle.gate.specs.Fault.{sense_of}
 use Rattle.gate.specs.Unit.{hold}
 use Rattle.gate.specs.Gate.{Reply}
-use Rattle.command.specs.declared.done.Done.{Done}
-use Rattle.command.specs.declared.done.Done.TheVariants.{Fails, Goes}
+use Rattle.command.specs.Done.{Done}
 use Rattle.outcome.specs.declared.Outcome.{Outcome}
 
 -- the state after the answer
@@ -56,5 +55,5 @@ granted len start count u m =
 
 -- a command's end: CHECK CONDITION over the unit u, or GOOD over the unit v, a loading attended to
 abbrev pub finished : Unit → Unit → Deck → Done → Outcome
-finished u v m (Fails f) = checked (sense_of f) u m
-finished u v m (Goes w) = granted w.len w.start w.count (attend w.loading v) w.next
+finished u v m (Err f) = checked (sense_of f) u m
+finished u v m (Ok w) = granted w.len w.start w.count (attend w.loading v) w.next

@@ -79,8 +79,8 @@ pub fn finish(u: Unit, v: Unit, deck: Deck, done: Done) -> Outcome
     ensures { result ≡ finished u v deck done }
 {
     match done {
-        Done::Fails(f) => check(sense_of(f), u, deck),
-        Done::Goes(w) => {
+        Err(f) => check(sense_of(f), u, deck),
+        Ok(w) => {
             let next = w.next;
             good(w.len, w.start, w.count, v.attend(w.loading), next)
         }

@@ -18,10 +18,9 @@ use Rattle.disc.specs.PartLaws.{rule_with-none, rule_with-fault}
 use Rattle.disc.specs.declared.disc.Disc.{Disc}
 use Rattle.gate.specs.Unit.{clear}
 use Rattle.gate.specs.Gate.{Result, fails, goes, Reply, refuse, check, good, settle, pass}
-use Rattle.command.specs.declared.done.Done.{Done}
 use Rattle.outcome.specs.declared.Outcome.{Outcome}
 use Rattle.outcome.specs.Outcome.{outcome_of, bytes_of, Answered, refused, checked, granted, finished}
-use Rattle.command.specs.Done.{done_of}
+use Rattle.command.specs.Done.{Done, done_of}
 use Rattle.target.specs.Perform.{written, Performed}
 use Rattle.command.specs.Command.{code_of, decode}
 use Rattle.target.specs.Packet.{steps, answer, refusal_of, not_twelve, short_memory}

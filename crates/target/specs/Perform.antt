@@ -13,11 +13,10 @@ use Rattle.gate.specs.declared.fault.Fault.TheVariants.{UnknownCode}
 use Rattle.gate.specs.Gate.{Result, fails, goes}
 use Rattle.command.specs.declared.decode.Command.{Command}
 use Rattle.command.specs.declared.decode.Command.TheVariants.{TestUnitReady, RequestSense, Inquiry, StartStop, Prevent, ReadCapacity, Read10, Seek, ReadToc, Read12, PlayAudio, PauseResume, ReadSubChannel, ModeSense, ModeSelect, GetEvent, Unknown}
-use Rattle.command.specs.declared.done.Done.{Done}
 use Rattle.command.specs.Command.{byte, bit0, needs_disc, address_in, count10, count12, length_in}
 use Rattle.command.specs.Tray.{start_stop, prevent, no_medium}
 use Rattle.command.specs.Inquiry.{inquiry}
-use Rattle.command.specs.Done.{done, done_of}
+use Rattle.command.specs.Done.{Done, done, done_of}
 use Rattle.blocks.specs.Blocks.{read_capacity, seek, read}
 use Rattle.audio.specs.declared.sub_channel.SubAsk.{SubAsk}
 use Rattle.audio.specs.Audio.{play, pause_resume}

@@ -1,5 +1,5 @@
 -- How the code's answers meet a result: a failure writes nothing, and what went well was laid.
-use Rattle.std.specs.Prelude.{◌≡◌, refl, Bool, true, false, not, List, [], ℕ, ◌+◌, ◌≤◌, min, length, take}
+use Rattle.std.specs.Prelude.{◌≡◌, refl, Bool, true, false, not, List, [], ℕ, ◌+◌, ◌≤◌, min, length, take, Ok, Err}
 use Rattle.std.proofs.Common.{sym, ap, ◌∙◌, arith, length-take, length-drop}
 use Rattle.std.proofs.Math.Seq.{take-nil}
 use Rattle.ground.specs.Tests.{when, unless, either, and_both, and_off, and_late}
@@ -12,11 +12,9 @@ use Rattle.gate.specs.declared.fault.Fault.{Fault}
 use Rattle.gate.specs.declared.fault.Fault.TheVariants.{BadField}
 use Rattle.gate.specs.Gate.{Result, fails, goes}
 use Rattle.command.specs.declared.decode.Command.{Command}
-use Rattle.command.specs.declared.done.Done.{Done}
-use Rattle.command.specs.declared.done.Done.TheVariants.{Fails, Goes}
 use Rattle.command.specs.Command.{needs_disc}
 use Rattle.command.specs.Tray.{eject, load, start_stop, no_medium}
-use Rattle.command.specs.Done.{done_of, answering, answering-fails, answering-goes}
+use Rattle.command.specs.Done.{Done, done_of, answering, answering-fails, answering-goes}
 use Rattle.blocks.specs.Range.{ranged}
 use Rattle.blocks.specs.Blocks.{seek}
 use Rattle.audio.specs.Audio.{pause_resume}
@@ -49,13 +47,13 @@ read_off-length {t} r = let l = length-drop header t in let a = r.fits.head in l
 
 -- ---- Performed
 
-pub performed-fails : {r : Result Deck} {f : Fault} (m : List ℕ) → r ≡ fails f → Performed r m (Fails f) m
+pub performed-fails : {r : Result Deck} {f : Fault} (m : List ℕ) → r ≡ fails f → Performed r m (Err f) m
 performed-fails m e = record { outcome = ap done_of (sym e); memory = sym (fill_none m) ∙ ap (λ (x : Result Deck). fill m (written x)) (sym e) }
 
 pub performed_goes :
     {r : Result Deck} {next : Deck} {loading : Bool} {limit start count n : ℕ} (full : List ℕ) {m m' : List ℕ}
     → r ≡ goes next loading full limit start count → length full ≤ length m → Laid m (take limit full) n m'
-    → Performed r m (Goes (record { next = next; loading = loading; len = n; start = start; count = count })) m'
+    → Performed r m (Ok (record { next = next; loading = loading; len = n; start = start; count = count })) m'
 performed_goes {r} {next} {loading} {limit} {start} {count} {n} full {m} {m'} e h l =
     let k : n ≡ min limit (length full) = let a = l.count in let b = length-take limit full in omega arith in
     record {
@@ -65,12 +63,12 @@ performed_goes {r} {next} {loading} {limit} {start} {count} {n} full {m} {m'} e 
 
 -- a command with an answer: a bad field, or the answer laid
 module _ (next : Deck) (full : List ℕ) (limit : ℕ) where
-  pub performed-bad : {bad : Bool} (m : List ℕ) → bad ≡ true → Performed (answering bad next full limit) m (Fails BadField) m
+  pub performed-bad : {bad : Bool} (m : List ℕ) → bad ≡ true → Performed (answering bad next full limit) m (Err BadField) m
   performed-bad m h = performed-fails m (answering-fails next full limit h)
 
   pub performed-answer :
       {bad : Bool} {n : ℕ} {m m' : List ℕ} → bad ≡ false → length full ≤ length m → Laid m (take limit full) n m'
-      → Performed (answering bad next full limit) m (Goes (record { next = next; loading = false; len = n; start = 0; count = 0 })) m'
+      → Performed (answering bad next full limit) m (Ok (record { next = next; loading = false; len = n; start = 0; count = 0 })) m'
   performed-answer h = performed_goes full (answering-goes next full limit h)
 
 -- ---- commands that write nothing

@@ -17,7 +17,7 @@ pub(crate) fn mode_sense(p: &[u8], m: Deck, mem: &mut [u8]) -> Done
     ensures { Performed (mode_sense (byte p.now 2) (length_in p.now) m) mem.old result mem.new }
 {
     match page_shown(p[2], m.page) {
-        Shown::Fails(f) => Done::Fails(f),
+        Shown::Fails(f) => Err(f),
         Shown::Values(g) => answer(false, m, &mode_bytes(g), word16(p[7], p[8]), mem),
     }
 }

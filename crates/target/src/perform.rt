@@ -18,7 +18,7 @@ use audio::audio::{pause_resume, play_blocks};
 use blocks::blocks::{capacity_bytes, read_blocks, seek};
 use blocks::range::in_range;
 use command::decode::{Command, needs_disc};
-use command::done::{Done, Went, done_with};
+use command::done::{Done, Went, done_with, went_with};
 use command::field::bit0;
 use command::inquiry::inquiry_bytes;
 use command::tray::{no_medium, prevent, start_stop};
@@ -37,15 +37,12 @@ pub(crate) fn answer(bad: bool, next: Deck, full: &[u8], limit: usize, mem: &mut
     ensures { Performed (answering bad next full.now limit) mem.old result mem.new }
 {
     if bad {
-        return Done::Fails(Fault::BadField);
+        return Err(Fault::BadField);
     }
     let len = put_cut(full, limit, mem);
-    Done::Goes(Went {
-        next,
-        loading: false,
+    Ok(Went {
         len,
-        start: 0,
-        count: 0,
+        ..went_with(next)
     })
 }
 
@@ -106,7 +103,7 @@ fn work(c: Command, p: &[u8], m: Deck, t: &[u8], list: &[u8], disc: Disc, mem: &
         Command::ModeSense => mode_sense(p, m, mem),
         Command::ModeSelect => mode_select(word16(p[7], p[8]), list, m),
         Command::GetEvent => get_event(p, m, mem),
-        Command::Unknown => Done::Fails(Fault::UnknownCode),
+        Command::Unknown => Err(Fault::UnknownCode),
     }
 }
 
@@ -127,7 +124,7 @@ pub(crate) fn perform(
         if m.is_loaded() {
             return work(c, p, m, t, list, disc, mem);
         }
-        return Done::Fails(no_medium(m));
+        return Err(no_medium(m));
     }
     work(c, p, m, t, list, disc, mem)
 }

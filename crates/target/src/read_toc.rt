@@ -5,7 +5,7 @@ ghost use Rattle.target.specs.ReadToc.{ask_of, read_toc};
 ghost use Rattle.target.specs.FitFacts.{ReadOff};
 ghost use Rattle.target.specs.Perform.{Performed};
 
-use command::done::{Done, Went};
+use command::done::{Done, Went, went_with};
 use command::field::bit1;
 use deck::Deck;
 use disc::disc::Disc;
@@ -33,14 +33,11 @@ pub(crate) fn read_toc(p: &[u8], m: Deck, t: &[u8], disc: Disc, mem: &mut [u8]) 
 {
     let ask = toc_ask(p);
     if toc_bad(disc, ask) {
-        return Done::Fails(Fault::BadField);
+        return Err(Fault::BadField);
     }
     let len = put_toc(&t[HEADER..], disc, ask, word16(p[7], p[8]), mem);
-    Done::Goes(Went {
-        next: m,
-        loading: false,
+    Ok(Went {
         len,
-        start: 0,
-        count: 0,
+        ..went_with(m)
     })
 }

@@ -4,15 +4,15 @@ use Rattle.attention.specs.declared.sense.Sense.{Sense}
 use Rattle.outcome.specs.Outcome.{checked, finished}
 use Rattle.outcome.proofs.finish.Goals as goal
 
-pub returns-in-Fails : goal.returns-in-Fails
-returns-in-Fails c =
+pub returns-in-Err : goal.returns-in-Err
+returns-in-Err c =
     let x = c.args in
     c.check.ensures
     ∙ ap (λ (s : Sense). checked s x.u x.deck) c.sense_of.ensures
-    ∙ sym (ap (finished x.u x.v x.deck) c.in-Fails.is)
+    ∙ sym (ap (finished x.u x.v x.deck) c.in-Err.is)
 
-pub returns-in-Goes : goal.returns-in-Goes
-returns-in-Goes c =
+pub returns-in-Ok : goal.returns-in-Ok
+returns-in-Ok c =
     let x = c.args in
-    let e = sym (ap (finished x.u x.v x.deck) c.in-Goes.is) in
+    let e = sym (ap (finished x.u x.v x.deck) c.in-Ok.is) in
     (rw c.attend.ensures at c.good.ensures) ∙ e

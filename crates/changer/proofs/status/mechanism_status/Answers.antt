@@ -14,4 +14,4 @@ returns c = let x = c.args in
     let full = status_bytes (home_shown m) (slots_of x.row) in
     let h : length full ≤ length x.mem.now =
     let e = status_bytes-length (home_shown m) (slots_of x.row) in let k = slots_of-count x.row in let r = c.requires in omega arith in
-    rw c.staying.ensures (acted_on_status m full h (rw c.home_shown.ensures at c.put_status-len.ensures))
+    rw (c.staying.ensures, c.went_with.ensures) (acted_on_status m full h (rw c.home_shown.ensures at c.put_status-len.ensures))

@@ -6,4 +6,4 @@ pub returns-then-bad : goal.returns-then-bad
 returns-then-bad c = performed-bad _ _ _ _ c.if-bad.true
 
 pub returns : goal.returns
-returns c = performed-answer _ _ _ c.if-bad.false c.requires c.put_cut-len.ensures
+returns c = rw c.went_with.ensures (performed-answer _ _ _ c.if-bad.false c.requires c.put_cut-len.ensures)
