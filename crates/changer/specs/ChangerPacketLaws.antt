@@ -1,5 +1,5 @@
 -- How the code's outcomes meet an answer.
-use Rattle.std.specs.Prelude.{ℕ, ◌≤◌, ◌<◌, min, ◌≡◌, Bool, List, ◌++◌, length, take, drop, eqb, ltb}
+use Rattle.std.specs.Prelude.{ℕ, ◌≤◌, ◌<◌, min, ◌≡◌, Bool, Option, None, List, ◌++◌, length, take, drop, eqb, ltb}
 use Rattle.std.proofs.Math.Path.{refl, sym, ap}
 use Rattle.std.proofs.Common.{◌∙◌, lt_of_not-le, length-take, drop_of_length-le, take_all, eq-eqb, ne_eqb, lt-ltb, le-ltb, ltb-true}
 use Rattle.std.proofs.Math.Bool.{true, false, not}
@@ -43,7 +43,7 @@ use Rattle.changer.specs.Mechanism.{Mechanism, lo_unlo, starts, named_slot, load
 use Rattle.changer.specs.Status.{status_length, mechanism_status}
 use Rattle.changer.specs.MechanismLaws.{deck_of, after, Homed, ActedOn}
 use Rattle.changer.specs.Changer.{out_of_order, has_home, is_in_order}
-use Rattle.changer.specs.RowLaws.{room, settled, Within, staying, within-staying, settled_still}
+use Rattle.changer.specs.RowLaws.{room, settled, Within, staying, within-staying, within_more, settled_still}
 use Rattle.changer.specs.ChangerPacket.{mechanism_of, is_own, own, carried, steps, refusal_of, answer, outcome_of, bytes_of, Answered, AnsweredOn}
 
 -- what is handed back and the memory are what the answer says, and what becomes of the slots s makes them the answer's; where it is refused
@@ -53,7 +53,7 @@ pub record AnsweredBy (a : Reply Mechanism) (s : List Slot) (m : List ℕ) (d : 
   pub memory : m' ≡ fill m (bytes_of a)
   pub slots : settled s d.moves ≡ a.deck.slots
   pub within : Within d.moves (length s)
-  pub still : (a.number ≡ 0 → ⊥) → d.moves.any ≡ false
+  pub still : (a.number ≡ 0 → ⊥) → d.moves ≡ None
 
 -- none of 1, 2, 3 and 11
 pub record Passed (c : Changer) (s : List Slot) (p : List ℕ) (n : ℕ) : Type 0 where
@@ -69,7 +69,7 @@ refused_with n r c = record {
 }
 
 -- what the drive hands back, with the home and what becomes of the slots
-abbrev pub outcome_with : Driven → ℕ → Moves → Met
+abbrev pub outcome_with : Driven → ℕ → Option Moves → Met
 outcome_with o home moves = record {
   outcome = record { number = o.number; rule = o.rule; status = o.status; len = o.len; start = o.start; count = o.count; state = record { drive = o.state; home = home } };
   moves = moves;
@@ -98,7 +98,7 @@ answered_by-refused k r c s b = record {
   outcome = refl;
   memory = sym (fill_none b);
   slots = settled_still s staying refl;
-  within = within-staying _;
+  within = within-staying (length s);
   still = λ h. refl;
 }
 
@@ -109,7 +109,7 @@ answered_by-carried m {a} x = record {
   outcome = ap (λ (o : Driven). (outcome_with o m.home staying).outcome) x.outcome;
   memory = x.memory;
   slots = settled_still m.slots staying refl;
-  within = within-staying _;
+  within = within-staying (length m.slots);
   still = λ h. refl;
 }
 
@@ -121,13 +121,13 @@ answered_by-tells a u m r b e n x = rw (gate-tells a u m r e n) (record {
   outcome = ap (λ (o : Driven). (outcome_with o m.home staying).outcome) x;
   memory = sym (fill_none b);
   slots = settled_still m.slots staying refl;
-  within = within-staying _;
+  within = within-staying (length m.slots);
   still = λ h. refl;
 })
 
 -- what is performed is settled
 module _ (u : Unit) (m : Mechanism) where
-  settled-outcome : (r : Result Mechanism) (x : Moves)
+  settled-outcome : (r : Result Mechanism) (x : Option Moves)
       → (outcome_with (finished u (clear u) m.deck (done_of (deck_of r))) (after m r).home x).outcome ≡ outcome_of (settle u m r)
   settled-outcome (fails f) x = refl
   settled-outcome (goes next loading full limit start count) x = refl
@@ -287,9 +287,7 @@ module _ (c : Changer) (p t l : List ℕ) (n : ℕ) where
 -- what the row's slots come to is what the lent slots come to: they are the same, or too many
 module _ (c : Changer) (ys : List Slot) (p t l m : List ℕ) where
   pub edge-within : {d : Met} {m' : List ℕ} → AnsweredBy (answer c (take room ys) p t l (length m)) (take room ys) m d m' → Within d.moves (length ys)
-  edge-within x =
-      let e = length-take room ys in
-      record { first = λ h. let w = x.within.first h in omega arith; second = λ h. let w = x.within.second h in omega arith }
+  edge-within {d} x = within_more d.moves (let e = length-take room ys in omega arith) x.within
 
   pub edge-answered : {d : Met} {m' : List ℕ} {s' : List Slot} → AnsweredBy (answer c (take room ys) p t l (length m)) (take room ys) m d m'
       → s' ≡ settled ys d.moves → Answered (answer c ys p t l (length m)) m d.outcome m' s'
@@ -315,7 +313,7 @@ module _ (c : Changer) (ys : List Slot) (p t l m : List ℕ) where
           let k : refusal_of c (take room ys) p t n ≡ refusal_of c ys p t n = refusal_of-many c p t l n (take room ys) f ∙ sym (refusal_of-many c p t l n ys g') in
           let a = refused-many c p t l n (take room ys) f in
           let b = refused-many c p t l n ys g' in
-          let z : d.moves.any ≡ false = x.still (λ w. refusal_of-refused c p t l n (take room ys) f (sym (ap (λ (r : Reply Mechanism). r.number) a) ∙ w)) in
+          let z : d.moves ≡ None = x.still (λ w. refusal_of-refused c p t l n (take room ys) f (sym (ap (λ (r : Reply Mechanism). r.number) a) ∙ w)) in
           record {
             outcome = x.outcome ∙ ap outcome_of a ∙ ap (λ (j : ℕ). outcome_of (told j)) k ∙ sym (ap outcome_of b);
             memory = x.memory ∙ ap (λ (r : Reply Mechanism). fill m (bytes_of r)) a ∙ sym (ap (λ (r : Reply Mechanism). fill m (bytes_of r)) b);

@@ -70,10 +70,10 @@ module _ (s : List Slot) (home : ℕ) where
 
 module _ (m : Mechanism) where
   acted-fault : (f : Fault) → Acted (fails f) m (failed_with f m.home)
-  acted-fault f = record { done = refl; home = refl; slots = settled_still m.slots staying refl; within = within-staying _ }
+  acted-fault f = record { done = refl; home = refl; slots = settled_still m.slots staying refl; within = within-staying (length m.slots) }
 
   acted-kept : Acted (goes m false [] 0 0 0) m (still_with m.deck m.home)
-  acted-kept = record { done = refl; home = refl; slots = settled_still m.slots staying refl; within = within-staying _ }
+  acted-kept = record { done = refl; home = refl; slots = settled_still m.slots staying refl; within = within-staying (length m.slots) }
 
   pub acted-fails : (f : Fault) {r : Result Mechanism} → r ≡ fails f → Acted r m (failed_with f m.home)
   acted-fails f e = rw e (acted-fault f)
@@ -189,6 +189,6 @@ pub acted_on_status : (m : Mechanism) (full : List ℕ) {limit n : ℕ} {b b' : 
 acted_on_status m full {limit} h l =
     let x = performed_goes {r = goes m.deck false full limit 0 0} full refl h l in
     record {
-      acted = record { done = x.outcome; home = refl; slots = settled_still m.slots staying refl; within = within-staying _ };
+      acted = record { done = x.outcome; home = refl; slots = settled_still m.slots staying refl; within = within-staying (length m.slots) };
       memory = x.memory;
     }

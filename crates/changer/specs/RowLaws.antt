@@ -1,10 +1,9 @@
 -- The slots by value: a row has the first 32 of them, and what becomes of the slots is written in two places.
 use Prim.Native.Nat.{ℕ, zero, suc, ◌+◌, ◌<◌, ◌≤◌, min}
-use Rattle.std.specs.Prelude.{◌≡◌, false, ◌⊎◌, replicate, take}
+use Rattle.std.specs.Prelude.{◌≡◌, ◌⊎◌, Option, Some, None, replicate, take}
 use Rattle.std.proofs.Math.Path.{refl, sym, ap}
 use Rattle.std.proofs.Common.{◌∙◌, eq-or-lt_of_le, lt_of_not-le, set-set, take-suc-set, take-suc, take_all}
 use Rattle.std.proofs.Math.Bool.{true}
-use Rattle.std.proofs.lemmas.Bool.{false≢true}
 use mathlib.Core.List.{List, [], ◌∷◌, ◌++◌}
 use Rattle.std.proofs.Math.Logic.{⊎_elim}
 use native.Mathlib.Omega.{arith}
@@ -49,19 +48,20 @@ row_up_to l (suc k) = row_push (row_up_to l k) (slot_at l k)
 -- ---- what becomes of the slots
 
 -- two places change, or none
-unfoldable pub settled : List Slot → Moves → List Slot
-settled l m = choose m.any then set (set l m.a m.x) m.b m.y else l
+unfoldable pub settled : List Slot → Option Moves → List Slot
+settled l None = l
+settled l (Some m) = set (set l m.a m.x) m.b m.y
 
 -- the two places are places
-pub record Within (m : Moves) (n : ℕ) : Type 0 where
-  pub first : m.any ≡ true → m.a < n
-  pub second : m.any ≡ true → m.b < n
+abbrev pub Within : Option Moves → ℕ → Type 0
+Within None n = Unit {0}
+Within (Some m) n = (m.a < n) × (m.b < n)
 
-abbrev pub staying : Moves
-staying = record { any = false; a = 0; x = empty_slot; b = 0; y = empty_slot }
+abbrev pub staying : Option Moves
+staying = None
 
-abbrev pub moving : ℕ → Slot → ℕ → Slot → Moves
-moving a x b y = record { any = true; a = a; x = x; b = b; y = y }
+abbrev pub moving : ℕ → Slot → ℕ → Slot → Option Moves
+moving a x b y = Some (record { a = a; x = x; b = b; y = y })
 
 -- ---- the first places
 
@@ -165,18 +165,22 @@ module _ (l : List Slot) where
 -- ---- what becomes of the slots
 
 pub within-staying : (n : ℕ) → Within staying n
-within-staying n = record { first = λ h. absurd (false≢true h); second = λ h. absurd (false≢true h) }
+within-staying n = tt
 
 pub within-moving : {a b n : ℕ} (x y : Slot) → a < n → b < n → Within (moving a x b y) n
-within-moving x y h g = record { first = λ _. h; second = λ _. g }
+within-moving x y h g = (h, g)
 
-pub settled_still : (l : List Slot) (m : Moves) → m.any ≡ false → settled l m ≡ l
+pub within_more : (m : Option Moves) {n k : ℕ} → n ≤ k → Within m n → Within m k
+within_more None l w = tt
+within_more (Some m) l w = let a = w.0 in let b = w.1 in (omega arith, omega arith)
+
+pub settled_still : (l : List Slot) (m : Option Moves) → m ≡ None → settled l m ≡ l
 unfolding settled
-settled_still l m h = unless _ _ _ h
+settled_still l m h = rw h refl
 
 pub settled-moving : (l : List Slot) (a : ℕ) (x : Slot) (b : ℕ) (y : Slot) → settled l (moving a x b y) ≡ set (set l a x) b y
 unfolding settled
-settled-moving l a x b y = when _ _ _ refl
+settled-moving l a x b y = refl
 
 -- one place, written twice
 pub settled-one : (l : List Slot) (a : ℕ) (x : Slot) → settled l (moving a x a x) ≡ set l a x

@@ -57,21 +57,20 @@ pub struct Row {
     pub len: usize,
 }
 
-// Two places among the slots and what goes there, or nothing.
+// Two places among the slots and what goes there.
 #[derive(Clone, Copy)]
 pub struct Moves {
-    pub any: bool,
     pub a: usize,
     pub x: Slot,
     pub b: usize,
     pub y: Slot,
 }
 
-// What a packet comes to: what is handed back, and what becomes of the slots.
+// What a packet comes to: what is handed back, and what becomes of the slots, if anything.
 #[derive(Clone, Copy)]
 pub struct Met {
     pub outcome: Outcome,
-    pub moves: Moves,
+    pub moves: Option<Moves>,
 }
 
 // What a packet comes to, and an array of slots after it.
@@ -168,15 +167,13 @@ fn gather(slots: &[Slot]) -> Row
 }
 
 // Two places change, or none: the others stay as they were.
-fn settle(slots: &mut [Slot], m: Moves)
+fn settle(slots: &mut [Slot], m: Option<Moves>)
     requires { Within m (length slots.old) }
     ensures { slots.new ≡ settled slots.old m }
 {
-    if m.any {
-        let a = m.a;
-        slots[a] = m.x;
-        let b = m.b;
-        slots[b] = m.y;
+    if let Some(to) = m {
+        slots[to.a] = to.x;
+        slots[to.b] = to.y;
     }
 }
 

@@ -19,7 +19,7 @@ use ground::number::wide;
 pub struct Act {
     pub done: Done,
     pub home: u8,
-    pub moves: Moves,
+    pub moves: Option<Moves>,
 }
 
 // Nothing moves.

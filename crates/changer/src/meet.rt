@@ -52,7 +52,7 @@ fn refused(number: u8, rule: u8, c: Changer) -> Met
 }
 
 // What the drive hands back, with the home and what becomes of the slots.
-fn with_home(o: outcome::Outcome, home: u8, moves: Moves) -> Met
+fn with_home(o: outcome::Outcome, home: u8, moves: Option<Moves>) -> Met
     ensures { result ≡ outcome_with o home moves }
 {
     let drive = o.state;

@@ -54,29 +54,17 @@ pub(crate) fn full_slot(s: Slot) -> Slot
 }
 
 // No slot changes.
-pub(crate) fn staying() -> Moves
+pub(crate) fn staying() -> Option<Moves>
     ensures { result ≡ staying }
 {
-    Moves {
-        any: false,
-        a: 0,
-        x: empty_slot(),
-        b: 0,
-        y: empty_slot(),
-    }
+    None
 }
 
 // What goes to two places, which may be one.
-pub(crate) fn moving(a: usize, x: Slot, b: usize, y: Slot) -> Moves
+pub(crate) fn moving(a: usize, x: Slot, b: usize, y: Slot) -> Option<Moves>
     ensures { result ≡ moving a x b y }
 {
-    Moves {
-        any: true,
-        a,
-        x,
-        b,
-        y,
-    }
+    Some(Moves { a, x, b, y })
 }
 
 // The home of a disc in the drive is not beyond the last slot and not occupied.
