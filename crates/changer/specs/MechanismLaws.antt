@@ -15,15 +15,10 @@ use Rattle.command.specs.Tray.{moving as shifted}
 use Rattle.target.specs.Perform.{written}
 use Rattle.target.specs.PerformLaws.{Quiet, performed_quiet, performed_goes}
 use Rattle.changer.specs.declared.Slot.{Slot}
-use Rattle.changer.specs.declared.Row.{Row}
 use Rattle.changer.specs.declared.load.Act.{Act}
 use Rattle.changer.specs.Slot.{slot, empty_slot, slot_at, put_back}
 use Rattle.changer.specs.Mechanism.{Mechanism, returned_deck, returned, takes, loads, unloads, load_unload}
-use Rattle.changer.specs.RowLaws.{slots_of, settled, Within, staying, moving, within-staying, within-moving, settled_still, settled-moving, settled-one}
-
--- deck, home and the slots that a row has
-abbrev pub mechanism : Deck → ℕ → Row → Mechanism
-mechanism deck home row = record { deck = deck; home = home; slots = slots_of row }
+use Rattle.changer.specs.Moves.{settled, Within, staying, moving, within-staying, within-moving, settled_still, settled-moving, settled-one}
 
 -- the deck's part of a result
 abbrev pub deck_of : Result Mechanism → Result Deck

@@ -1,5 +1,5 @@
 -- `changer::settle` meets its contract: where anything moves, two stores to places within the slots.
-use Rattle.changer.specs.RowLaws.{settled}
+use Rattle.changer.specs.Moves.{settled}
 use Rattle.changer.proofs.settle.Goals as goal
 
 pub returns-in-Some : goal.returns-in-Some
