@@ -1,5 +1,5 @@
 pub mod Slot
-pub mod RowLaws
+pub mod Moves
 pub mod Mechanism
 pub mod MechanismLaws
 pub mod Status

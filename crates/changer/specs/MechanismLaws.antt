@@ -14,15 +14,10 @@ use Rattle.command.specs.Tray.{moving as shifted}
 use Rattle.target.specs.Perform.{written}
 use Rattle.target.specs.PerformLaws.{Quiet, performed_quiet, performed_goes}
 use Rattle.changer.specs.declared.Slot.{Slot}
-use Rattle.changer.specs.declared.Row.{Row}
 use Rattle.changer.specs.declared.load.Act.{Act}
 use Rattle.changer.specs.Slot.{slot, empty_slot, slot_at, put_back}
 use Rattle.changer.specs.Mechanism.{Mechanism, returned_deck, returned, takes, loads, unloads, load_unload}
-use Rattle.changer.specs.RowLaws.{slots_of, settled, Within, staying, moving, within-staying, within-moving, settled_still, settled-moving, settled-one}
-
--- deck, home and the slots that a row has
-abbrev pub mechanism : Deck → ℕ → Row → Mechanism
-mechanism deck home row = record { deck = deck; home = home; slots = slots_of row }
+use Rattle.changer.specs.Moves.{settled, Within, staying, moving, within-staying, within-moving, settled_still, settled-moving, settled-one}
 
 -- the deck's part of a result
 abbrev pub deck_of : Result Mechanism → Result Deck
@@ -69,10 +64,10 @@ module _ (s : List Slot) (home : ℕ) where
 
 module _ (m : Mechanism) where
   acted-fault : (f : Fault) → Acted (fails f) m (failed_with f m.home)
-  acted-fault f = record { done = refl; home = refl; slots = settled_still m.slots staying refl; within = within-staying _ }
+  acted-fault f = record { done = refl; home = refl; slots = settled_still m.slots staying refl; within = within-staying (length m.slots) }
 
   acted-kept : Acted (goes m false [] 0 0 0) m (still_with m.deck m.home)
-  acted-kept = record { done = refl; home = refl; slots = settled_still m.slots staying refl; within = within-staying _ }
+  acted-kept = record { done = refl; home = refl; slots = settled_still m.slots staying refl; within = within-staying (length m.slots) }
 
   pub acted-fails : (f : Fault) {r : Result Mechanism} → r ≡ fails f → Acted r m (failed_with f m.home)
   acted-fails f e = rw e (acted-fault f)
@@ -188,6 +183,6 @@ pub acted_on_status : (m : Mechanism) (full : List ℕ) {limit n : ℕ} {b b' : 
 acted_on_status m full {limit} h l =
     let x = performed_goes {r = goes m.deck false full limit 0 0} full refl h l in
     record {
-      acted = record { done = x.outcome; home = refl; slots = settled_still m.slots staying refl; within = within-staying _ };
+      acted = record { done = x.outcome; home = refl; slots = settled_still m.slots staying refl; within = within-staying (length m.slots) };
       memory = x.memory;
     }

@@ -1,5 +1,5 @@
-// The changer: a drive and up to 31 slots, whose records stand beside one another in memory that the caller lends. Only this room holds a
-// reference to them: they are read into a row by value, and what a packet comes to is written in two places.
+// The changer: a drive and up to 31 slots, whose records stand beside one another in memory that the caller lends. They are read where they
+// stand, and what a packet comes to is written in two places.
 #![tactic(auto)]
 
 mod load;
@@ -8,13 +8,12 @@ mod slots;
 mod status;
 
 ghost use Rattle.std.specs.Prelude.{◌≤◌, ◌≡◌, length};
-ghost use Rattle.changer.specs.RowLaws.{row_none, row_push, row_up_to, Within, settled};
+ghost use Rattle.changer.specs.Moves.{Within, settled};
 ghost use Rattle.changer.specs.Changer.{emptied, power_on, power_on_without_change, moves_on};
 ghost use Rattle.changer.specs.ChangerPacket.{answer, Answered, AnsweredOn};
 
 use crate::meet::meet;
 use drive::state::Drive;
-use ground::number::smaller;
 
 // A slot record: disc present, disc changed.
 #[derive(Clone, Copy)]
@@ -50,28 +49,20 @@ pub struct Outcome {
     pub state: Changer,
 }
 
-// The first slots by value, one more than a changer may have.
-#[derive(Clone, Copy)]
-pub struct Row {
-    pub slots: [Slot; 32],
-    pub len: usize,
-}
-
-// Two places among the slots and what goes there, or nothing.
+// Two places among the slots and what goes there.
 #[derive(Clone, Copy)]
 pub struct Moves {
-    pub any: bool,
     pub a: usize,
     pub x: Slot,
     pub b: usize,
     pub y: Slot,
 }
 
-// What a packet comes to: what is handed back, and what becomes of the slots.
+// What a packet comes to: what is handed back, and what becomes of the slots, if anything.
 #[derive(Clone, Copy)]
 pub struct Met {
     pub outcome: Outcome,
-    pub moves: Moves,
+    pub moves: Option<Moves>,
 }
 
 // What a packet comes to, and an array of slots after it.
@@ -128,55 +119,14 @@ fn emptied(d: Drive) -> Drive
     Drive { unit, deck }
 }
 
-// No slot.
-fn row_none() -> Row
-    ensures { result ≡ row_none }
-{
-    let none = Slot {
-        present: false,
-        changed: false,
-    };
-    let all = [none; 32];
-    Row { slots: all, len: 0 }
-}
-
-// One slot more, where there is room.
-fn row_push(r: Row, s: Slot) -> Row
-    ensures { result ≡ row_push r s }
-{
-    let at = r.len;
-    if at < 32 {
-        let mut next = r;
-        next.slots[at] = s;
-        next.len = at + 1;
-        return next;
-    }
-    r
-}
-
-// The slots, read.
-fn gather(slots: &[Slot]) -> Row
-    ensures { result ≡ row_up_to slots.now (length slots.now) }
-{
-    let mut row = row_none();
-    let mut i = 0;
-    while i < slots.len() {
-        row = row_push(row, slots[i]);
-        i += 1;
-    }
-    row
-}
-
 // Two places change, or none: the others stay as they were.
-fn settle(slots: &mut [Slot], m: Moves)
+fn settle(slots: &mut [Slot], m: Option<Moves>)
     requires { Within m (length slots.old) }
     ensures { slots.new ≡ settled slots.old m }
 {
-    if m.any {
-        let a = m.a;
-        slots[a] = m.x;
-        let b = m.b;
-        slots[b] = m.y;
+    if let Some(to) = m {
+        slots[to.a] = to.x;
+        slots[to.b] = to.y;
     }
 }
 
@@ -192,8 +142,7 @@ pub fn packet(
 ) -> Outcome
     ensures { Answered (answer c slots.old p.now table.now list.now (length mem.old)) mem.old result mem.new slots.new }
 {
-    let row = gather(slots);
-    let d = meet(row, c, p, table, list, mem);
+    let d = meet(slots, c, p, table, list, mem);
     settle(slots, d.moves);
     d.outcome
 }
@@ -231,6 +180,6 @@ pub fn packet_on(
 ) -> Lent
     ensures { AnsweredOn c slots n p.now table.now list.now mem.old result mem.new }
 {
-    let k = smaller(n, 255);
+    let k = n.min(255);
     packet_first(slots, k, c, p, table, list, mem)
 }

@@ -4,11 +4,11 @@ ghost use Rattle.command.specs.Tray.{moving as shifted};
 ghost use Rattle.command.specs.Done.{done_of};
 ghost use Rattle.changer.specs.Slot.{slot_at, put_back};
 ghost use Rattle.changer.specs.Mechanism.{returned_deck, loads, unloads, load_unload};
-ghost use Rattle.changer.specs.RowLaws.{slots_of};
-ghost use Rattle.changer.specs.MechanismLaws.{mechanism, Acted, Homed, still_with, failed_with};
+ghost use Rattle.changer.specs.ChangerPacket.{mechanism_of};
+ghost use Rattle.changer.specs.MechanismLaws.{Acted, Homed, still_with, failed_with};
 
-use crate::slots::{count_of, empty_slot, full_slot, moving, slot_of, staying};
-use crate::{Moves, Row};
+use crate::slots::{empty_slot, full_slot, moving, slot_of, staying};
+use crate::{Changer, Moves, Slot};
 use command::done::{Done, Went, done_with, went_with};
 use deck::{Deck, Shifted};
 use gate::fault::Fault;
@@ -19,7 +19,7 @@ use ground::number::wide;
 pub struct Act {
     pub done: Done,
     pub home: u8,
-    pub moves: Moves,
+    pub moves: Option<Moves>,
 }
 
 // Nothing moves.
@@ -64,62 +64,60 @@ fn shifted(s: Shifted) -> Done
 }
 
 // Once the drive's disc is back at its home, slot i holds one.
-fn holds(row: Row, home: usize, i: usize) -> bool
-    requires { home < length (slots_of row) }
-    ensures { result ≡ (slot_at (put_back (slots_of row) home) i).present }
+fn holds(slots: &[Slot], home: usize, i: usize) -> bool
+    requires { home < length slots.now }
+    ensures { result ≡ (slot_at (put_back slots.now home) i).present }
 {
-    if i == home {
-        return true;
-    }
-    let s = slot_of(row, i);
-    s.present
+    i == home || slot_of(slots, i).present
 }
 
 // Unload: the drive's disc goes back to its home, if it has one.
-fn unload(deck: Deck, home: u8, row: Row) -> Act
-    requires { Homed (mechanism deck home row) }
-    ensures { Acted (unloads (mechanism deck home row)) (mechanism deck home row) result }
+fn unload(c: Changer, slots: &[Slot]) -> Act
+    requires { Homed (mechanism_of c slots.now) }
+    ensures { Acted (unloads (mechanism_of c slots.now)) (mechanism_of c slots.now) result }
 {
+    let deck = c.drive.deck;
     if deck.disc_in {
-        let at = wide(home);
-        let s = full_slot(slot_of(row, at));
+        let at = wide(c.home);
+        let s = full_slot(slot_of(slots, at));
         return Act {
             done: done_with(returned_deck(deck)),
             home: 0,
             moves: moving(at, s, at, s),
         };
     }
-    still(deck, home)
+    still(deck, c.home)
 }
 
 // Load with a disc in the drive: that one goes back first.
-fn exchange(deck: Deck, home: u8, row: Row, i: u8) -> Act
-    requires { (deck.disc_in ≡ true) × Homed (mechanism deck home row) × (i < length (slots_of row)) }
-    ensures { Acted (loads i (mechanism deck home row)) (mechanism deck home row) result }
+fn exchange(c: Changer, slots: &[Slot], i: u8) -> Act
+    requires { (c.drive.deck.disc_in ≡ true) × Homed (mechanism_of c slots.now) × (i < length slots.now) }
+    ensures { Acted (loads i (mechanism_of c slots.now)) (mechanism_of c slots.now) result }
 {
-    let at = wide(home);
-    if holds(row, at, wide(i)) {
-        let back = full_slot(slot_of(row, at));
-        let next = returned_deck(deck).with_disc(true).closing();
+    let at = wide(c.home);
+    if holds(slots, at, wide(i)) {
+        let back = full_slot(slot_of(slots, at));
+        let next = returned_deck(c.drive.deck).with_disc(true).closing();
         return Act {
             done: shifted(next),
             home: i,
             moves: moving(at, back, wide(i), empty_slot()),
         };
     }
-    unload(deck, home, row)
+    unload(c, slots)
 }
 
 // Load: the drive's disc goes back, and that of slot i is taken, if it holds one.
-fn load(deck: Deck, home: u8, row: Row, i: u8) -> Act
-    requires { Homed (mechanism deck home row) × (i < length (slots_of row)) }
-    ensures { Acted (loads i (mechanism deck home row)) (mechanism deck home row) result }
+fn load(c: Changer, slots: &[Slot], i: u8) -> Act
+    requires { Homed (mechanism_of c slots.now) × (i < length slots.now) }
+    ensures { Acted (loads i (mechanism_of c slots.now)) (mechanism_of c slots.now) result }
 {
+    let deck = c.drive.deck;
     if deck.disc_in {
-        return exchange(deck, home, row, i);
+        return exchange(c, slots, i);
     }
     let at = wide(i);
-    let s = slot_of(row, at);
+    let s = slot_of(slots, at);
     if s.present {
         let next = deck.with_disc(true).closing();
         return Act {
@@ -128,25 +126,22 @@ fn load(deck: Deck, home: u8, row: Row, i: u8) -> Act
             moves: moving(at, empty_slot(), at, empty_slot()),
         };
     }
-    still(deck, home)
+    still(deck, c.home)
 }
 
 // LOAD/UNLOAD: the pair, the slot and the lock are tested, in this order.
-pub(crate) fn load_unload(lo: bool, start: bool, i: u8, deck: Deck, home: u8, row: Row) -> Act
-    requires { Homed (mechanism deck home row) }
-    ensures { Acted (load_unload lo start i (mechanism deck home row)) (mechanism deck home row) result }
+pub(crate) fn load_unload(lo: bool, start: bool, i: u8, c: Changer, slots: &[Slot]) -> Act
+    requires { Homed (mechanism_of c slots.now) }
+    ensures { Acted (load_unload lo start i (mechanism_of c slots.now)) (mechanism_of c slots.now) result }
 {
-    if lo {
-        if wide(i) < count_of(row) {
-            if deck.lock {
-                return failed(Fault::RemovalPrevented, home);
-            }
-            if start {
-                return load(deck, home, row, i);
-            }
-            return unload(deck, home, row);
-        }
-        return failed(Fault::BadField, home);
+    if !lo || slots.len() <= wide(i) {
+        return failed(Fault::BadField, c.home);
     }
-    failed(Fault::BadField, home)
+    if c.drive.deck.lock {
+        return failed(Fault::RemovalPrevented, c.home);
+    }
+    if start {
+        return load(c, slots, i);
+    }
+    unload(c, slots)
 }

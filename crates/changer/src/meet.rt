@@ -1,18 +1,17 @@
-// One packet met by the changer, with the slots by value.
+// One packet met by the changer.
 ghost use Rattle.std.specs.Prelude.{◌≡◌, true, false, ◌≤◌, length};
 ghost use Rattle.table.specs.Layout.{bound};
 ghost use Rattle.gate.specs.Gate.{gate};
-ghost use Rattle.changer.specs.RowLaws.{slots_of};
-ghost use Rattle.changer.specs.MechanismLaws.{mechanism, Homed, ActedOn};
+ghost use Rattle.changer.specs.Slot.{most};
+ghost use Rattle.changer.specs.MechanismLaws.{Homed, ActedOn};
 ghost use Rattle.changer.specs.ChangerPacket.{mechanism_of, is_own, own, answer};
 ghost use Rattle.changer.specs.ChangerPacketLaws.{AnsweredBy, Passed, refused_with, outcome_with};
 
 use crate::load::{Act, failed, load_unload};
 use crate::slots::{is_in_order, staying};
 use crate::status::mechanism_status;
-use crate::{Changer, Met, Moves, Outcome, Row};
+use crate::{Changer, Met, Moves, Outcome, Slot};
 use command::field::{bit0, bit1};
-use deck::Deck;
 use disc::disc::fault;
 use disc::part::UNFIT;
 use drive::state::UNKNOWN_STATE;
@@ -52,7 +51,7 @@ fn refused(number: u8, rule: u8, c: Changer) -> Met
 }
 
 // What the drive hands back, with the home and what becomes of the slots.
-fn with_home(o: outcome::Outcome, home: u8, moves: Moves) -> Met
+fn with_home(o: outcome::Outcome, home: u8, moves: Option<Moves>) -> Met
     ensures { result ≡ outcome_with o home moves }
 {
     let drive = o.state;
@@ -75,38 +74,29 @@ fn is_own(p: &[u8]) -> bool
     requires { length p.now ≡ 12 }
     ensures { result ≡ is_own p.now }
 {
-    let code = p[0];
-    if code == LOAD_UNLOAD {
-        return true;
+    match p[0] {
+        LOAD_UNLOAD | MECHANISM_STATUS => true,
+        START_STOP => bit1(p[4]),
+        _ => false,
     }
-    if code == MECHANISM_STATUS {
-        return true;
-    }
-    if code == START_STOP {
-        return bit1(p[4]);
-    }
-    false
 }
 
 // Step 5 of such a packet.
-fn own(p: &[u8], deck: Deck, home: u8, row: Row, mem: &mut [u8]) -> Act
-    requires { (length p.now ≡ 12) × (bound ≤ length mem.old) × Homed (mechanism deck home row) }
-    ensures { ActedOn (own p.now (mechanism deck home row)) (mechanism deck home row) mem.old result mem.new }
+fn own(p: &[u8], c: Changer, slots: &[Slot], mem: &mut [u8]) -> Act
+    requires { (length p.now ≡ 12) × (bound ≤ length mem.old) × (length slots.now ≤ most) × Homed (mechanism_of c slots.now) }
+    ensures { ActedOn (own p.now (mechanism_of c slots.now)) (mechanism_of c slots.now) mem.old result mem.new }
 {
-    let code = p[0];
-    if code == LOAD_UNLOAD {
-        return load_unload(bit1(p[4]), bit0(p[4]), p[8], deck, home, row);
+    match p[0] {
+        LOAD_UNLOAD => load_unload(bit1(p[4]), bit0(p[4]), p[8], c, slots),
+        MECHANISM_STATUS => mechanism_status(word16(p[8], p[9]), c, slots, mem),
+        _ => failed(Fault::BadField, c.home),
     }
-    if code == MECHANISM_STATUS {
-        return mechanism_status(word16(p[8], p[9]), deck, home, row, mem);
-    }
-    failed(Fault::BadField, home)
 }
 
 // Step 2 of such a packet: a pending attention is told, power first; with none it is performed.
-fn gated(row: Row, c: Changer, p: &[u8], mem: &mut [u8]) -> Met
-    requires { (length p.now ≡ 12) × (bound ≤ length mem.old) × Homed (mechanism_of c (slots_of row)) }
-    ensures { AnsweredBy (gate c.drive.unit (mechanism_of c (slots_of row)) (own p.now (mechanism_of c (slots_of row)))) (slots_of row) mem.old result mem.new }
+fn gated(slots: &[Slot], c: Changer, p: &[u8], mem: &mut [u8]) -> Met
+    requires { (length p.now ≡ 12) × (bound ≤ length mem.old) × (length slots.now ≤ most) × Homed (mechanism_of c slots.now) }
+    ensures { AnsweredBy (gate c.drive.unit (mechanism_of c slots.now) (own p.now (mechanism_of c slots.now))) slots.now mem.old result mem.new }
 {
     let unit = c.drive.unit;
     let deck = c.drive.deck;
@@ -115,7 +105,7 @@ fn gated(row: Row, c: Changer, p: &[u8], mem: &mut [u8]) -> Met
         Pending::Power => with_home(tell(a, unit, deck), c.home, staying()),
         Pending::Change => with_home(tell(a, unit, deck), c.home, staying()),
         Pending::Nothing => {
-            let act = own(p, deck, c.home, row, mem);
+            let act = own(p, c, slots, mem);
             let done = act.done;
             let moves = act.moves;
             with_home(finish(unit, clear(unit), deck, done), act.home, moves)
@@ -124,46 +114,53 @@ fn gated(row: Row, c: Changer, p: &[u8], mem: &mut [u8]) -> Met
 }
 
 // Such a packet: with a disc in the drive its table is read first.
-fn own_packet(row: Row, c: Changer, p: &[u8], t: &[u8], list: &[u8], mem: &mut [u8]) -> Met
-    requires { Passed c (slots_of row) p.now (length mem.old) × (is_own p.now ≡ true) }
-    ensures { AnsweredBy (answer c (slots_of row) p.now t.now list.now (length mem.old)) (slots_of row) mem.old result mem.new }
+fn own_packet(slots: &[Slot], c: Changer, p: &[u8], t: &[u8], list: &[u8], mem: &mut [u8]) -> Met
+    requires { Passed c slots.now p.now (length mem.old) × (is_own p.now ≡ true) }
+    ensures { AnsweredBy (answer c slots.now p.now t.now list.now (length mem.old)) slots.now mem.old result mem.new }
 {
     if c.drive.deck.is_loaded() {
         let rule = fault(t);
         if rule == 0 {
-            return gated(row, c, p, mem);
+            return gated(slots, c, p, mem);
         }
         return refused(UNFIT, rule, c);
     }
-    gated(row, c, p, mem)
+    gated(slots, c, p, mem)
 }
 
 // Past the refusals 1, 2, 3 and 11: the changer's own packets, and any other as by the drive.
-fn passed(row: Row, c: Changer, p: &[u8], t: &[u8], list: &[u8], mem: &mut [u8]) -> Met
-    requires { Passed c (slots_of row) p.now (length mem.old) }
-    ensures { AnsweredBy (answer c (slots_of row) p.now t.now list.now (length mem.old)) (slots_of row) mem.old result mem.new }
+fn passed(slots: &[Slot], c: Changer, p: &[u8], t: &[u8], list: &[u8], mem: &mut [u8]) -> Met
+    requires { Passed c slots.now p.now (length mem.old) }
+    ensures { AnsweredBy (answer c slots.now p.now t.now list.now (length mem.old)) slots.now mem.old result mem.new }
 {
     if is_own(p) {
-        return own_packet(row, c, p, t, list, mem);
+        return own_packet(slots, c, p, t, list, mem);
     }
     with_home(packet(c.drive, p, t, list, mem), c.home, staying())
 }
 
-// A packet met by the changer, the slots by value: the refusals 1, 2, 3 and 11 in order, then 4 and the steps.
-pub(crate) fn meet(row: Row, c: Changer, p: &[u8], t: &[u8], list: &[u8], mem: &mut [u8]) -> Met
-    ensures { AnsweredBy (answer c (slots_of row) p.now t.now list.now (length mem.old)) (slots_of row) mem.old result mem.new }
+// A packet met by the changer: the refusals 1, 2, 3 and 11 in order, then 4 and the steps.
+pub(crate) fn meet(
+    slots: &[Slot],
+    c: Changer,
+    p: &[u8],
+    t: &[u8],
+    list: &[u8],
+    mem: &mut [u8],
+) -> Met
+    ensures { AnsweredBy (answer c slots.now p.now t.now list.now (length mem.old)) slots.now mem.old result mem.new }
 {
-    if p.len() == 12 {
-        if c.drive.is_known_state() {
-            if mem.len() < BOUND {
-                return refused(SHORT_MEMORY, 0, c);
-            }
-            if is_in_order(c, row) {
-                return passed(row, c, p, t, list, mem);
-            }
-            return refused(OUT_OF_ORDER, 0, c);
-        }
+    if p.len() != 12 {
+        return refused(NOT_TWELVE, 0, c);
+    }
+    if !c.drive.is_known_state() {
         return refused(UNKNOWN_STATE, 0, c);
     }
-    refused(NOT_TWELVE, 0, c)
+    if mem.len() < BOUND {
+        return refused(SHORT_MEMORY, 0, c);
+    }
+    if !is_in_order(c, slots) {
+        return refused(OUT_OF_ORDER, 0, c);
+    }
+    passed(slots, c, p, t, list, mem)
 }

@@ -3,31 +3,27 @@ ghost use Rattle.std.specs.Prelude.{◌≡◌, ◌≤◌, length, take};
 ghost use Rattle.ground.specs.Memory.{Laid};
 ghost use Rattle.table.specs.Layout.{bound};
 ghost use Rattle.changer.specs.Status.{flags_of, slot_bytes, slot_tables, status_bytes, home_shown, mechanism_status};
-ghost use Rattle.changer.specs.RowLaws.{slots_of};
-ghost use Rattle.changer.specs.MechanismLaws.{mechanism, ActedOn};
+ghost use Rattle.changer.specs.Slot.{most};
+ghost use Rattle.changer.specs.ChangerPacket.{mechanism_of};
+ghost use Rattle.changer.specs.MechanismLaws.{ActedOn};
 
 use crate::load::Act;
-use crate::slots::{count_of, slot_of, staying};
-use crate::{Row, Slot};
-use command::done::{Done, Went, went_with};
-use deck::Deck;
+use crate::slots::staying;
+use crate::{Changer, Slot};
+use command::done::{Went, went_with};
 use ground::memory::copy_front;
-use ground::number::{bytes16, smaller};
+use ground::number::bytes16;
 
 // Present in bit 7, changed in bit 0.
 fn flags_of(s: Slot) -> u8
     ensures { result ≡ flags_of s }
 {
-    if s.present {
-        if s.changed {
-            return 0x81;
-        }
-        return 0x80;
+    match (s.present, s.changed) {
+        (true, true) => 0x81,
+        (true, false) => 0x80,
+        (false, true) => 0x01,
+        (false, false) => 0,
     }
-    if s.changed {
-        return 0x01;
-    }
-    0
 }
 
 // A slot's four bytes, laid into the rest of the response.
@@ -39,61 +35,61 @@ fn put_slot(s: Slot, rest: &mut [u8]) -> usize
 }
 
 // Each slot's, where the one before ended.
-fn put_slots(row: Row, part: &mut [u8]) -> usize
-    ensures { Laid part.old (slot_tables (slots_of row) (length (slots_of row))) result part.new }
+fn put_slots(slots: &[Slot], part: &mut [u8]) -> usize
+    ensures { Laid part.old (slot_tables slots.now (length slots.now)) result part.new }
 {
-    let end = count_of(row);
-    let mut j = 0;
     let mut at = 0;
-    while j < end {
-        at += put_slot(slot_of(row, j), &mut part[at..]);
-        j += 1;
+    for s in slots {
+        at += put_slot(*s, &mut part[at..]);
     }
     at
 }
 
 // The whole answer, as far as the part holds it.
-fn put_full(home: u8, row: Row, part: &mut [u8]) -> usize
-    ensures { Laid part.old (status_bytes home (slots_of row)) result part.new }
+fn put_full(home: u8, slots: &[Slot], part: &mut [u8]) -> usize
+    requires { length slots.now ≤ most }
+    ensures { Laid part.old (status_bytes home slots.now) result part.new }
 {
-    let n = count_of(row);
+    let n = slots.len();
     let l = bytes16(4 * n);
     let full = [home, 0, 0, 0, 0, n as u8, l[0], l[1]];
     let mut at = copy_front(&full, part);
-    at += put_slots(row, &mut part[at..]);
+    at += put_slots(slots, &mut part[at..]);
     at
 }
 
 // The answer cut to the allocation length.
-fn put_status(home: u8, row: Row, room: usize, mem: &mut [u8]) -> usize
-    ensures { Laid mem.old (take room (status_bytes home (slots_of row))) result mem.new }
+fn put_status(home: u8, slots: &[Slot], room: usize, mem: &mut [u8]) -> usize
+    requires { length slots.now ≤ most }
+    ensures { Laid mem.old (take room (status_bytes home slots.now)) result mem.new }
 {
-    let e = smaller(room, mem.len());
-    put_full(home, row, &mut mem[..e])
+    let e = room.min(mem.len());
+    put_full(home, slots, &mut mem[..e])
 }
 
 // The home slot of the disc in the drive, or 0.
-fn home_shown(deck: Deck, home: u8, row: Row) -> u8
-    ensures { result ≡ home_shown (mechanism deck home row) }
+fn home_shown(c: Changer, slots: &[Slot]) -> u8
+    ensures { result ≡ home_shown (mechanism_of c slots.now) }
 {
-    if deck.disc_in {
-        return home;
+    if c.drive.deck.disc_in {
+        return c.home;
     }
     0
 }
 
 // MECHANISM STATUS: nothing moves.
-pub(crate) fn mechanism_status(limit: usize, deck: Deck, home: u8, row: Row, mem: &mut [u8]) -> Act
-    requires { bound ≤ length mem.old }
-    ensures { ActedOn (mechanism_status limit (mechanism deck home row)) (mechanism deck home row) mem.old result mem.new }
+pub(crate) fn mechanism_status(limit: usize, c: Changer, slots: &[Slot], mem: &mut [u8]) -> Act
+    requires { (bound ≤ length mem.old) × (length slots.now ≤ most) }
+    ensures { ActedOn (mechanism_status limit (mechanism_of c slots.now)) (mechanism_of c slots.now) mem.old result mem.new }
 {
-    let len = put_status(home_shown(deck, home, row), row, limit, mem);
+    let deck = c.drive.deck;
+    let len = put_status(home_shown(c, slots), slots, limit, mem);
     Act {
         done: Ok(Went {
             len,
             ..went_with(deck)
         }),
-        home,
+        home: c.home,
         moves: staying(),
     }
 }

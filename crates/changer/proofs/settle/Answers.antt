@@ -1,13 +1,11 @@
 -- `changer::settle` meets its contract: where anything moves, two stores to places within the slots.
-use Rattle.std.proofs.Common.{sym}
-use Rattle.ground.specs.Tests.{when, unless}
-use Rattle.changer.specs.RowLaws.{settled}
+use Rattle.changer.specs.Moves.{settled}
 use Rattle.changer.proofs.settle.Goals as goal
 
-pub returns-then-m : goal.returns-then-m
+pub returns-in-Some : goal.returns-in-Some
 unfolding settled
-returns-then-m c = sym (when _ _ _ c.if-m.true)
+returns-in-Some c = rw c.in-Some.is
 
-pub returns-else-m : goal.returns-else-m
+pub returns-in_default : goal.returns-in_default
 unfolding settled
-returns-else-m c = sym (unless _ _ _ c.if-m.false)
+returns-in_default c = rw c.in_default.is

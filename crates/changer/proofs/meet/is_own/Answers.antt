@@ -1,22 +1,19 @@
--- `changer::meet::is_own` meets its contract: each test that stops it is one of the three, by the packet's code.
-use mathlib.Core.Path.{refl}
-use borrow.Author.Tests.{eq-eqb, ne_eqb}
+-- `changer::meet::is_own` meets its contract: the packet's code is one of the three, or none of them.
+use Rattle.std.proofs.Common.{get_or, inl, inr, arith, ne_eqb}
 use Rattle.ground.specs.Tests.{◌and◌, ◌or◌}
 use Rattle.changer.specs.ChangerPacket.{is_own}
 use Rattle.changer.proofs.meet.is_own.Goals as goal
 
-pub returns-then-code : goal.returns-then-code
+pub returns-in-166 : goal.returns-in-166
 unfolding is_own ◌or◌
-returns-then-code c = rw (eq-eqb _ _ c.if-code.true) refl
+returns-in-166 c = elim c.in-166.is [ inl e ↦ rw e | inr e ↦ rw e ]
 
-pub returns-then-code-2 : goal.returns-then-code-2
-unfolding is_own ◌or◌
-returns-then-code-2 c = rw (ne_eqb _ _ c.if-code.false, eq-eqb _ _ c.if-code-2.true) refl
-
-pub returns-then-code-eq-START_STOP : goal.returns-then-code-eq-START_STOP
+pub returns-in-27 : goal.returns-in-27
 unfolding is_own ◌or◌ ◌and◌
-returns-then-code-eq-START_STOP c = rw (ne_eqb _ _ c.if-code.false, ne_eqb _ _ c.if-code-2.false, eq-eqb _ _ c.if-code-eq-START_STOP.true) c.bit1.ensures
+returns-in-27 c = rw c.in-27.is c.bit1.ensures
 
-pub returns : goal.returns
+pub returns-in_default : goal.returns-in_default
 unfolding is_own ◌or◌ ◌and◌
-returns c = rw (ne_eqb _ _ c.if-code.false, ne_eqb _ _ c.if-code-2.false, ne_eqb _ _ c.if-code-eq-START_STOP.false) refl
+returns-in_default c =
+    let k = get_or c.args.p.now 0 0 in
+    rw (ne_eqb k 0xA6 (λ h. grind arith), ne_eqb k 0xBD (λ h. grind arith), ne_eqb k 0x1B (λ h. omega arith))

@@ -1,23 +1,22 @@
 -- `changer::meet::own` meets its contract: LOAD/UNLOAD writes nothing, MECHANISM STATUS its answer, and 1Bh is a bad field.
-use mathlib.Core.Path.{refl}
+use Rattle.std.proofs.Common.{refl, arith}
 use Rattle.gate.specs.declared.fault.Fault.TheVariants.{BadField}
+use Rattle.changer.specs.ChangerPacket.{mechanism_of}
 use Rattle.changer.specs.ChangerPacketLaws.{own-load, own-status, own-tray}
-use Rattle.changer.specs.MechanismLaws.{mechanism, acted-fails, acted_on_quiet, load_unload_quiet}
+use Rattle.changer.specs.MechanismLaws.{acted-fails, acted_on_quiet, load_unload_quiet}
 use Rattle.changer.proofs.meet.own.Goals as goal
 
-pub returns-then-code : goal.returns-then-code
-returns-then-code c = let x = c.args in
-    let m = mechanism x.deck x.home x.row in
-    rw (own-load x.p.now m c.if-code.true)
-    (acted_on_quiet _ (load_unload_quiet _ _ _ m) (rw (c.bit1.ensures, c.bit0.ensures) at c.load_unload.ensures))
+pub returns-in-166 : goal.returns-in-166
+returns-in-166 c = let x = c.args in
+    let m = mechanism_of x.c x.slots.now in
+    rw (own-load x.p.now m c.in-166.is) (acted_on_quiet _ (load_unload_quiet _ _ _ m) (rw (c.bit1.ensures, c.bit0.ensures) at c.load_unload.ensures))
 
-pub returns-then-code-2 : goal.returns-then-code-2
-returns-then-code-2 c = let x = c.args in
-    rw (own-status x.p.now (mechanism x.deck x.home x.row) c.if-code.false c.if-code-2.true)
-    (rw c.word16.ensures at c.mechanism_status.ensures)
+pub returns-in-189 : goal.returns-in-189
+returns-in-189 c = let x = c.args in
+    let e = c.in-189.is in
+    rw (own-status x.p.now (mechanism_of x.c x.slots.now) (λ h. omega arith) e) (rw c.word16.ensures at c.mechanism_status.ensures)
 
-pub returns : goal.returns
-returns c = let x = c.args in
-    let m = mechanism x.deck x.home x.row in
-    rw (own-tray x.p.now m c.if-code.false c.if-code-2.false, c.failed.ensures)
-    (acted_on_quiet _ refl (acted-fails m BadField refl))
+pub returns-in_default : goal.returns-in_default
+returns-in_default c = let x = c.args in
+    let m = mechanism_of x.c x.slots.now in
+    rw (own-tray x.p.now m (λ h. omega arith) (λ h. omega arith), c.failed.ensures) (acted_on_quiet _ refl (acted-fails m BadField refl))

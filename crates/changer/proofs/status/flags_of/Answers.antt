@@ -1,21 +1,20 @@
 -- `changer::status::flags_of` meets its contract: each of the four slots has its byte.
-use mathlib.Core.Path.{refl}
 use Rattle.ground.specs.Tests.{choose◌then◌else◌}
 use Rattle.changer.specs.Status.{flags_of}
 use Rattle.changer.proofs.status.flags_of.Goals as goal
 
-pub returns-then-s-2 : goal.returns-then-s-2
+pub returns-in-true-true : goal.returns-in-true-true
 unfolding flags_of choose◌then◌else◌
-returns-then-s-2 c = rw (c.if-s.true, c.if-s-2.true) refl
+returns-in-true-true c = rw (c.in-true-true.is-0, c.in-true-true.is-1)
 
-pub returns-then-s : goal.returns-then-s
+pub returns-in-true-false : goal.returns-in-true-false
 unfolding flags_of choose◌then◌else◌
-returns-then-s c = rw (c.if-s.true, c.if-s-2.false) refl
+returns-in-true-false c = rw (c.in-true-false.is-0, c.in-true-false.is-1)
 
-pub returns-then-s-3 : goal.returns-then-s-3
+pub returns-in-false-true : goal.returns-in-false-true
 unfolding flags_of choose◌then◌else◌
-returns-then-s-3 c = rw (c.if-s.false, c.if-s-3.true) refl
+returns-in-false-true c = rw (c.in-false-true.is-0, c.in-false-true.is-1)
 
-pub returns : goal.returns
+pub returns-in-false-false : goal.returns-in-false-false
 unfolding flags_of choose◌then◌else◌
-returns c = rw (c.if-s.false, c.if-s-3.false) refl
+returns-in-false-false c = rw (c.in-false-false.is-0, c.in-false-false.is-1)

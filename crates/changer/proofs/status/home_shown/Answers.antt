@@ -3,8 +3,8 @@ use mathlib.Core.Path.{sym}
 use Rattle.ground.specs.Tests.{when, unless}
 use Rattle.changer.proofs.status.home_shown.Goals as goal
 
-pub returns-then-deck : goal.returns-then-deck
-returns-then-deck c = sym (when _ _ _ c.if-deck.true)
+pub returns-then-c : goal.returns-then-c
+returns-then-c c = sym (when _ _ _ c.if-c.true)
 
 pub returns : goal.returns
-returns c = sym (unless _ _ _ c.if-deck.false)
+returns c = sym (unless _ _ _ c.if-c.false)
