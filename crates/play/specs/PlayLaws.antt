@@ -1,9 +1,9 @@
 -- The laws of the play record: what moving on does in each case, and that it stays a record that refusal 2 does not meet.
-use Rattle.std.specs.Prelude.{◌≡◌, refl, true, ℕ, ◌+◌, ◌-◌, ◌≤◌, ◌<◌, eqb, ltb}
+use Rattle.std.specs.Prelude.{◌≡◌, refl, true, ◌||◌, ℕ, ◌+◌, ◌-◌, ◌≤◌, ◌<◌, eqb, ltb, nat_eq}
 use Rattle.std.proofs.Common.{sym, ◌∙◌, lt_of_not-le, eq-eqb, ne_eqb, le-leb, leb-true, lt-ltb, le-ltb}
 use native.Mathlib.Omega.{arith}
 use Rattle.std.proofs.Math.Decide.{dec_le}
-use Rattle.ground.specs.Tests.{◌or◌, when, unless, either, and_head, and_tail, and_both}
+use Rattle.ground.specs.Tests.{◌or◌, or_plain, when, unless, either, and_head, and_tail, and_both}
 use Rattle.address.specs.Address.{last}
 use Rattle.play.specs.declared.Play.{Play}
 use Rattle.play.specs.Play.{playing, paused, completed, none, play_of, no_play, with_status, is_status, is_play, onward, moved_on}
@@ -21,6 +21,11 @@ is_status-paused = refl
 pub is_status-none : is_status none ≡ true
 unfolding is_status ◌or◌
 is_status-none = refl
+
+-- the four, in the library's words
+pub is_status_tests : (s : ℕ) → is_status s ≡ (nat_eq s playing || (nat_eq s paused || (nat_eq s completed || nat_eq s none)))
+unfolding is_status
+is_status_tests s = sym (simp or_plain)
 
 -- ---- what refusal 2 does not meet
 
@@ -47,13 +52,6 @@ pub with_status_known : {r : Play} (s : ℕ) → is_status s ≡ true → Known 
 with_status_known s h k = record { status = h; within = k.within; most = k.most }
 
 -- ---- moving on
-
--- k blocks from p on end before e
-pub ltb-after : (p k e : ℕ) → p < e → ltb k (e - p) ≡ ltb (p + k) e
-ltb-after p k e h = elim (dec_le e (p + k)) [
-  | yes l ↦ le-ltb k (e - p) (omega arith) ∙ sym (le-ltb (p + k) e l)
-  | no l ↦ let m = lt_of_not-le l in lt-ltb k (e - p) (omega arith) ∙ sym (lt-ltb (p + k) e m)
-]
 
 module _ (k : ℕ) (r : Play) where
   pub moved_on-other : (r.status ≡ playing → ⊥) → moved_on k r ≡ r

@@ -1,7 +1,7 @@
 // The play record: its status, position and end.
 #![tactic(auto)]
 
-ghost use Rattle.std.specs.Prelude.{◌≡◌, ◌+◌, ltb};
+ghost use Rattle.std.specs.Prelude.{◌≡◌};
 ghost use Rattle.play.specs.Play.{no_play, with_status, is_status, is_play, moved_on};
 
 use address::LAST;
@@ -35,16 +35,11 @@ pub fn no_play() -> Play
 }
 
 // The status is one of the four.
+#[tactic(auto, using(crate::specs::PlayLaws::is_status_tests))]
 fn is_status(status: u8) -> bool
     ensures { result ≡ is_status status }
 {
-    match status {
-        PLAYING => true,
-        PAUSED => true,
-        COMPLETED => true,
-        NONE => true,
-        _ => false,
-    }
+    matches!(status, PLAYING | PAUSED | COMPLETED | NONE)
 }
 
 impl Play {
@@ -52,24 +47,14 @@ impl Play {
     pub fn is_play(self) -> bool
         ensures { result ≡ is_play self }
     {
-        if is_status(self.status) {
-            if self.position <= self.end {
-                return self.end <= LAST;
-            }
-            return false;
-        }
-        false
+        is_status(self.status) && self.position <= self.end && self.end <= LAST
     }
 
     // Another status; position and end stay.
     pub fn with_status(self, status: u8) -> Play
         ensures { result ≡ with_status self status }
     {
-        Play {
-            status,
-            position: self.position,
-            end: self.end,
-        }
+        Play { status, ..self }
     }
 
     // A playing position moves on by k blocks, at most to the end, where it is completed.
@@ -77,29 +62,18 @@ impl Play {
         ensures { result ≡ moved_on k self }
     {
         if self.status == PLAYING {
-            if self.is_short(k) {
-                return Play {
-                    status: PLAYING,
-                    position: self.position + k,
-                    end: self.end,
-                };
-            }
+            let position = self.position.saturating_add(k).min(self.end);
+            let status = if position == self.end {
+                COMPLETED
+            } else {
+                PLAYING
+            };
             return Play {
-                status: COMPLETED,
-                position: self.end,
-                end: self.end,
+                status,
+                position,
+                ..self
             };
         }
         self
-    }
-
-    // k blocks from the position on end before the end.
-    fn is_short(self, k: usize) -> bool
-        ensures { result ≡ ltb (self.position + k) self.end }
-    {
-        if self.position < self.end {
-            return k < self.end - self.position;
-        }
-        false
     }
 }

@@ -61,6 +61,8 @@ unfolding shown
 shown_some [] h = absurd (h refl)
 shown_some (b ∷ s) h = refl
 
+pub ruleset shown_cases = (shown-none, shown_some)
+
 -- ---- lengths
 
 pub hexes-length : (s : List ℕ) → length (hexes s) ≡ 2 * length s

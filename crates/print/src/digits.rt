@@ -19,6 +19,7 @@ fn digit_count(n: u64) -> usize
 {
     let mut k = 1;
     let mut rest = n / 10;
+    // The library has no `ilog10`, and a chain of the tenths is no plainer: `successors(..).take_while(..).count()`.
     while rest > 0 {
         rest /= 10;
         k += 1;
@@ -31,10 +32,8 @@ fn write_digits(n: u64, k: usize, out: &mut [u8])
     requires { k ≤ length out.old }
     ensures { take k out.new ≡ last_digits 10 k n }
 {
-    let mut i = k;
     let mut rest = n;
-    while i > 0 {
-        i -= 1;
+    for i in (0..k).rev() {
         out[i] = b'0' + (rest % 10) as u8;
         rest /= 10;
     }

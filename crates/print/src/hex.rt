@@ -12,9 +12,9 @@ pub fn hex_digit(n: u8) -> u8
 {
     let d = n % 16;
     if d < 10 {
-        return 48 + d;
+        return b'0' + d;
     }
-    55 + d
+    b'A' - 10 + d
 }
 
 // A byte's two digits.
@@ -37,10 +37,11 @@ pub fn put_hexes(bytes: &[u8], out: &mut [u8]) -> usize
 }
 
 // The digits of the bytes, or "-" where there are none.
+#[tactic(auto, using(crate::specs::Hex::shown_cases))]
 pub fn put_shown(bytes: &[u8], out: &mut [u8]) -> usize
     ensures { Laid out.old (shown bytes.now) result out.new }
 {
-    if bytes.len() == 0 {
+    if bytes.is_empty() {
         return copy_front(b"-", out);
     }
     put_hexes(bytes, out)

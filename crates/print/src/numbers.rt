@@ -12,8 +12,7 @@ fn put_mark(i: usize, mark: u8, out: &mut [u8]) -> usize
     if i == 0 {
         return 0;
     }
-    let one = [mark];
-    copy_front(&one, out)
+    copy_front(&[mark], out)
 }
 
 // The number after i others, and the mark before it.

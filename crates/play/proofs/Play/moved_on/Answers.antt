@@ -1,14 +1,19 @@
 -- `play::Play::moved_on` meets its contract: each way out is one law of moving on.
-use mathlib.Core.Path.{sym, ◌∙◌}
-use borrow.Author.Tests.{ltb-true, ltb-false}
+use Rattle.std.proofs.Common.{◌≡◌, ◌+◌, sym, arith}
 use Rattle.play.specs.PlayLaws.{moved_on-other, moved_on-on, moved_on-ends}
 use Rattle.play.proofs.Play.moved_on.Goals as goal
 
-pub returns-then-is_short : goal.returns-then-is_short
-returns-then-is_short c = sym (moved_on-on _ _ c.if-self-eq-PLAYING.true (ltb-true _ _ (sym c.is_short.ensures ∙ c.if-is_short.true)))
+pub returns-then-position-self : goal.returns-then-position-self
+returns-then-position-self c =
+    let r = c.args.self in
+    let e : c.min-position.result ≡ r.end = omega arith in
+    rw e (sym (moved_on-ends _ _ (omega arith) (omega arith)))
 
-pub returns-then-self-eq-PLAYING : goal.returns-then-self-eq-PLAYING
-returns-then-self-eq-PLAYING c = sym (moved_on-ends _ _ c.if-self-eq-PLAYING.true (ltb-false _ _ (sym c.is_short.ensures ∙ c.if-is_short.false)))
+pub returns-else-position-self : goal.returns-else-position-self
+returns-else-position-self c =
+    let r = c.args.self in
+    let e : c.min-position.result ≡ r.position + c.args.k = omega arith in
+    rw e (sym (moved_on-on _ _ (omega arith) (omega arith)))
 
 pub returns : goal.returns
-returns c = sym (moved_on-other _ _ c.if-self-eq-PLAYING.false)
+returns c = sym (moved_on-other _ _ (λ h. omega arith))

@@ -1,6 +1,6 @@
 -- The digits of one byte more are laid behind those before.
 use Rattle.std.proofs.Common.{arith}
-use Rattle.ground.specs.Memory.{laid_none, laid_more, laid-length}
+use Rattle.ground.specs.Memory.{laid_none, laid_more}
 use Rattle.print.specs.Hex.{hexes-none, hexes_more}
 use Rattle.print.proofs.hex.put_hexes.Goals as goal
 

@@ -1,6 +1,6 @@
 -- `print::hex::put_hexes` meets its contract: the digits of the bytes so far are laid, and the next byte's go into the rest that begins
 -- where they ended (`laid_more`).
-use Rattle.std.proofs.Common.{◌≡◌, length, take}
+use Rattle.std.proofs.Common.{take}
 use Rattle.ground.specs.Memory.{Laid}
 use Rattle.print.specs.Hex.{hexes}
 use Rattle.print.proofs.hex.put_hexes.Given as goal
