@@ -47,10 +47,7 @@ impl Deck {
     pub fn is_loaded(self) -> bool
         ensures { result ≡ is_loaded self }
     {
-        if self.tray_open {
-            return false;
-        }
-        self.disc_in
+        !self.tray_open && self.disc_in
     }
 
     // The event after the tray moved: without a disc it stays.
@@ -67,15 +64,12 @@ impl Deck {
     pub fn opening(self) -> Shifted
         ensures { result ≡ opening self }
     {
-        let page = self.page;
         Shifted {
             deck: Deck {
                 tray_open: true,
-                disc_in: self.disc_in,
-                lock: self.lock,
                 play: no_play(),
-                page,
                 event: self.event_moved(OPENED),
+                ..self
             },
             loading: false,
         }
@@ -95,15 +89,12 @@ impl Deck {
     pub fn closing(self) -> Shifted
         ensures { result ≡ closing self }
     {
-        let page = self.page;
         Shifted {
             deck: Deck {
                 tray_open: false,
-                disc_in: self.disc_in,
-                lock: self.lock,
                 play: self.closed_play(),
-                page,
                 event: self.event_moved(LOADED),
+                ..self
             },
             loading: self.disc_in,
         }
@@ -113,88 +104,42 @@ impl Deck {
     pub fn restarted(self) -> Deck
         ensures { result ≡ restarted self }
     {
-        let play = no_play();
-        let page = defaults();
         Deck {
-            tray_open: self.tray_open,
-            disc_in: self.disc_in,
             lock: false,
-            play,
-            page,
+            play: no_play(),
+            page: defaults(),
             event: NO_EVENT,
+            ..self
         }
     }
 
     pub fn with_disc(self, disc_in: bool) -> Deck
         ensures { result ≡ with_disc self disc_in }
     {
-        let play = self.play;
-        let page = self.page;
-        Deck {
-            tray_open: self.tray_open,
-            disc_in,
-            lock: self.lock,
-            play,
-            page,
-            event: self.event,
-        }
+        Deck { disc_in, ..self }
     }
 
     pub fn with_lock(self, lock: bool) -> Deck
         ensures { result ≡ with_lock self lock }
     {
-        let play = self.play;
-        let page = self.page;
-        Deck {
-            tray_open: self.tray_open,
-            disc_in: self.disc_in,
-            lock,
-            play,
-            page,
-            event: self.event,
-        }
+        Deck { lock, ..self }
     }
 
     pub fn with_play(self, play: Play) -> Deck
         ensures { result ≡ with_play self play }
     {
-        let page = self.page;
-        Deck {
-            tray_open: self.tray_open,
-            disc_in: self.disc_in,
-            lock: self.lock,
-            play,
-            page,
-            event: self.event,
-        }
+        Deck { play, ..self }
     }
 
     pub fn with_page(self, page: Page) -> Deck
         ensures { result ≡ with_page self page }
     {
-        let play = self.play;
-        Deck {
-            tray_open: self.tray_open,
-            disc_in: self.disc_in,
-            lock: self.lock,
-            play,
-            page,
-            event: self.event,
-        }
+        Deck { page, ..self }
     }
 
     pub fn with_event(self, event: u8) -> Deck
         ensures { result ≡ with_event self event }
     {
-        let play = self.play;
-        let page = self.page;
-        Deck {
-            tray_open: self.tray_open,
-            disc_in: self.disc_in,
-            lock: self.lock,
-            play,
-            page,
-            event,
-        }
+        Deck { event, ..self }
     }
 }

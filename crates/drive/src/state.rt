@@ -37,26 +37,19 @@ impl Drive {
     pub fn is_known_state(self) -> bool
         ensures { result ≡ is_known_state self }
     {
-        if is_known(self.unit.sense) {
-            if self.deck.play.is_play() {
-                if is_setting(self.deck.page.recovery) {
-                    return is_event(self.deck.event);
-                }
-                return false;
-            }
-            return false;
-        }
-        false
+        is_known(self.unit.sense)
+            && self.deck.play.is_play()
+            && is_setting(self.deck.page.recovery)
+            && is_event(self.deck.event)
     }
 
     // The state after the tray moved.
     pub fn shift(self, s: Shifted) -> Drive
         ensures { result ≡ shift self s }
     {
-        let deck = s.deck;
         Drive {
             unit: self.unit.attend(s.loading),
-            deck,
+            deck: s.deck,
         }
     }
 
@@ -89,64 +82,57 @@ impl Drive {
     pub fn button(self) -> Moved
         ensures { result ≡ button self }
     {
-        if self.is_known_state() {
-            if self.deck.tray_open {
-                return moves(self.shift(self.deck.closing()));
-            }
-            if self.deck.lock {
-                return refuse(LOCKED, self.with_deck(self.deck.with_event(PRESSED)));
-            }
-            return moves(self.shift(self.deck.opening()));
+        if !self.is_known_state() {
+            return refuse(UNKNOWN_STATE, self);
         }
-        refuse(UNKNOWN_STATE, self)
+        if self.deck.tray_open {
+            return moves(self.shift(self.deck.closing()));
+        }
+        if self.deck.lock {
+            return refuse(LOCKED, self.with_deck(self.deck.with_event(PRESSED)));
+        }
+        moves(self.shift(self.deck.opening()))
     }
 
     pub fn lay(self) -> Moved
         ensures { result ≡ lay self }
     {
-        if self.is_known_state() {
-            if self.deck.tray_open {
-                if self.deck.disc_in {
-                    return refuse(CANNOT_LAY, self);
-                }
-                return moves(self.with_deck(self.deck.with_disc(true)));
-            }
+        if !self.is_known_state() {
+            return refuse(UNKNOWN_STATE, self);
+        }
+        if !self.deck.tray_open || self.deck.disc_in {
             return refuse(CANNOT_LAY, self);
         }
-        refuse(UNKNOWN_STATE, self)
+        moves(self.with_deck(self.deck.with_disc(true)))
     }
 
     pub fn lift(self) -> Moved
         ensures { result ≡ lift self }
     {
-        if self.is_known_state() {
-            if self.deck.tray_open {
-                if self.deck.disc_in {
-                    return moves(self.with_deck(self.deck.with_disc(false)));
-                }
-                return refuse(CANNOT_LIFT, self);
-            }
+        if !self.is_known_state() {
+            return refuse(UNKNOWN_STATE, self);
+        }
+        if !self.deck.tray_open || !self.deck.disc_in {
             return refuse(CANNOT_LIFT, self);
         }
-        refuse(UNKNOWN_STATE, self)
+        moves(self.with_deck(self.deck.with_disc(false)))
     }
 
     // A playing position moves on by k blocks.
     pub fn move_on(self, k: usize) -> Moved
         ensures { result ≡ move_on k self }
     {
-        if self.is_known_state() {
-            return moves(self.with_deck(self.deck.with_play(self.deck.play.moved_on(k))));
+        if !self.is_known_state() {
+            return refuse(UNKNOWN_STATE, self);
         }
-        refuse(UNKNOWN_STATE, self)
+        moves(self.with_deck(self.deck.with_play(self.deck.play.moved_on(k))))
     }
 
     // The state with that deck; the attention unit stays.
     fn with_deck(self, deck: Deck) -> Drive
         ensures { result ≡ with_deck self deck }
     {
-        let unit = self.unit;
-        Drive { unit, deck }
+        Drive { deck, ..self }
     }
 }
 

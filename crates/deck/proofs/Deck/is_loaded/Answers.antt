@@ -2,10 +2,10 @@
 use Rattle.ground.specs.Tests.{◌and◌}
 use Rattle.deck.proofs.Deck.is_loaded.Goals as goal
 
-pub returns-then-self : goal.returns-then-self
+pub returns-then-not-self : goal.returns-then-not-self
 unfolding ◌and◌
-returns-then-self c = rw c.if-self.true
+returns-then-not-self c = rw c.if-not-self.true
 
-pub returns : goal.returns
+pub returns-else-not-self : goal.returns-else-not-self
 unfolding ◌and◌
-returns c = rw c.if-self.false
+returns-else-not-self c = rw c.if-not-self.false

@@ -2,4 +2,4 @@
 use Rattle.deck.proofs.Deck.restarted.Goals as goal
 
 pub returns : goal.returns
-returns c = rw (c.no_play-play.ensures, c.defaults-page.ensures)
+returns c = rw (c.no_play.ensures, c.defaults.ensures)

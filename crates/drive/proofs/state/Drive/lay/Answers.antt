@@ -1,20 +1,27 @@
 -- `drive::state::Drive::lay` meets its contract: each way out is one case of the laws of laying.
 use mathlib.Core.Path.{sym, ap, ◌∙◌}
+use borrow.Author.Tests.{not-true, not-false}
 use Rattle.drive.specs.State.{with_deck, moves}
 use Rattle.drive.specs.StateLaws.{lay-full, lay-lays, lay-closed, lay-unknown}
 use Rattle.drive.proofs.state.Drive.lay.Goals as goal
+use Rattle.drive.proofs.state.Drive.lay.Goals.{then-not-self-via-then-not-self, then-not-self-via-else-not-self+then-self}
 
-pub returns-then-self-2 : goal.returns-then-self-2
-returns-then-self-2 c = let d = c.args.self in c.refuse.ensures ∙ sym (lay-full d (sym c.is_known_state.ensures ∙ c.if-is_known_state.true) c.if-self.true c.if-self-2.true)
+pub returns-then-not-is_known_state : goal.returns-then-not-is_known_state
+returns-then-not-is_known_state c =
+    c.refuse.ensures ∙ sym (lay-unknown _ (sym c.is_known_state.ensures ∙ c.if-not-is_known_state.true))
 
-pub returns-then-self : goal.returns-then-self
-returns-then-self c = let d = c.args.self in
-    c.moves.ensures
-    ∙ ap moves (c.with_deck.ensures ∙ ap (with_deck d) c.with_disc.ensures)
-    ∙ sym (lay-lays d (sym c.is_known_state.ensures ∙ c.if-is_known_state.true) c.if-self.true c.if-self-2.false)
-
-pub returns-then-is_known_state : goal.returns-then-is_known_state
-returns-then-is_known_state c = let d = c.args.self in c.refuse-then-is_known_state.ensures ∙ sym (lay-closed d (sym c.is_known_state.ensures ∙ c.if-is_known_state.true) c.if-self.false)
+pub returns-then-not-self : goal.returns-then-not-self
+returns-then-not-self c =
+    let d = c.args.self in
+    let k = sym c.is_known_state.ensures ∙ c.if-not-is_known_state.false in
+    c.refuse-then-not-self.ensures ∙ (elim c.then-not-self.branch [
+      | then-not-self-via-then-not-self w ↦ sym (lay-closed d k (not-true _ w.if-not-self.true))
+      | then-not-self-via-else-not-self+then-self w ↦ sym (lay-full d k (not-false _ w.if-not-self.false) w.if-self.true)
+    ])
 
 pub returns : goal.returns
-returns c = let d = c.args.self in c.refuse-2.ensures ∙ sym (lay-unknown d (sym c.is_known_state.ensures ∙ c.if-is_known_state.false))
+returns c =
+    let d = c.args.self in
+    c.moves.ensures
+    ∙ ap moves (c.with_deck.ensures ∙ ap (with_deck d) c.with_disc.ensures)
+    ∙ sym (lay-lays d (sym c.is_known_state.ensures ∙ c.if-not-is_known_state.false) (not-false _ c.if-not-self.false) c.if-self.false)

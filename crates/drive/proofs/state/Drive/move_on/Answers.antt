@@ -5,12 +5,14 @@ use Rattle.drive.specs.State.{with_deck, moves}
 use Rattle.drive.specs.StateLaws.{move_on-moves, move_on-unknown}
 use Rattle.drive.proofs.state.Drive.move_on.Goals as goal
 
-pub returns-then-is_known_state : goal.returns-then-is_known_state
-returns-then-is_known_state c = let d = c.args.self in
+pub returns-then-not-is_known_state : goal.returns-then-not-is_known_state
+returns-then-not-is_known_state c =
+    c.refuse.ensures ∙ sym (move_on-unknown _ _ (sym c.is_known_state.ensures ∙ c.if-not-is_known_state.true))
+
+pub returns : goal.returns
+returns c =
+    let d = c.args.self in
     let p = c.with_play.ensures ∙ ap (with_play d.deck) c.moved_on.ensures in
     c.moves.ensures
     ∙ ap moves (c.with_deck.ensures ∙ ap (with_deck d) p)
-    ∙ sym (move_on-moves d (sym c.is_known_state.ensures ∙ c.if-is_known_state.true) _)
-
-pub returns : goal.returns
-returns c = c.refuse.ensures ∙ sym (move_on-unknown _ _ (sym c.is_known_state.ensures ∙ c.if-is_known_state.false))
+    ∙ sym (move_on-moves d (sym c.is_known_state.ensures ∙ c.if-not-is_known_state.false) _)
