@@ -1,3 +1,4 @@
 pub mod Tests
 pub mod Number
 pub mod Memory
+pub mod TestValues
