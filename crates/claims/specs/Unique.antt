@@ -1,6 +1,6 @@
 -- "For any input a public function's promise leaves one possible result, one next state and one content of each lent memory, refusals as well."
 -- A law for each public function, by its name: two results that meet its promise are equal.
-use Rattle.std.specs.Prelude.{◌≡◌, refl, Bool, List, ℕ, ◌≤◌, ◌<◌, min, length, take, get_or, Result, Ok, Err}
+use Rattle.std.specs.Prelude.{◌≡◌, refl, Bool, Option, Some, None, Result, Ok, Err, List, ℕ, ◌≤◌, ◌<◌, min, length, take, get_or}
 use Rattle.std.proofs.Common.{sym, ap, ◌∙◌, arith}
 use Rattle.std.specs.Borrow.{Bor}
 use denote.Slice.{shr_slice_vals}
@@ -31,8 +31,9 @@ use Rattle.gate.specs.Fault.{sense_of}
 use Rattle.gate.specs.Unit.{hold, clear, pending_of, told, attention_sense, give}
 use Rattle.tracks.specs.declared.track.Track.{Track}
 use Rattle.disc.specs.declared.disc.Disc.{Disc}
-use Rattle.disc.specs.declared.disc.Reading.{Reading}
+use Rattle.disc.specs.declared.disc.Unfit.{Unfit}
 use Rattle.disc.specs.declared.part.Refusal.{Refusal}
+use Rattle.disc.specs.declared.part.Refusal.TheVariants as refusal
 use Rattle.table.specs.declared.row.Row.{Row}
 use Rattle.table.specs.Layout.{descriptors, is_track, is_extra}
 use Rattle.table.specs.Row.{row_of, frames_of, start_of, row_test}
@@ -40,10 +41,10 @@ use Rattle.table.specs.Asked.{kept, a0_kept, a1_kept, extra_kept, climbs, holds}
 use Rattle.sessions.specs.declared.session.Session.{Session}
 use Rattle.sessions.specs.Session.{size, starts, read_session}
 use Rattle.disc.specs.Rules.{fault}
-use Rattle.disc.specs.Part.{PartOf, part_refused, part_start, part_size}
+use Rattle.disc.specs.Part.{PartOf, Ruled, part_refused, refusal_meaning, part_start, part_size}
 use Rattle.tracks.specs.declared.track.Mode.{Mode}
 use Rattle.tracks.specs.Track.{is_data, track_of, track_numbered, run_is}
-use Rattle.disc.specs.Disc.{reading}
+use Rattle.disc.specs.Disc.{unfit_by, reading}
 use Rattle.command.specs.declared.decode.Command.{Command}
 use Rattle.command.specs.declared.decode.Kind.{Kind}
 use Rattle.command.specs.declared.done.Went.{Went}
@@ -335,15 +336,28 @@ unique-starts-after d n r s = value_once
 pub unique-fault : (t : List ℕ) (r s : ℕ) → r ≡ fault t → s ≡ fault t → r ≡ s
 unique-fault t r s = value_once
 
-pub unique-session-refusal : (t : List ℕ) (k : ℕ) (r s : Refusal) → r ≡ part_refused t k → s ≡ part_refused t k → r ≡ s
-unique-session-refusal t k r s = value_once
+-- the refusal, or that there is none, through the number and the rule
+refusal_injective : (r s : Option Refusal) → refusal_meaning r ≡ refusal_meaning s → r ≡ s
+refusal_injective None None e = refl
+refusal_injective None (Some (refusal.Unfit v)) e = let z : ◌≡◌ {A = ℕ} 0 4 = ap (λ (x : Ruled). x.number) e in absurd (omega arith)
+refusal_injective None (Some refusal.NoSession) e = let z : ◌≡◌ {A = ℕ} 0 10 = ap (λ (x : Ruled). x.number) e in absurd (omega arith)
+refusal_injective (Some (refusal.Unfit u)) None e = let z : ◌≡◌ {A = ℕ} 4 0 = ap (λ (x : Ruled). x.number) e in absurd (omega arith)
+refusal_injective (Some (refusal.Unfit u)) (Some (refusal.Unfit v)) e = ap (λ (n : ℕ). Some (refusal.Unfit (unfit_by n))) (ap (λ (x : Ruled). x.rule) e)
+refusal_injective (Some (refusal.Unfit u)) (Some refusal.NoSession) e = let z : ◌≡◌ {A = ℕ} 4 10 = ap (λ (x : Ruled). x.number) e in absurd (omega arith)
+refusal_injective (Some refusal.NoSession) None e = let z : ◌≡◌ {A = ℕ} 10 0 = ap (λ (x : Ruled). x.number) e in absurd (omega arith)
+refusal_injective (Some refusal.NoSession) (Some (refusal.Unfit v)) e = let z : ◌≡◌ {A = ℕ} 10 4 = ap (λ (x : Ruled). x.number) e in absurd (omega arith)
+refusal_injective (Some refusal.NoSession) (Some refusal.NoSession) e = refl
+
+pub unique-session-refusal :
+    (t : List ℕ) (k : ℕ) (r s : Option Refusal) → refusal_meaning r ≡ part_refused t k → refusal_meaning s ≡ part_refused t k → r ≡ s
+unique-session-refusal t k r s p q = refusal_injective r s (value_once p q)
 
 pub unique_session_part :
     (t r s : Bor (List ℕ)) (k : ℕ)
     → PartOf t r (part_start t.now k) (part_size t.now k) → PartOf t s (part_start t.now k) (part_size t.now k) → shr_slice_vals r ≡ shr_slice_vals s
 unique_session_part t r s k = part_once
 
-pub unique-read : (t : List ℕ) (r s : Reading) → r ≡ reading t → s ≡ reading t → r ≡ s
+pub unique-read : (t : List ℕ) (r s : Result Disc Unfit) → r ≡ reading t → s ≡ reading t → r ≡ s
 unique-read t r s = value_once
 
 -- ---- tracks

@@ -1,13 +1,12 @@
 -- What commands need of a fit table.
-use Rattle.std.specs.Prelude.{ℕ, ◌-◌, List}
+use Rattle.std.specs.Prelude.{ℕ, ◌-◌, List, Result, Ok, Err}
 use Rattle.ground.specs.Tests.{choose◌then◌else◌}
 use Rattle.table.specs.Layout.{last_session, descriptors, flags_at, point_at}
 use Rattle.table.specs.Row.{address_at}
 use Rattle.sessions.specs.Session.{first, last, session}
 use Rattle.disc.specs.Rules.{session_lead_out, fault, is_fit}
 use Rattle.disc.specs.declared.disc.Disc.{Disc}
-use Rattle.disc.specs.declared.disc.Reading.{Reading}
-use Rattle.disc.specs.declared.disc.Reading.TheVariants.{Fit, Unfit}
+use Rattle.disc.specs.declared.disc.Unfit.{Unfit}
 
 -- the last session, from its A0 descriptor on
 abbrev pub last_part : List ℕ → List ℕ
@@ -31,6 +30,10 @@ disc_from n d = record {
 abbrev pub disc_of : List ℕ → Disc
 disc_of t = disc_from (last_session t) (descriptors t)
 
+-- a table that is not fit, by the number of the first broken rule
+abbrev pub unfit_by : ℕ → Unfit
+unfit_by rule = record { rule = rule }
+
 -- a lent table is read: the disc of a fit one, else the number of the first broken rule
-unfoldable pub reading : List ℕ → Reading
-reading t = choose is_fit t then Fit (disc_of t) else Unfit (fault t)
+unfoldable pub reading : List ℕ → Result Disc Unfit
+reading t = choose is_fit t then Ok (disc_of t) else Err (unfit_by (fault t))

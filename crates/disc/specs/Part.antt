@@ -1,11 +1,12 @@
 -- "A caller may ask for a session: its descriptors are shown as that part of the lent table itself, uncopied."
-use Rattle.std.specs.Prelude.{◌≡◌, ℕ, ◌+◌, ◌-◌, List, take, drop, leb, eqb}
+use Rattle.std.specs.Prelude.{◌≡◌, Option, Some, None, ℕ, ◌+◌, ◌-◌, List, take, drop, leb, eqb}
 use Rattle.std.specs.Borrow.{Bor}
 use Rattle.ground.specs.Tests.{◌and◌, choose◌then◌else◌}
 use Rattle.table.specs.Layout.{header, descriptors, last_session}
 use Rattle.sessions.specs.Session.{size, starts, session}
 use Rattle.disc.specs.Rules.{fault, is_fit}
 use Rattle.disc.specs.declared.part.Refusal.{Refusal}
+use Rattle.disc.specs.declared.part.Refusal.TheVariants as refusal
 
 abbrev pub unfit : ℕ
 unfit = 4
@@ -22,12 +23,22 @@ unfoldable pub rule_with : ℕ → List ℕ → ℕ
 rule_with number t = choose eqb number unfit then fault t else 0
 
 -- a number and the rule beside it
-abbrev pub refusal_with : ℕ → ℕ → Refusal
+pub record Ruled : Type 0 where
+  pub number : ℕ
+  pub rule : ℕ
+
+abbrev pub refusal_with : ℕ → ℕ → Ruled
 refusal_with number rule = record { number = number; rule = rule }
 
 -- what the caller is told who asks for it apart
-unfoldable pub part_refused : List ℕ → ℕ → Refusal
+unfoldable pub part_refused : List ℕ → ℕ → Ruled
 part_refused t k = refusal_with (part_refusal t k) (rule_with (part_refusal t k) t)
+
+-- the number and the rule that a refusal stands for; 0 and 0 where there is none
+abbrev pub refusal_meaning : Option Refusal → Ruled
+refusal_meaning None = refusal_with 0 0
+refusal_meaning (Some (refusal.Unfit u)) = refusal_with unfit u.rule
+refusal_meaning (Some refusal.NoSession) = refusal_with no_session 0
 
 -- where the part begins and how long it is: exactly the session's descriptors, or empty at 0
 unfoldable pub part_start : List ℕ → ℕ → ℕ

@@ -1,5 +1,5 @@
 -- The laws of a session's part: when it is given, that it is never empty then, and which rule stands beside its refusal.
-use Rattle.std.specs.Prelude.{◌≡◌, refl, Bool, true, false, List, ℕ, ◌+◌, ◌-◌, ◌≤◌, length, take, drop, leb}
+use Rattle.std.specs.Prelude.{◌≡◌, refl, Bool, true, false, Option, Some, None, is_some, List, ℕ, ◌+◌, ◌-◌, ◌≤◌, length, take, drop, leb}
 use Rattle.std.proofs.Common.{sym, ap, ◌∙◌, arith, le-leb, leb-true, eq-eqb, ne_eqb}
 use Rattle.ground.specs.Memory.{rest_all}
 use Rattle.ground.specs.Tests.{◌and◌, and_head, and_tail, and_both, when, unless}
@@ -7,8 +7,9 @@ use Rattle.table.specs.Layout.{header, descriptors, last_session}
 use Rattle.sessions.specs.Session.{size, starts, session}
 use Rattle.disc.specs.Rules.{fault, is_fit}
 use Rattle.disc.specs.RulesLaws.{Fit, is_fit_true, fit-is_fit, fit-least}
-use Rattle.disc.specs.Part.{unfit, no_session, part_refusal, rule_with, refusal_with, part_refused, part_start, part_size}
+use Rattle.disc.specs.Part.{unfit, no_session, part_refusal, rule_with, Ruled, refusal_with, part_refused, refusal_meaning, part_start, part_size}
 use Rattle.disc.specs.declared.part.Refusal.{Refusal}
+use Rattle.disc.specs.declared.part.Refusal.TheVariants as refusal
 
 -- the part of session k is given: the table is fit, and it has the session
 pub record Given (t : List ℕ) (k : ℕ) : Type 0 where
@@ -57,9 +58,19 @@ pub part_refused_4 : (t : List ℕ) (k : ℕ) → is_fit t ≡ false → refusal
 unfolding part_refusal
 part_refused_4 t k h = part_refused_by t k (unless _ _ _ h) (rule_with-fault t)
 
-pub part_refused_number : (t : List ℕ) (k : ℕ) {r : Refusal} → r ≡ part_refused t k → r.number ≡ part_refusal t k
+pub part_refused_number : (t : List ℕ) (k : ℕ) {r : Ruled} → r ≡ part_refused t k → r.number ≡ part_refusal t k
 unfolding part_refused
-part_refused_number t k e = ap (λ (x : Refusal). x.number) e
+part_refused_number t k e = ap (λ (x : Ruled). x.number) e
+
+-- what no refusal stands for, and any
+pub refusal_none : (r : Option Refusal) → false ≡ is_some r → (refusal_meaning r).number ≡ 0
+refusal_none None h = refl
+refusal_none (Some r) h = cc
+
+pub refusal_some : (r : Option Refusal) → true ≡ is_some r → (refusal_meaning r).number ≡ 0 → ⊥
+refusal_some None h e = cc
+refusal_some (Some (refusal.Unfit u)) h e = omega arith
+refusal_some (Some refusal.NoSession) h e = omega arith
 
 -- ---- the part
 

@@ -1,14 +1,15 @@
 -- What one walk over the descriptors asks of each, in the order in which it passes them: WalkFit shows that this is fitness.
-use Rattle.std.specs.Prelude.{ℕ, zero, suc, ◌+◌, ◌*◌, Bool, List, length, leb, eqb}
+use Rattle.std.specs.Prelude.{ℕ, zero, suc, ◌+◌, ◌*◌, Bool, List, length, leb, eqb, Option, Some, None, Result, Ok, Err}
 use Rattle.ground.specs.Tests.{◌and◌, every, choose◌then◌else◌}
 use Rattle.table.specs.Layout.{row, A2, B0, C0}
 use Rattle.table.specs.Row.{row_from, row_at, frames_at}
 use Rattle.table.specs.Asked.{kept, a0_kept, a1_kept, extra_kept, extra_passed, climbs, holds}
 use Rattle.sessions.specs.Session.{first, last, tracks, b0s, size, starts, session}
 use Rattle.disc.specs.Rules.{first_broken, row_rules}
-use Rattle.disc.specs.Disc.{disc_from}
-use Rattle.disc.specs.declared.disc.Reading.{Reading}
-use Rattle.disc.specs.declared.disc.Reading.TheVariants.{Fit, Unfit}
+use Rattle.std.specs.Option.{option_and_then}
+use Rattle.disc.specs.Disc.{disc_from, unfit_by}
+use Rattle.disc.specs.declared.disc.Disc.{Disc}
+use Rattle.disc.specs.declared.disc.Unfit.{Unfit}
 
 -- all that is asked of A0, A1 and A2 of session k
 unfoldable pub heads_kept : List ℕ → ℕ → Bool
@@ -27,9 +28,9 @@ track_kept d k f floor i = kept (row_at d (3 + i)) k (f + i) and climbs (row_at 
 unfoldable pub tracks_kept : List ℕ → ℕ → ℕ → ℕ → ℕ → Bool
 tracks_kept d k f n floor = every n (track_kept d k f floor) and holds (row_at d 2) (floor_at d floor n)
 
--- where the tracks end; 0 where they are not kept
-unfoldable pub tracks_end : List ℕ → ℕ → ℕ → ℕ → ℕ → ℕ
-tracks_end d k f n floor = choose tracks_kept d k f n floor then row * (3 + n) else 0
+-- where the tracks end; nowhere if they are not kept
+unfoldable pub tracks_end : List ℕ → ℕ → ℕ → ℕ → ℕ → Option ℕ
+tracks_end d k f n floor = choose tracks_kept d k f n floor then Some (row * (3 + n)) else None
 
 -- all that is asked of the B0h and the C0h that may stand past the tracks
 unfoldable pub extras_kept : List ℕ → ℕ → Bool
@@ -41,17 +42,17 @@ session_kept k d floor =
     leb (size d) (length d) and leb 1 (first d) and leb (first d) (last d) and leb (last d) 99
     and heads_kept d k and tracks_kept d k (first d) (tracks d) floor and extras_kept d k
 
--- where a descriptor with POINT p ends that may stand at byte `at`: past it if it is kept, there if there is none, 0 if it is not kept
-unfoldable pub extra_end : List ℕ → ℕ → ℕ → ℕ → ℕ
-extra_end d k at p = choose eqb (row_from d at).point p then (choose extra_kept (row_from d at) k then at + row else 0) else at
+-- where a descriptor with POINT p ends that may stand at byte `at`: past it if it is kept, there if there is none, nowhere if it is not kept
+unfoldable pub extra_end : List ℕ → ℕ → ℕ → ℕ → Option ℕ
+extra_end d k at p = choose eqb (row_from d at).point p then (choose extra_kept (row_from d at) k then Some (at + row) else None) else Some at
 
 -- where a B0h and then a C0h end
-unfoldable pub extras_end : List ℕ → ℕ → ℕ → ℕ
-extras_end d k at = choose eqb (extra_end d k at B0) 0 then 0 else extra_end d k (extra_end d k at B0) C0
+unfoldable pub extras_end : List ℕ → ℕ → ℕ → Option ℕ
+extras_end d k at = option_and_then (λ b. extra_end d k b C0) (extra_end d k at B0)
 
--- where the session ends that d begins with: 0 where it is not kept, or does not begin with track `next`
-unfoldable pub session_end : ℕ → List ℕ → ℕ → ℕ → ℕ
-session_end k d next floor = choose session_kept k d floor and eqb (first d) next then size d else 0
+-- where the session ends that d begins with: nowhere if it is not kept, or does not begin with track `next`
+unfoldable pub session_end : ℕ → List ℕ → ℕ → ℕ → Option ℕ
+session_end k d next floor = choose session_kept k d floor and eqb (first d) next then Some (size d) else None
 
 -- the least frame at which the session after k others may start: past the lead-out before it, and 00:02:00 where there is none
 unfoldable pub floor_of : List ℕ → ℕ → ℕ
@@ -72,5 +73,5 @@ unfoldable pub walk_kept : ℕ → List ℕ → Bool
 walk_kept n d = every n (step_kept d) and eqb (starts d n) (length d)
 
 -- what the walk over the descriptors of n sessions answers: their disc, or the first broken rule of 3 to 7
-unfoldable pub rows_reading : ℕ → List ℕ → Reading
-rows_reading n d = choose walk_kept n d then Fit (disc_from n d) else Unfit (first_broken 3 (row_rules n d))
+unfoldable pub rows_reading : ℕ → List ℕ → Result Disc Unfit
+rows_reading n d = choose walk_kept n d then Ok (disc_from n d) else Err (unfit_by (first_broken 3 (row_rules n d)))

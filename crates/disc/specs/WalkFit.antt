@@ -1,5 +1,5 @@
 -- The one walk decides fitness: a walk that is kept keeps rules 3 to 7, and that of a fit table is kept.
-use Rattle.std.specs.Prelude.{◌≡◌, Bool, true, false, List, ◌∷◌, eqb, length}
+use Rattle.std.specs.Prelude.{◌≡◌, Bool, true, false, List, ◌∷◌, eqb, length, Err}
 use Rattle.std.proofs.Math.Path.{refl}
 use Rattle.std.proofs.Common.{sym, ap, ◌∙◌, add-one}
 use Prim.Native.Nat.{ℕ, zero, suc, ◌+◌, ◌-◌, ◌≤◌, ◌<◌}
@@ -16,9 +16,8 @@ use Rattle.disc.specs.Rules.{rule1, rule2, each_row, session_lead_out, track_sta
 use Rattle.disc.specs.RulesLaws.{first_broken_on, first_broken_off, Fit, same_test, is_fit_true, fit-is_fit, fit-places, fit-end, fit-session}
 use Rattle.disc.specs.FitLaws.{row_at-session, locate, session-none, fit-listed, fit-rule, fit-range, fit-rises, fit-begins}
 use Rattle.disc.specs.Walk.{floor_at, floor_of, next_of, step_kept, walk_kept, rows_reading}
-use Rattle.disc.specs.Disc.{reading}
+use Rattle.disc.specs.Disc.{unfit_by, reading}
 use Rattle.disc.specs.DiscLaws.{reading_broken}
-use Rattle.disc.specs.declared.disc.Reading.TheVariants.{Unfit}
 use Rattle.disc.specs.WalkLaws.{floor_at-next, Sound, session_kept-sound, sound-session_kept, sound-lead, sound-headed, sound-addressed, sound-rises}
 
 -- ---- the track with which a session begins
@@ -179,10 +178,10 @@ reading_walk t h g =
     (first_broken_on 2 _ (row_rules (last_session t) (descriptors t)) g refl) in
     rw (walk_fit t h g, e)
 
-pub reading_1 : (t : List ℕ) → rule1 t ≡ false → Unfit 1 ≡ reading t
+pub reading_1 : (t : List ℕ) → rule1 t ≡ false → Err (unfit_by 1) ≡ reading t
 unfolding fault
 reading_1 t h = reading_broken t (first_broken_off 1 _ _ h) (omega arith)
 
-pub reading_2 : (t : List ℕ) → rule1 t ≡ true → rule2 t ≡ false → Unfit 2 ≡ reading t
+pub reading_2 : (t : List ℕ) → rule1 t ≡ true → rule2 t ≡ false → Err (unfit_by 2) ≡ reading t
 unfolding fault
 reading_2 t h g = reading_broken t (first_broken_on 1 _ _ h (first_broken_off 2 _ _ g)) (omega arith)

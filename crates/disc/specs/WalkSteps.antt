@@ -1,10 +1,11 @@
 -- The walk step by step, for the code: over a session's tracks, its B0h and C0h, and the sessions, and the rules from where it stops.
-use Rattle.std.specs.Prelude.{◌≡◌, Bool, true, false, List, ℕ, zero, suc, ◌+◌, ◌-◌, ◌*◌, ◌%◌, ◌≤◌, ◌<◌, length, get_or, drop, eqb}
+use Rattle.std.specs.Prelude.{◌≡◌, Bool, true, false, Option, Some, None, Ok, Err, List, ℕ, zero, suc, ◌+◌, ◌-◌, ◌*◌, ◌%◌, ◌≤◌, ◌<◌, length, get_or, take, drop, eqb}
 use Rattle.std.proofs.Math.Path.{refl, sym, ap}
 use Rattle.std.proofs.Common.{◌∙◌, add-one, add-zero, le-leb, eq-eqb, eqb-true, ne_eqb, length-drop, drop-drop}
 use native.Mathlib.Omega.{arith}
 use Rattle.std.proofs.Math.Decide.{ℕ_discrete}
 use Rattle.std.proofs.Math.ListN.{get_or-eq_default}
+use Rattle.ground.specs.Memory.{rest_all}
 use Rattle.ground.specs.Tests.{◌and◌, choose◌then◌else◌, when, unless, every, and_on, and_off, and_late, and_both, and_head, and_tail, and_with, every-none, every_more, every-breaks}
 use Rattle.table.specs.Layout.{row, point_at, B0, C0}
 use Rattle.table.specs.Row.{row_from, row_at, frames_of, frames_at, names}
@@ -17,12 +18,12 @@ use Rattle.sessions.specs.SessionLaws.{IsSession, is_session_parts, one_is, one_
 use Rattle.disc.specs.Rules.{each_row, out_before, first_broken, row_rules}
 use Rattle.disc.specs.RulesLaws.{each_row-rest, Risen}
 use Rattle.disc.specs.FitLaws.{session-none}
-use Rattle.disc.specs.Disc.{disc_from}
+use Rattle.std.specs.Option.{option_and_then}
+use Rattle.disc.specs.Disc.{disc_from, unfit_by}
 use Rattle.disc.specs.Walk.{heads_kept, floor_at, track_kept, tracks_kept, tracks_end, extras_kept, session_kept, extra_end, extras_end, session_end, floor_of, next_of, step_kept, walk_kept, rows_reading}
 use Rattle.disc.specs.WalkLaws.{floor_at-next, floor_of-next, session_kept-sound}
 use Rattle.disc.specs.WalkFit.{next-follows, kept_rule, kept-places, kept-rising}
 use Rattle.disc.specs.declared.disc.Disc.{Disc}
-use Rattle.disc.specs.declared.disc.Reading.TheVariants.{Fit, Unfit}
 
 -- ---- a session's tracks
 
@@ -69,42 +70,42 @@ module _ {d : List ℕ} {k f l floor p at low : ℕ} (c : Climbed d k f l floor 
       }
 
   -- the first track that fails decides
-  climbed-fails : p ≤ l → track_kept d k f floor (p - f) ≡ false → 0 ≡ tracks_end d k f (l + 1 - f) floor
+  climbed-fails : p ≤ l → track_kept d k f floor (p - f) ≡ false → None ≡ tracks_end d k f (l + 1 - f) floor
   unfolding tracks_end tracks_kept
   climbed-fails i h =
       let o = c.order in
       sym (unless _ _ _ (sym (and_off _ _ (sym (every-breaks (l + 1 - f) (track_kept d k f floor) (p - f) (omega arith) h)))))
 
-  pub climbed-off : {r : Row} → p ≤ l → r ≡ row_from d at → kept r k p ≡ false → 0 ≡ tracks_end d k f (l + 1 - f) floor
+  pub climbed-off : {r : Row} → p ≤ l → r ≡ row_from d at → kept r k p ≡ false → None ≡ tracks_end d k f (l + 1 - f) floor
   unfolding track_kept
   climbed-off i e h = climbed-fails i (sym (and_off _ _ (next-kept e h)))
 
-  pub climbed-out : {r : Row} → p ≤ l → r ≡ row_from d at → climbs r low ≡ false → 0 ≡ tracks_end d k f (l + 1 - f) floor
+  pub climbed-out : {r : Row} → p ≤ l → r ≡ row_from d at → climbs r low ≡ false → None ≡ tracks_end d k f (l + 1 - f) floor
   unfolding track_kept
   climbed-out i e h = climbed-fails i (sym (and_late _ _ (sym (rw (next_row e, c.least) at h))))
 
   -- past the end stands no descriptor of session k
-  pub climbed-short : p ≤ l → length d ≤ at → 1 ≤ k → 0 ≡ tracks_end d k f (l + 1 - f) floor
+  pub climbed-short : p ≤ l → length d ≤ at → 1 ≤ k → None ≡ tracks_end d k f (l + 1 - f) floor
   unfolding kept names
   climbed-short i w g =
       climbed-off i refl (sym (and_off _ _ (sym (and_off _ _ (ne_eqb (get_or d at 0) k
       (λ e. let z = get_or-eq_default d 0 {n = at} w in omega arith))))))
 
   -- all are passed: what is left to test is the lead-out
-  pub climbed-end : l < p → {b : Bool} → holds (row_at d 2) low ≡ b → (choose b then at else 0) ≡ tracks_end d k f (l + 1 - f) floor
+  pub climbed-end : l < p → {b : Bool} → holds (row_at d 2) low ≡ b → (choose b then Some at else None) ≡ tracks_end d k f (l + 1 - f) floor
   unfolding tracks_end tracks_kept
   climbed-end i {b} h =
       let t = c.turns in
       let n : p - f ≡ l + 1 - f = omega arith in
-      ap (λ (x : Bool). choose x then at else 0) (sym h ∙ and_on _ _ (rw n at c.passed) (rw (c.least, n)))
-      ∙ ap (λ (x : ℕ). choose tracks_kept d k f (l + 1 - f) floor then x else 0) (c.place ∙ ap (λ (x : ℕ). row * (3 + x)) n)
+      ap (λ (x : Bool). choose x then Some at else None) (sym h ∙ and_on _ _ (rw n at c.passed) (rw (c.least, n)))
+      ∙ ap (λ (x : ℕ). choose tracks_kept d k f (l + 1 - f) floor then Some x else None) (c.place ∙ ap (λ (x : ℕ). row * (3 + x)) n)
 
 -- ---- the B0h and the C0h
 
 -- where one that may stand at descriptor j ends, by descriptors
 extra_end-rows :
     (d : List ℕ) (k j p : ℕ)
-    → extra_end d k (row * j) p ≡ (choose extra_passed (row_at d j) k p then row * (j + one (point_at d j) p) else 0)
+    → extra_end d k (row * j) p ≡ (choose extra_passed (row_at d j) k p then Some (row * (j + one (point_at d j) p)) else None)
 unfolding extra_end
 extra_end-rows d k j p = elim (ℕ_discrete (point_at d j) p) [
   | yes e ↦ when _ _ _ (eq-eqb _ _ e) ∙ rw (extra_passed-kept (row_at d j) k p e, one_is e, there)
@@ -115,111 +116,103 @@ extra_end-rows d k j p = elim (ℕ_discrete (point_at d j) p) [
     there = omega arith
 
 -- past the end stands none
-pub extra_end-past : (d : List ℕ) (k at p : ℕ) → length d ≤ at → 1 ≤ p → at ≡ extra_end d k at p
+pub extra_end-past : (d : List ℕ) (k at p : ℕ) → length d ≤ at → 1 ≤ p → Some at ≡ extra_end d k at p
 unfolding extra_end
 extra_end-past d k at p h l =
     sym (unless _ _ _ (ne_eqb (get_or d (at + 3) 0) p (λ e. let z = get_or-eq_default d 0 {n = at + 3} (omega arith) in omega arith)))
 
-pub extras_end-past : (d : List ℕ) (k at : ℕ) → length d ≤ at → at ≡ extras_end d k at
+pub extras_end-past : (d : List ℕ) (k at : ℕ) → length d ≤ at → Some at ≡ extras_end d k at
 unfolding extras_end
 extras_end-past d k at h =
-    let b = extra_end-past d k at B0 h (omega arith) in
-    elim (ℕ_discrete at 0) [
-      | yes e ↦ e ∙ sym (when _ _ _ (eq-eqb _ _ (sym b ∙ e)))
-      | no e ↦ extra_end-past d k at C0 h (omega arith)
-          ∙ ap (λ (x : ℕ). extra_end d k x C0) b
-          ∙ sym (unless _ _ _ (ne_eqb _ _ (λ z. e (b ∙ z))))
-    ]
+    extra_end-past d k at C0 h (omega arith)
+    ∙ ap (option_and_then (λ (b : ℕ). extra_end d k b C0)) (extra_end-past d k at B0 h (omega arith))
 
 -- both end where the session does, if they are kept
 extras_end-rows :
-    (d : List ℕ) (k : ℕ) → extras_end d k (row * (3 + tracks d)) ≡ (choose extras_kept d k then size d else 0)
+    (d : List ℕ) (k : ℕ) → extras_end d k (row * (3 + tracks d)) ≡ (choose extras_kept d k then Some (size d) else None)
 unfolding extras_end extras_kept size
 extras_end-rows d k = decided (extra_passed (row_at d (3 + tracks d)) k B0) refl
   where
     first-end :
-        extra_end d k (row * (3 + tracks d)) B0 ≡ (choose extra_passed (row_at d (3 + tracks d)) k B0 then row * (3 + tracks d + b0s d) else 0)
+        extra_end d k (row * (3 + tracks d)) B0 ≡ (choose extra_passed (row_at d (3 + tracks d)) k B0 then Some (row * (3 + tracks d + b0s d)) else None)
     first-end = extra_end-rows d k (3 + tracks d) B0
 
     decided :
         (b : Bool) → extra_passed (row_at d (3 + tracks d)) k B0 ≡ b → extras_end d k (row * (3 + tracks d)) ≡
-        (choose extras_kept d k then size d else 0)
+        (choose extras_kept d k then Some (size d) else None)
     decided true e =
-        let q : extra_end d k (row * (3 + tracks d)) B0 ≡ row * (3 + tracks d + b0s d) = first-end ∙ when _ _ _ e in
-        unless _ _ _ (ne_eqb _ _ (λ z. let y = sym q ∙ z in omega arith))
-        ∙ ap (λ (x : ℕ). extra_end d k x C0) q
+        ap (option_and_then (λ (b : ℕ). extra_end d k b C0)) (first-end ∙ when _ _ _ e)
         ∙ extra_end-rows d k (3 + tracks d + b0s d) C0
-        ∙ ap (λ (x : Bool). choose x then size d else 0) (and_on _ _ e refl)
+        ∙ ap (λ (x : Bool). choose x then Some (size d) else None) (and_on _ _ e refl)
     decided false e =
-        when _ _ _ (eq-eqb _ _ (first-end ∙ unless _ _ _ e)) ∙ sym (unless _ _ _ (sym (and_off _ _ e)))
+        ap (option_and_then (λ (b : ℕ). extra_end d k b C0)) (first-end ∙ unless _ _ _ e) ∙ sym (unless _ _ _ (sym (and_off _ _ e)))
 
 -- ---- one session
 
 -- d does not begin with a session that is kept and begins with track `next`
 pub session_end_not :
-    (k : ℕ) (d : List ℕ) (next floor : ℕ) → (session_kept k d floor ≡ true → first d ≡ next → ⊥) → 0 ≡ session_end k d next floor
+    (k : ℕ) (d : List ℕ) (next floor : ℕ) → (session_kept k d floor ≡ true → first d ≡ next → ⊥) → None ≡ session_end k d next floor
 unfolding session_end
 session_end_not k d next floor n = decided (session_kept k d floor and eqb (first d) next) refl
   where
-    decided : (b : Bool) → (session_kept k d floor and eqb (first d) next) ≡ b → 0 ≡ session_end k d next floor
+    decided : (b : Bool) → (session_kept k d floor and eqb (first d) next) ≡ b → None ≡ session_end k d next floor
     decided true e = absurd (n (and_head _ _ e) (eqb-true _ _ (and_tail _ _ e)))
     decided false e = sym (unless _ _ _ e)
 
 -- the tracks' end tells whether they are kept
 tracks_end-told :
-    (d : List ℕ) (k f n floor : ℕ) {e : ℕ} → e ≡ tracks_end d k f n floor → (e ≡ 0 → ⊥) → (tracks_kept d k f n floor ≡ true) ×
-    (e ≡ row * (3 + n))
+    (d : List ℕ) (k f n floor : ℕ) {e : ℕ} → tracks_end d k f n floor ≡ Some e → (tracks_kept d k f n floor ≡ true) × (e ≡ row * (3 + n))
 unfolding tracks_end
-tracks_end-told d k f n floor {e} h z = decided (tracks_kept d k f n floor) refl
+tracks_end-told d k f n floor {e} h = decided (tracks_kept d k f n floor) refl
   where
     decided : (b : Bool) → tracks_kept d k f n floor ≡ b → (tracks_kept d k f n floor ≡ true) × (e ≡ row * (3 + n))
-    decided true q = (q, h ∙ when _ _ _ q)
-    decided false q = absurd (z (h ∙ unless _ _ _ q))
+    decided true q = let u = sym h ∙ when _ _ _ q in (q, cc)
+    decided false q = let u = sym h ∙ unless _ _ _ q in (cc, cc)
 
-pub tracks_end-none : (d : List ℕ) (k f n floor : ℕ) → tracks_end d k f n floor ≡ 0 → tracks_kept d k f n floor ≡ false
+pub tracks_end-none : (d : List ℕ) (k f n floor : ℕ) → tracks_end d k f n floor ≡ None → tracks_kept d k f n floor ≡ false
 unfolding tracks_end
 tracks_end-none d k f n floor h = decided (tracks_kept d k f n floor) refl
   where
     decided : (b : Bool) → tracks_kept d k f n floor ≡ b → tracks_kept d k f n floor ≡ false
-    decided true q = let z = sym (when _ _ _ q) ∙ h in absurd (omega arith)
+    decided true q = let z = sym (when _ _ _ q) ∙ h in cc
     decided false q = q
 
 -- all but the last test hold: what is left are the B0h and the C0h
 pub session_end_on :
     (k : ℕ) (d : List ℕ) (next floor : ℕ) {end : ℕ} → length d % row ≡ 0 → 1 ≤ first d → first d ≡ next → first d ≤ last_of d → last_of d ≤ 99
-    → heads_kept d k ≡ true → end ≡ tracks_end d k (first d) (tracks d) floor → (end ≡ 0 → ⊥) → end ≤ length d
+    → heads_kept d k ≡ true → tracks_end d k (first d) (tracks d) floor ≡ Some end → end ≤ length d
     → extras_end d k end ≡ session_end k d next floor
 unfolding session_end session_kept
-session_end_on k d next floor {end} w a n c e h g z b =
-    let u = tracks_end-told d k (first d) (tracks d) floor g z in
+session_end_on k d next floor {end} w a n c e h g b =
+    let u = tracks_end-told d k (first d) (tracks d) floor g in
     let t = u.0 in
     let l : row * (3 + tracks d) ≤ length d = let q = u.1 in omega arith in
     ap (extras_end d k) u.1 ∙ extras_end-rows d k
-    ∙ ap (λ (x : Bool). choose x then size d else 0)
+    ∙ ap (λ (x : Bool). choose x then Some (size d) else None)
     (and_on _ _ (le-leb _ _ (size-whole d w l)) (and_on _ _ (le-leb _ _ a) (and_on _ _ (le-leb _ _ c) (and_on _ _ (le-leb _ _ e)
     (and_on _ _ h (and_on _ _ t refl)))))
     ∙ and_with (session_kept k d floor) (eqb (first d) next) (eq-eqb _ _ n))
 
--- what the end of a session tells that is not 0
+-- what the end of a session tells
 pub session_end-told :
-    (k : ℕ) (d : List ℕ) (next floor : ℕ) {e : ℕ} → e ≡ session_end k d next floor → (e ≡ 0 → ⊥)
+    (k : ℕ) (d : List ℕ) (next floor : ℕ) {e : ℕ} → session_end k d next floor ≡ Some e
     → (session_kept k d floor ≡ true) × (first d ≡ next) × (e ≡ size d)
 unfolding session_end
-session_end-told k d next floor {e} h n = decided (session_kept k d floor and eqb (first d) next) refl
+session_end-told k d next floor {e} h = decided (session_kept k d floor and eqb (first d) next) refl
   where
     decided :
         (b : Bool) → (session_kept k d floor and eqb (first d) next) ≡ b → (session_kept k d floor ≡ true) × (first d ≡ next) × (e ≡ size d)
-    decided true q = (and_head _ _ q, eqb-true _ _ (and_tail _ _ q), h ∙ when _ _ _ q)
-    decided false q = absurd (n (h ∙ unless _ _ _ q))
+    decided true q = let u = sym h ∙ when _ _ _ q in (and_head _ _ q, eqb-true _ _ (and_tail _ _ q), cc)
+    decided false q = let u = sym h ∙ unless _ _ _ q in (cc, cc, cc)
 
--- and one that is
+-- and what none tells
 session_end-none :
-    (k : ℕ) (d : List ℕ) (next floor : ℕ) → session_end k d next floor ≡ 0 → (session_kept k d floor and eqb (first d) next) ≡ false
+    (k : ℕ) (d : List ℕ) (next floor : ℕ) → session_end k d next floor ≡ None → (session_kept k d floor and eqb (first d) next) ≡ false
 unfolding session_end
 session_end-none k d next floor h = decided (session_kept k d floor and eqb (first d) next) refl
   where
     decided : (b : Bool) → (session_kept k d floor and eqb (first d) next) ≡ b → (session_kept k d floor and eqb (first d) next) ≡ false
-    decided true q = let z = sym (when _ _ _ q) ∙ h in let s = size-heads d in absurd (omega arith)
+    decided true q = let z = sym (when _ _ _ q) ∙ h in cc
     decided false q = q
 
 -- ---- the sessions
@@ -242,12 +235,12 @@ trod-none n d e = record { walked = walked_none n d; passed = every-none _; trac
 module _ {n : ℕ} {d : List ℕ} {k at next floor : ℕ} (r : Trod n d k at next floor) where
   module _ (i : k < n) where
     pub trod-next :
-        {e l o : ℕ} → e ≡ session_end (k + 1) (drop at d) next floor → (e ≡ 0 → ⊥) → l ≡ last_of (drop at d) → o ≡ frames_at (drop at d) 2
+        {e l o : ℕ} → session_end (k + 1) (drop at d) next floor ≡ Some e → l ≡ last_of (drop at d) → o ≡ frames_at (drop at d) 2
         → Trod n d (k + 1) (at + e) (l + 1) (o + 1)
     unfolding step_kept
-    trod-next {e} {l} {o} h z q u =
+    trod-next {e} {l} {o} h q u =
         let p = r.walked.place in
-        let t = session_end-told (k + 1) (drop at d) next floor h z in
+        let t = session_end-told (k + 1) (drop at d) next floor h in
         record {
           walked = walked_next r.walked i (session_kept-sound _ _ _ t.0).is t.2;
           passed =
@@ -257,7 +250,7 @@ module _ {n : ℕ} {d : List ℕ} {k at next floor : ℕ} (r : Trod n d k at nex
         }
 
     -- the first session that has no end decides
-    pub trod-breaks : session_end (k + 1) (drop at d) next floor ≡ 0 → walk_kept n d ≡ false
+    pub trod-breaks : session_end (k + 1) (drop at d) next floor ≡ None → walk_kept n d ≡ false
     unfolding walk_kept step_kept
     trod-breaks h =
         sym (and_off _ _ (sym (every-breaks n (step_kept d) k i
@@ -278,6 +271,10 @@ module _ {n : ℕ} {d : List ℕ} {k at next floor : ℕ} (r : Trod n d k at nex
       let w = r.walked.within in
       rw e (each_row-rest m d (rows_before d k) (omega arith) (kept_rule k d r.passed m))
 
+  -- what a pass told of what is left, in the form in which the code lends it, it told of the whole table
+  pub trod-told : (m : ℕ) {b : Bool} → b ≡ each_row m (take (length d - at) (drop at d)) → each_row m d ≡ b
+  trod-told m e = sym (trod-rule m) ∙ sym (rw rest_all at e)
+
   -- whole descriptors are left
   pub trod-whole : length d % row ≡ 0 → length (drop at d) % row ≡ 0
   trod-whole h =
@@ -286,75 +283,65 @@ module _ {n : ℕ} {d : List ℕ} {k at next floor : ℕ} (r : Trod n d k at nex
       let l = length-drop at d in
       omega arith
 
--- before session k of n: what is left is s, and `last` begins with the session before it
+-- k of n sessions are passed: what is left is s, and `last` begins with the session before it
 pub record Walking (n : ℕ) (d : List ℕ) (k : ℕ) (s last : List ℕ) (next floor : ℕ) : Type 0 where
-  pub low : 1 ≤ k
-  pub trod : Trod n d (k - 1) (length d - length s) next floor
+  pub trod : Trod n d k (length d - length s) next floor
   pub here : s ≡ drop (length d - length s) d
   pub less : length s ≤ length d
-  pub behind : last ≡ session d (k - 2)
+  pub behind : last ≡ session d (k - 1)
 
-pub walking-none : (n : ℕ) (d : List ℕ) {next : ℕ} → next ≡ first d → Walking n d 1 d d next 150
+pub walking-none : (n : ℕ) (d : List ℕ) {next : ℕ} → next ≡ first d → Walking n d 0 d d next 150
 walking-none n d e =
     let z : length d - length d ≡ 0 = omega arith in
-    record { low = omega arith; trod = rw z (trod-none n d e); here = rw z; less = omega arith; behind = sym (session-none d) }
+    record { trod = rw z (trod-none n d e); here = rw z; less = omega arith; behind = sym (session-none d) }
 
-module _ {n : ℕ} {d : List ℕ} {k : ℕ} {s last : List ℕ} {next floor : ℕ} (w : Walking n d k s last next floor) (i : k ≤ n) where
-  -- what the walk asks of the session that s begins with it asks of session k
-  walking-end : session_end k s next floor ≡ session_end (k - 1 + 1) (drop (length d - length s) d) next floor
-  walking-end =
-      let l = w.low in
-      let e : k ≡ k - 1 + 1 = omega arith in
-      ap (λ (x : ℕ). session_end x s next floor) e ∙ ap (λ (x : List ℕ). session_end (k - 1 + 1) x next floor) w.here
+module _ {n : ℕ} {d : List ℕ} {k : ℕ} {s last : List ℕ} {next floor : ℕ} (w : Walking n d k s last next floor) (i : k < n) where
+  -- what the walk asks of the session that s begins with it asks of session k + 1
+  walking-end : session_end (k + 1) s next floor ≡ session_end (k + 1) (drop (length d - length s) d) next floor
+  walking-end = ap (λ (x : List ℕ). session_end (k + 1) x next floor) w.here
 
   -- a session that is kept begins what is left
-  pub walking-session : {e : ℕ} → e ≡ session_end k s next floor → (e ≡ 0 → ⊥) → IsSession k s × (e ≡ size s)
-  walking-session h z = let t = session_end-told k s next floor h z in ((session_kept-sound _ _ _ t.0).is, t.2)
+  pub walking-session : {e : ℕ} → session_end (k + 1) s next floor ≡ Some e → IsSession (k + 1) s × (e ≡ size s)
+  walking-session h = let t = session_end-told (k + 1) s next floor h in ((session_kept-sound _ _ _ t.0).is, t.2)
 
   pub walking-next :
-      {e l o : ℕ} {s' : List ℕ} → e ≡ session_end k s next floor → (e ≡ 0 → ⊥) → l ≡ last_of s → o ≡ frames_at s 2 → s' ≡ drop e s
+      {e l o : ℕ} {s' : List ℕ} → session_end (k + 1) s next floor ≡ Some e → l ≡ last_of s → o ≡ frames_at s 2 → s' ≡ drop e s
       → Walking n d (k + 1) s' s (l + 1) (o + 1)
-  walking-next {e} {l} {o} {s'} h z q u v =
-      let low = w.low in
+  walking-next {e} {l} {o} {s'} h q u v =
       let less = w.less in
-      let t = walking-session h z in
+      let t = walking-session h in
       let f = t.0.fits in
-      let r = trod-next w.trod (omega arith) (h ∙ walking-end) z (q ∙ ap last_of w.here)
-      (u ∙ ap (λ (x : List ℕ). frames_at x 2) w.here) in
+      let r = trod-next w.trod i (sym walking-end ∙ h) (q ∙ ap last_of w.here) (u ∙ ap (λ (x : List ℕ). frames_at x 2) w.here) in
       let m : length s' ≡ length s - e = ap length v ∙ length-drop e s in
       let a : length d - length s + e ≡ length d - length s' = omega arith in
-      let b : k - 1 + 1 ≡ k + 1 - 1 = omega arith in
-      let c : k - 1 ≡ k + 1 - 2 = omega arith in
+      let c : k ≡ k + 1 - 1 = omega arith in
       record {
-        low = omega arith;
-        trod = rw (a, b) at r;
+        trod = rw a at r;
         here = v ∙ ap (drop e) w.here ∙ drop-drop e (length d - length s) d ∙ ap (λ (x : ℕ). drop x d) a;
         less = omega arith;
         behind = w.here ∙ ap (λ (x : ℕ). drop x d) w.trod.walked.place ∙ ap (session d) c;
       }
 
   -- one that is not kept decides
-  pub walking-breaks : session_end k s next floor ≡ 0 → walk_kept n d ≡ false
-  walking-breaks h = trod-breaks w.trod (let l = w.low in omega arith) (sym walking-end ∙ h)
+  pub walking-breaks : session_end (k + 1) s next floor ≡ None → walk_kept n d ≡ false
+  walking-breaks h = trod-breaks w.trod i (sym walking-end ∙ h)
 
 -- all are passed: the table is kept if nothing is left, and `last` is its last session
 pub walking-done :
-    {n : ℕ} {d : List ℕ} {k : ℕ} {s last : List ℕ} {next floor : ℕ} → Walking n d k s last next floor → n < k → eqb (length s) 0 ≡ walk_kept
+    {n : ℕ} {d : List ℕ} {k : ℕ} {s last : List ℕ} {next floor : ℕ} → Walking n d k s last next floor → n ≤ k → eqb (length s) 0 ≡ walk_kept
     n d
 walking-done {n} {d} {k} {s} w i = elim (ℕ_discrete (length s) 0) [
-  | yes e ↦ eq-eqb _ _ e ∙ sym (eq-eqb (length d - length s) (length d) (let l = w.less in omega arith)) ∙ trod-end w.trod (omega arith)
-  | no e ↦ ne_eqb _ _ e ∙ sym (ne_eqb (length d - length s) (length d) (λ z. e (let l = w.less in omega arith))) ∙ trod-end w.trod
-      (omega arith)
+  | yes e ↦ eq-eqb _ _ e ∙ sym (eq-eqb (length d - length s) (length d) (let l = w.less in omega arith)) ∙ trod-end w.trod i
+  | no e ↦ ne_eqb _ _ e ∙ sym (ne_eqb (length d - length s) (length d) (λ z. e (let l = w.less in omega arith))) ∙ trod-end w.trod i
 ]
 
 -- that session is there, four descriptors long at least
 pub walking-last :
-    {n : ℕ} {d : List ℕ} {k : ℕ} {s last : List ℕ} {next floor : ℕ} → Walking n d k s last next floor → n < k → 1 ≤ n
+    {n : ℕ} {d : List ℕ} {k : ℕ} {s last : List ℕ} {next floor : ℕ} → Walking n d k s last next floor → n ≤ k → 1 ≤ n
     → (last ≡ session d (n - 1)) × (4 * row ≤ length last) × (4 * row ≤ length d)
 walking-last {n} {d} {k} {s} {last} w i h =
-    let e : k - 1 ≡ n = let t = w.trod.walked.turns in omega arith in
-    let q : k - 2 ≡ n - 1 = omega arith in
-    let b : last ≡ session d (n - 1) = w.behind ∙ ap (session d) q in
+    let e : k ≡ n = let t = w.trod.walked.turns in omega arith in
+    let b : last ≡ session d (n - 1) = w.behind ∙ ap (λ (x : ℕ). session d (x - 1)) e in
     let s = placed n d (kept-places n d (rw e at w.trod.passed)) {k = n - 1} (omega arith) in
     let l = size_least s in
     let f = s.fits in
@@ -422,10 +409,10 @@ trod_risen {d = d} {k} r e = record {
 
 -- ---- the answer
 
-pub rows_reading_fit : (n : ℕ) (d : List ℕ) {disc : Disc} → walk_kept n d ≡ true → disc ≡ disc_from n d → Fit disc ≡ rows_reading n d
+pub rows_reading_fit : (n : ℕ) (d : List ℕ) {disc : Disc} → walk_kept n d ≡ true → disc ≡ disc_from n d → Ok disc ≡ rows_reading n d
 unfolding rows_reading
-rows_reading_fit n d h e = ap Fit e ∙ sym (when _ _ _ h)
+rows_reading_fit n d h e = ap Ok e ∙ sym (when _ _ _ h)
 
-pub rows_reading-unfit : (n : ℕ) (d : List ℕ) {m : ℕ} → walk_kept n d ≡ false → m ≡ first_broken 3 (row_rules n d) → Unfit m ≡ rows_reading n d
+pub rows_reading-unfit : (n : ℕ) (d : List ℕ) {m : ℕ} → walk_kept n d ≡ false → m ≡ first_broken 3 (row_rules n d) → Err (unfit_by m) ≡ rows_reading n d
 unfolding rows_reading
-rows_reading-unfit n d h e = ap Unfit e ∙ sym (unless _ _ _ h)
+rows_reading-unfit n d h e = ap (λ (m : ℕ). Err (unfit_by m)) e ∙ sym (unless _ _ _ h)

@@ -27,25 +27,23 @@ pub struct Disc {
     pub last_first_start: usize,
 }
 
-// A lent table is read: a fit one's disc, or the first broken rule.
-#[derive(Clone, Copy)]
-pub enum Reading {
-    Fit(Disc),
-    Unfit(u8),
+// A table that is not fit, by the first broken rule: one of 1 to 7.
+#[derive(Clone, Copy, Debug, PartialEq, Eq)]
+pub struct Unfit {
+    pub rule: u8,
 }
 
-// Rules 1 and 2, and then the walk.
-pub fn read(t: &[u8]) -> Reading
+// A lent table is read: a fit one's disc, or the first broken rule. Rules 1 and 2, and then the walk.
+pub fn read(t: &[u8]) -> Result<Disc, Unfit>
     ensures { result ≡ reading t.now }
 {
-    if rule1(t) {
-        if rule2(t) {
-            let n = t[3];
-            return walk(&t[HEADER..], n);
-        }
-        return Reading::Unfit(2);
+    if !rule1(t) {
+        return Err(Unfit { rule: 1 });
     }
-    Reading::Unfit(1)
+    if !rule2(t) {
+        return Err(Unfit { rule: 2 });
+    }
+    walk(&t[HEADER..], t[3])
 }
 
 // The first broken rule, or 0 for a fit table.
@@ -53,36 +51,35 @@ pub fn fault(t: &[u8]) -> u8
     ensures { result ≡ fault t.now }
 {
     match read(t) {
-        Reading::Fit(_) => 0,
-        Reading::Unfit(rule) => rule,
+        Ok(_) => 0,
+        Err(unfit) => unfit.rule,
     }
 }
 
 // One walk over the descriptors of n sessions passes each session that is kept. From the first that is not on the rules are asked one by one.
-fn walk(d: &[u8], n: u8) -> Reading
+fn walk(d: &[u8], n: u8) -> Result<Disc, Unfit>
     requires { (length d.now % row ≡ 0) × (1 ≤ n) × (n ≤ 99) }
     ensures { result ≡ rows_reading n d.now }
 {
-    let mut k: u8 = 1;
     let mut s = d;
     let mut last = d;
     let mut next = byte_at(d, PMIN);
     let mut floor = FLOOR;
-    while k <= n {
-        let end = session_end(s, k, next, floor);
-        if end == 0 {
-            return Reading::Unfit(fault_from(d, n, k - 1, d.len() - s.len(), next, floor));
-        }
+    for k in 0..n {
+        let Some(end) = session_end(s, k + 1, next, floor) else {
+            let rule = fault_from(d, n, k, d.len() - s.len(), next, floor);
+            return Err(Unfit { rule });
+        };
         next = wide(s[ROW + PMIN]) + 1;
         floor = frames_of(row_at(s, 2)) + 1;
         last = s;
         s = &s[end..];
-        k += 1;
     }
-    if s.len() == 0 {
-        return Reading::Fit(disc_of(d, last, n));
+    if s.is_empty() {
+        return Ok(disc_of(d, last, n));
     }
-    Reading::Unfit(fault_from(d, n, k - 1, d.len() - s.len(), next, floor))
+    let rule = fault_from(d, n, n, d.len() - s.len(), next, floor);
+    Err(Unfit { rule })
 }
 
 // The disc of n sessions, of which s is the last.

@@ -8,54 +8,36 @@ ghost use Rattle.disc.specs.RulesLaws.{Risen};
 ghost use Rattle.disc.specs.Walk.{next_of};
 ghost use Rattle.disc.specs.WalkSteps.{Reached, Trod};
 
-use crate::rows::{row_at, row_from};
+use crate::rows::row_at;
 use ground::number::{wide, word16};
 use sessions::session::{read_session, session_bytes};
 use table::layout::{BOUND, HEADER, PMIN, ROW};
 use table::row::{row_test, start_of};
 
 // Rule 1: the length, and the data length that says it.
+#[tactic(auto, using(ground::specs::TestValues::test_values), unfolding(crate::specs::Rules::rule1))]
 pub(crate) fn rule1(t: &[u8]) -> bool
     ensures { result ≡ rule1 t.now }
 {
     let n = t.len();
-    if n < HEADER {
-        return false;
-    }
-    if BOUND < n {
-        return false;
-    }
-    if (n - HEADER) % ROW == 0 {
-        return word16(t[0], t[1]) == n - 2;
-    }
-    false
+    HEADER <= n && n <= BOUND && (n - HEADER) % ROW == 0 && word16(t[0], t[1]) == n - 2
 }
 
 // Rule 2: the first session is 1 and the last 1 to 99.
+#[tactic(auto, using(ground::specs::TestValues::test_values), unfolding(crate::specs::Rules::rule2))]
 pub(crate) fn rule2(t: &[u8]) -> bool
     requires { 4 ≤ length t.now }
     ensures { result ≡ rule2 t.now }
 {
-    if wide(t[2]) == 1 {
-        let s = wide(t[3]);
-        if 1 <= s {
-            return s <= 99;
-        }
-        return false;
-    }
-    false
+    t[2] == 1 && 1 <= t[3] && t[3] <= 99
 }
 
 // Rule n, one of 3, 5 and 6: each descriptor passes its test.
 fn each_row(n: usize, d: &[u8]) -> bool
-    requires { length d.now % row ≡ 0 }
     ensures { result ≡ each_row n d.now }
 {
-    let mut at = 0;
-    while at < d.len() {
-        if row_test(n, row_from(d, at)) {
-            at += ROW;
-        } else {
+    for j in 0..d.len() / ROW {
+        if !row_test(n, row_at(d, j)) {
             return false;
         }
     }
@@ -67,10 +49,9 @@ fn rule4(n: u8, d: &[u8], passed: u8, from: usize, track: usize) -> bool
     requires { Reached n d.now passed from track }
     ensures { result ≡ in_order n d.now }
 {
-    let mut k = passed;
     let mut at = from;
     let mut next = track;
-    while k < n {
+    for k in passed..n {
         let Some(s) = read_session(&d[at..], wide(k) + 1) else {
             return false;
         };
@@ -79,7 +60,6 @@ fn rule4(n: u8, d: &[u8], passed: u8, from: usize, track: usize) -> bool
         }
         at += s.bytes;
         next = wide(s.last) + 1;
-        k += 1;
     }
     at == d.len()
 }
@@ -89,18 +69,13 @@ fn rises(s: &[u8], n: usize) -> bool
     requires { (1 ≤ n) × (row * (3 + n) ≤ length s.now) }
     ensures { result ≡ rises s.now n }
 {
-    let last = n - 1;
-    let mut i = 0;
     let mut start = start_of(row_at(s, 3));
-    while i < last {
-        let j = i + 1;
-        let next = start_of(row_at(s, 3 + j));
-        if start < next {
-            start = next;
-            i = j;
-        } else {
+    for i in 0..n - 1 {
+        let next = start_of(row_at(s, 3 + (i + 1)));
+        if next <= start {
             return false;
         }
+        start = next;
     }
     start < start_of(row_at(s, 2))
 }
@@ -111,10 +86,7 @@ fn session_rises(s: &[u8], k: usize, out: usize) -> bool
     ensures { result ≡ rises s.now (tracks s.now) and begins_after k out (track_start s.now 0) }
 {
     let n = wide(s[ROW + PMIN]) + 1 - wide(s[PMIN]);
-    if rises(s, n) {
-        return begins_after(k, out, start_of(row_at(s, 3)));
-    }
-    false
+    rises(s, n) && begins_after(k, out, start_of(row_at(s, 3)))
 }
 
 // Rule 7, of n sessions, of which `passed` keep it: the next begins at `from`, and the lead-out before it is `before`.
@@ -122,40 +94,25 @@ fn rule7(n: u8, d: &[u8], passed: u8, from: usize, before: usize) -> bool
     requires { (in_order n d.now ≡ true) × Risen n d.now passed from before }
     ensures { result ≡ rule7 n d.now }
 {
-    let mut k = passed;
     let mut at = from;
     let mut out = before;
-    while k < n {
+    for k in passed..n {
         let s = &d[at..];
-        if session_rises(s, wide(k), out) {
-            out = start_of(row_at(s, 2));
-            at += session_bytes(s);
-            k += 1;
-        } else {
+        if !session_rises(s, wide(k), out) {
             return false;
         }
+        out = start_of(row_at(s, 2));
+        at += session_bytes(s);
     }
     true
 }
 
 // The first track of session k starts after the lead-out of the one before.
+#[tactic(auto, using(ground::specs::TestValues::test_values), unfolding(crate::specs::Rules::begins_after))]
 fn begins_after(k: usize, out: usize, start: usize) -> bool
     ensures { result ≡ begins_after k out start }
 {
-    if k == 0 {
-        return true;
-    }
-    out < start
-}
-
-// The lead-out as a block address whose next frame is `floor`.
-fn out_below(floor: usize) -> usize
-    ensures { result ≡ floor - 151 }
-{
-    if floor < 151 {
-        return 0;
-    }
-    floor - 151
+    k == 0 || out < start
 }
 
 // The first broken rule of 3 to 7, of n sessions, of which k are kept: the next begins at `at`, with track `next`, at frame `floor` or later.
@@ -164,13 +121,13 @@ pub(crate) fn fault_from(d: &[u8], n: u8, k: u8, at: usize, next: usize, floor: 
     requires { (length d.now % row ≡ 0) × Trod n d.now k at next floor }
     ensures { result ≡ first_broken 3 (row_rules n d.now) }
 {
-    if each_row(3, &d[at..]) {
-        if rule4(n, d, k, at, next) {
-            return late_fault(d, n, k, at, floor);
-        }
+    if !each_row(3, &d[at..]) {
+        return 3;
+    }
+    if !rule4(n, d, k, at, next) {
         return 4;
     }
-    3
+    late_fault(d, n, k, at, floor)
 }
 
 // The first broken rule of 5 to 7, where the sessions stand in order.
@@ -179,14 +136,15 @@ fn late_fault(d: &[u8], n: u8, k: u8, at: usize, floor: usize) -> u8
     ensures { result ≡ first_broken 5 (late_rules n d.now) }
 {
     let rest = &d[at..];
-    if each_row(5, rest) {
-        if each_row(6, rest) {
-            if rule7(n, d, k, at, out_below(floor)) {
-                return 0;
-            }
-            return 7;
-        }
+    if !each_row(5, rest) {
+        return 5;
+    }
+    if !each_row(6, rest) {
         return 6;
     }
-    5
+    // The lead-out before, as a block address: its next frame is `floor`.
+    if !rule7(n, d, k, at, floor.saturating_sub(151)) {
+        return 7;
+    }
+    0
 }

@@ -3,3 +3,4 @@ pub mod Number
 pub mod Memory
 pub mod Ranges
 pub mod Joined
+pub mod TestValues

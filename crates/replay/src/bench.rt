@@ -12,7 +12,7 @@ use attention::Unit;
 use attention::sense::Sense;
 use cue::write::write_table;
 use deck::Deck;
-use disc::part::{session_part, session_refusal};
+use disc::part::{NO_SESSION, Refusal, UNFIT, session_part, session_refusal};
 use drive::state::{Drive, Moved};
 use ground::memory::copy_front;
 use ground::number::{smaller, word16, word32};
@@ -316,8 +316,12 @@ fn call_part(body: &[u8], bench: Bench, table: &[u8], line: &mut [u8]) -> Turn {
     if body.len() == 1 {
         let k = body[0];
         let t = front(table, bench.table);
-        let refusal = session_refusal(t, k);
-        let len = put_part(refusal.number, refusal.rule, session_part(t, k), line);
+        let (number, rule) = match session_refusal(t, k) {
+            None => (0, 0),
+            Some(Refusal::Unfit(unfit)) => (UNFIT, unfit.rule),
+            Some(Refusal::NoSession) => (NO_SESSION, 0),
+        };
+        let len = put_part(number, rule, session_part(t, k), line);
         return printed(len, bench);
     }
     bad(bench, line)

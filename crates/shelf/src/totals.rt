@@ -8,7 +8,7 @@ ghost use Rattle.shelf.specs.Totals.{nothing, sum, of_table, most, within, bound
 ghost use Rattle.shelf.specs.TotalsLaws.{of_rule};
 
 use crate::content::held_by;
-use disc::disc::{Disc, Reading, read};
+use disc::disc::{Disc, read};
 use ground::number::wide;
 
 // The totals, in the order of their lines.
@@ -116,8 +116,8 @@ fn of_table(t: &[u8]) -> Totals
     ensures { result ≡ of_table t.now }
 {
     match read(t) {
-        Reading::Fit(disc) => of_fit(t, disc),
-        Reading::Unfit(rule) => of_rule(rule),
+        Ok(disc) => of_fit(t, disc),
+        Err(unfit) => of_rule(unfit.rule),
     }
 }
 

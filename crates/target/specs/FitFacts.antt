@@ -1,12 +1,11 @@
 -- What the code has in hand: a fit table, what was read off it, and what the commands count on.
-use Rattle.std.specs.Prelude.{◌≡◌, List, ℕ, ◌≤◌, length}
+use Rattle.std.specs.Prelude.{◌≡◌, Ok, List, ℕ, ◌≤◌, length}
 use Rattle.table.specs.Layout.{bound, header, descriptors}
 use Rattle.disc.specs.RulesLaws.{Fit, is_fit_true, fit_sized}
 use Rattle.tracks.specs.declared.track.Mode.{Mode}
 use Rattle.tracks.specs.Track.{all_in, run_is}
 use Rattle.tracks.specs.SpreadLaws.{fit-run-agrees}
 use Rattle.disc.specs.declared.disc.Disc.{Disc}
-use Rattle.disc.specs.declared.disc.Reading.TheVariants as reads
 use Rattle.disc.specs.Disc.{disc_of, reading}
 use Rattle.disc.specs.DiscLaws.{reading_fit}
 
@@ -31,5 +30,5 @@ fit_facts f =
     }
 
 -- what a reading of a loaded drive's table gives the steps
-pub read_off : (t : List ℕ) (disc : Disc) → reading t ≡ reads.Fit disc → ReadOff t disc
+pub read_off : (t : List ℕ) (disc : Disc) → reading t ≡ Ok disc → ReadOff t disc
 read_off t disc h = let r = reading_fit t disc h in record { fits = fit_facts (is_fit_true r.0); same = r.1 }

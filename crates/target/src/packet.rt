@@ -11,7 +11,7 @@ ghost use Rattle.target.specs.PacketLaws.{unread, steps_of};
 
 use crate::perform::perform;
 use command::decode::{Command, Kind, decode, kind_of};
-use disc::disc::{Disc, Reading, read};
+use disc::disc::{Disc, read};
 use disc::part::UNFIT;
 use drive::state::{Drive, UNKNOWN_STATE};
 use gate::unit::{Pending, clear, first_pending, give, sense_bytes};
@@ -119,8 +119,8 @@ fn meet(d: Drive, p: &[u8], t: &[u8], list: &[u8], mem: &mut [u8]) -> Outcome
 {
     if d.deck.is_loaded() {
         return match read(t) {
-            Reading::Fit(disc) => steps(d, p, t, list, disc, mem),
-            Reading::Unfit(rule) => refuse(UNFIT, rule, d),
+            Ok(disc) => steps(d, p, t, list, disc, mem),
+            Err(unfit) => refuse(UNFIT, unfit.rule, d),
         };
     }
     steps(d, p, t, list, unread(), mem)

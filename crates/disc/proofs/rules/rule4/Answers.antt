@@ -7,6 +7,15 @@ use Rattle.disc.specs.WalkSteps.{reached-next, reached-not, reached-off, reached
 use borrow.Author.Rules.{rules}
 use Rattle.disc.proofs.rules.rule4.Goals as goal
 
+pub loop-k-init : goal.loop-k-init
+loop-k-init c = c.requires
+
+pub slice_bounds-read_session-count : goal.slice_bounds-read_session-count
+slice_bounds-read_session-count c = c.loop-k.invariant.walked.within
+
+pub slice_bounds-read_session-start : goal.slice_bounds-read_session-start
+slice_bounds-read_session-start c = let w = c.loop-k.invariant.walked.within in search rules
+
 pub loop-k-preserved : goal.loop-k-preserved
 loop-k-preserved c =
     let t = read_session-told _ _ (sym c.in-Some.is ∙ rw (rest_all, c.wide.ensures.same) at c.read_session.ensures) in

@@ -14,6 +14,12 @@ use Rattle.disc.proofs.rules.rule7.Goals as goal
 pub loop-k-init : goal.loop-k-init
 loop-k-init c = c.requires.1
 
+pub slice_bounds-s-count : goal.slice_bounds-s-count
+slice_bounds-s-count c = c.loop-k.invariant.walked.within
+
+pub slice_bounds-s-start : goal.slice_bounds-s-start
+slice_bounds-s-start c = let w = c.loop-k.invariant.walked.within in search rules
+
 pub session_rises-requires : goal.session_rises-requires
 unfolding size
 session_rises-requires c =
@@ -30,7 +36,7 @@ row_at-requires c =
 pub loop-k-preserved : goal.loop-k-preserved
 loop-k-preserved c =
     let s = placed_at _ _ (in_order-places _ _ c.requires.0) c.loop-k.invariant.walked.place c.loop-k-test.true in
-    let told = sym (rw (rest_all, c.wide.ensures.same) at c.session_rises.ensures) ∙ c.if-session_rises.true in
+    let told = sym (rw (rest_all, c.wide.ensures.same) at c.session_rises.ensures) ∙ c.if-not-session_rises.false in
     risen-next c.loop-k.invariant
     c.loop-k-test.true
     s (rw rest_all at c.session_bytes-at.ensures)
@@ -48,9 +54,9 @@ overflow_add-at c =
     let w = size-within _ _ c.loop-k.invariant.walked.within s in
     search rules
 
-pub returns-else-session_rises : goal.returns-else-session_rises
-returns-else-session_rises c =
-    let told = sym (rw (rest_all, c.wide.ensures.same) at c.session_rises.ensures) ∙ c.if-session_rises.false in
+pub returns-then-not-session_rises : goal.returns-then-not-session_rises
+returns-then-not-session_rises c =
+    let told = sym (rw (rest_all, c.wide.ensures.same) at c.session_rises.ensures) ∙ c.if-not-session_rises.true in
     risen-breaks c.loop-k.invariant c.loop-k-test.true
     told
 

@@ -13,8 +13,8 @@ returns-then-rises c =
     at (sym c.rises.ensures ∙ c.if-rises.true))
     (rw (c.start_of.ensures, c.row_at.ensures) at c.begins_after.ensures)
 
-pub returns : goal.returns
-returns c =
-    and_off _ _
+pub returns-else-rises : goal.returns-else-rises
+returns-else-rises c =
+    c.if-rises.false ∙ and_off _ _
     (rw (c.wide.ensures.same, c.wide-2.ensures.same) at
     (sym c.rises.ensures ∙ c.if-rises.false))

@@ -1,10 +1,6 @@
 -- `disc::walk::tracks_end` meets its contract: each turn passes one track more, the first that fails decides, and then the lead-out.
-use Prim.Native.Nat.{◌+◌, ◌-◌}
 use Rattle.disc.specs.WalkSteps.{Climbed}
 use Rattle.disc.proofs.walk.tracks_end.Given as goal
 
 abbrev pub invariant-loop-p : goal.invariant-loop-p
 invariant-loop-p l = Climbed l.d l.k l.f l.l l.floor l.p l.at l.low
-
-abbrev pub decreases-loop-p : goal.decreases-loop-p
-decreases-loop-p l = l.l + 1 - l.p

@@ -5,9 +5,9 @@ use Rattle.shelf.specs.TotalsLaws.{of_rule, of_table-unfit}
 use Rattle.shelf.proofs.totals.of_table.Goals as goal
 
 pub of_fit-requires : goal.of_fit-requires
-of_fit-requires c = reading_fit _ _ (sym c.read.ensures ∙ c.in-Fit.is)
+of_fit-requires c = reading_fit _ _ (sym c.in-Ok.ensures)
 
-pub returns-in-Unfit : goal.returns-in-Unfit
-returns-in-Unfit c =
-    let u = reading-unfit _ _ (sym c.read.ensures ∙ c.in-Unfit.is) in
+pub returns-in-Err : goal.returns-in-Err
+returns-in-Err c =
+    let u = reading-unfit _ _ (sym c.in-Err.ensures) in
     c.of_rule.ensures ∙ ap of_rule u.1 ∙ sym (of_table-unfit _ u.0)

@@ -11,19 +11,19 @@ use Rattle.target.proofs.packet.meet.Goals as goal
 
 pub steps-requires : goal.steps-requires
 steps-requires c = let q = c.requires in
-    let r = read_off _ _ (sym c.read.ensures ∙ c.in-Fit.is) in
+    let r = read_off _ _ (sym c.in-Ok.ensures) in
     record { twelve = q.0; room = q.2; ready = λ h. r }
 
-pub returns-in-Fit : goal.returns-in-Fit
-returns-in-Fit c = let x = c.args in
+pub returns-in-Ok : goal.returns-in-Ok
+returns-in-Ok c = let x = c.args in
     let q = c.requires in
-    let r = sym c.read.ensures ∙ c.in-Fit.is in
+    let r = sym c.in-Ok.ensures in
     rw (answer-steps x.d x.p.now x.t.now x.list.now _ q.0 q.1 q.2 (λ h. (reading_fit _ _ r).0)) c.steps.ensures
 
-pub returns-in-Unfit : goal.returns-in-Unfit
-returns-in-Unfit c = let x = c.args in
+pub returns-in-Err : goal.returns-in-Err
+returns-in-Err c = let x = c.args in
     let q = c.requires in
-    let r = reading-unfit _ _ (sym c.read.ensures ∙ c.in-Unfit.is) in
+    let r = reading-unfit _ _ (sym c.in-Err.ensures) in
     let h = c.if-is_loaded.true in
     let l = sym c.is_loaded.ensures ∙ h in
     let e = answer-4 x.d x.p.now x.t.now x.list.now _ q.0 q.1 q.2 l r.0 in
