@@ -17,7 +17,7 @@ use disc::disc::fault;
 use disc::part::UNFIT;
 use drive::state::UNKNOWN_STATE;
 use gate::fault::Fault;
-use gate::unit::{Pending, clear, first_pending};
+use gate::unit::{clear, first_pending};
 use ground::number::word16;
 use outcome::{finish, tell};
 use table::layout::BOUND;
@@ -112,9 +112,8 @@ fn gated(row: Row, c: Changer, p: &[u8], mem: &mut [u8]) -> Met
     let deck = c.drive.deck;
     let a = first_pending(unit);
     match a {
-        Pending::Power => with_home(tell(a, unit, deck), c.home, staying()),
-        Pending::Change => with_home(tell(a, unit, deck), c.home, staying()),
-        Pending::Nothing => {
+        Some(_) => with_home(tell(a, unit, deck), c.home, staying()),
+        None => {
             let act = own(p, deck, c.home, row, mem);
             let done = act.done;
             let moves = act.moves;

@@ -1,6 +1,6 @@
 -- "For any input a public function's promise leaves one possible result, one next state and one content of each lent memory, refusals as well."
 -- A law for each public function, by its name: two results that meet its promise are equal.
-use Rattle.std.specs.Prelude.{◌≡◌, refl, Bool, List, ℕ, ◌≤◌, ◌<◌, min, length, take, get_or}
+use Rattle.std.specs.Prelude.{◌≡◌, refl, Bool, List, ℕ, ◌≤◌, ◌<◌, min, length, take, get_or, Option}
 use Rattle.std.proofs.Common.{sym, ap, ◌∙◌, arith}
 use Rattle.std.specs.Borrow.{Bor}
 use denote.Slice.{shr_slice_vals}
@@ -265,13 +265,13 @@ unique-hold u a r s = value_once
 pub unique-clear : (u r s : Unit) → r ≡ clear u → s ≡ clear u → r ≡ s
 unique-clear u r s = value_once
 
-pub unique-first-pending : (u : Unit) (r s : Pending) → r ≡ pending_of u → s ≡ pending_of u → r ≡ s
+pub unique-first-pending : (u : Unit) (r s : Option Pending) → r ≡ pending_of u → s ≡ pending_of u → r ≡ s
 unique-first-pending u r s = value_once
 
-pub unique-told : (u : Unit) (a : Pending) (r s : Unit) → r ≡ told a u → s ≡ told a u → r ≡ s
+pub unique-told : (u : Unit) (a : Option Pending) (r s : Unit) → r ≡ told a u → s ≡ told a u → r ≡ s
 unique-told u a r s = value_once
 
-pub unique_sense_of-pending : (a : Pending) (r s : Sense) → r ≡ attention_sense a → s ≡ attention_sense a → r ≡ s
+pub unique_sense_of-pending : (a : Option Pending) (r s : Sense) → r ≡ attention_sense a → s ≡ attention_sense a → r ≡ s
 unique_sense_of-pending a r s = value_once
 
 pub unique-give : (u : Unit) (r s : Giving) → r ≡ give u → s ≡ give u → r ≡ s
@@ -416,7 +416,7 @@ unique-good len start count u m r s = value_once
 pub unique_finish : (u v : Unit) (m : Deck) (d : Done) (r s : Outcome) → r ≡ finished u v m d → s ≡ finished u v m d → r ≡ s
 unique_finish u v m d r s = value_once
 
-pub unique_tell : (a : Pending) (u : Unit) (m : Deck) (r s : Outcome)
+pub unique_tell : (a : Option Pending) (u : Unit) (m : Deck) (r s : Outcome)
     → r ≡ checked (attention_sense a) (told a u) m → s ≡ checked (attention_sense a) (told a u) m → r ≡ s
 unique_tell a u m r s = value_once
 

@@ -3,6 +3,7 @@ use mathlib.Core.Path.{◌≡◌, sym, ap, ◌∙◌}
 use mathlib.Core.Bool.{true, false}
 use Rattle.ground.specs.Tests.{when, unless}
 use Rattle.attention.specs.Sense.{no_sense, same_sense}
+use Rattle.std.specs.Prelude.{Option}
 use Rattle.gate.specs.declared.unit.Pending.{Pending}
 use Rattle.gate.specs.Unit.{clear, attention_sense, told, give}
 use Rattle.gate.proofs.unit.give.Goals as goal
@@ -13,7 +14,7 @@ returns-then-same c = let u = c.args.u in
     let k : same_sense u.sense no_sense ≡ true = ap (same_sense u.sense) (sym c.sense_at.ensures) ∙ sym c.same.ensures ∙ c.if-same.true in
     let p = c.first_pending-a.ensures in
     let s = c.sense_of_pending.ensures ∙ ap attention_sense p in
-    let v = c.clear.ensures ∙ ap clear (c.told.ensures ∙ ap (λ (a : Pending). told a u) p) in
+    let v = c.clear.ensures ∙ ap clear (c.told.ensures ∙ ap (λ (a : Option Pending). told a u) p) in
     rw (s, v) (sym (when _ _ _ k))
 
 pub returns : goal.returns
