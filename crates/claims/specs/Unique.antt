@@ -1,6 +1,6 @@
 -- "For any input a public function's promise leaves one possible result, one next state and one content of each lent memory, refusals as well."
 -- A law for each public function, by its name: two results that meet its promise are equal.
-use Rattle.std.specs.Prelude.{◌≡◌, refl, Bool, List, ℕ, ◌≤◌, ◌<◌, min, length, take, get_or, Option}
+use Rattle.std.specs.Prelude.{◌≡◌, refl, Bool, List, ℕ, ◌≤◌, ◌<◌, min, length, take, get_or, Option, Result}
 use Rattle.std.proofs.Common.{sym, ap, ◌∙◌, arith}
 use Rattle.std.specs.Borrow.{Bor}
 use denote.Slice.{shr_slice_vals}
@@ -58,7 +58,6 @@ use Rattle.blocks.specs.Blocks.{capacity, seek, read}
 use Rattle.audio.specs.declared.sub_channel.SubAsk.{SubAsk}
 use Rattle.audio.specs.Audio.{play, pause_resume}
 use Rattle.audio.specs.SubChannel.{sub_ask, sub_bad, position_bytes, status_bytes, reported}
-use Rattle.mode.specs.declared.mode_sense.Shown.{Shown}
 use Rattle.mode.specs.ModeSense.{page_shown, mode_bytes}
 use Rattle.mode.specs.ModeSelect.{mode_select}
 use Rattle.event.specs.EventClass.{class_for}
@@ -471,7 +470,7 @@ unique-reported a r s = value_once
 
 -- ---- mode
 
-pub unique-page-shown : (b : ℕ) (a : Page) (r s : Shown) → r ≡ page_shown b a → s ≡ page_shown b a → r ≡ s
+pub unique-page-shown : (b : ℕ) (a : Page) (r s : Result Page Fault) → r ≡ page_shown b a → s ≡ page_shown b a → r ≡ s
 unique-page-shown b a r s = value_once
 
 pub unique_mode-bytes : (a : Page) (r s : List ℕ) → r ≡ mode_bytes a → s ≡ mode_bytes a → r ≡ s
