@@ -11,7 +11,7 @@ use crate::load::{Act, failed, load_unload};
 use crate::slots::{is_in_order, staying};
 use crate::status::mechanism_status;
 use crate::{Changer, Met, Moves, Outcome, Row};
-use command::field::{bit0, bit1};
+use command::field::bit;
 use deck::Deck;
 use disc::disc::fault;
 use disc::part::UNFIT;
@@ -83,7 +83,7 @@ fn is_own(p: &[u8]) -> bool
         return true;
     }
     if code == START_STOP {
-        return bit1(p[4]);
+        return bit::<1>(p[4]);
     }
     false
 }
@@ -95,7 +95,7 @@ fn own(p: &[u8], deck: Deck, home: u8, row: Row, mem: &mut [u8]) -> Act
 {
     let code = p[0];
     if code == LOAD_UNLOAD {
-        return load_unload(bit1(p[4]), bit0(p[4]), p[8], deck, home, row);
+        return load_unload(bit::<1>(p[4]), bit::<0>(p[4]), p[8], deck, home, row);
     }
     if code == MECHANISM_STATUS {
         return mechanism_status(word16(p[8], p[9]), deck, home, row, mem);

@@ -49,7 +49,7 @@ use Rattle.disc.specs.Disc.{reading}
 use Rattle.command.specs.declared.decode.Command.{Command}
 use Rattle.command.specs.declared.decode.Kind.{Kind}
 use Rattle.command.specs.declared.done.Went.{Went}
-use Rattle.command.specs.Command.{decode, kind_of, needing, bit0, bit1, bit6}
+use Rattle.command.specs.Command.{decode, kind_of, needing, bit, bit0, bit1, bit6}
 use Rattle.command.specs.Tray.{start_stop, prevent, no_medium}
 use Rattle.command.specs.Inquiry.{inquiry_bytes}
 use Rattle.command.specs.Done.{Done, went_with, done, done_of}
@@ -372,6 +372,9 @@ unique-kind_of c r s = value_once
 
 pub unique-needs-disc : (c : Command) (b : ℕ) (r s : Bool) → r ≡ needing c b → s ≡ needing c b → r ≡ s
 unique-needs-disc c b r s = value_once
+
+pub unique-bit : (n b : ℕ) (r s : Bool) → r ≡ bit n b → s ≡ bit n b → r ≡ s
+unique-bit n b r s = value_once
 
 pub unique-bit0 : (b : ℕ) (r s : Bool) → r ≡ bit0 b → s ≡ bit0 b → r ≡ s
 unique-bit0 b r s = value_once

@@ -15,7 +15,7 @@ returns-then-code-2 c = rw (ne_eqb _ _ c.if-code.false, eq-eqb _ _ c.if-code-2.t
 
 pub returns-then-code-eq-START_STOP : goal.returns-then-code-eq-START_STOP
 unfolding is_own ◌or◌ ◌and◌
-returns-then-code-eq-START_STOP c = rw (ne_eqb _ _ c.if-code.false, ne_eqb _ _ c.if-code-2.false, eq-eqb _ _ c.if-code-eq-START_STOP.true) c.bit1.ensures
+returns-then-code-eq-START_STOP c = rw (ne_eqb _ _ c.if-code.false, ne_eqb _ _ c.if-code-2.false, eq-eqb _ _ c.if-code-eq-START_STOP.true) c.bit.ensures
 
 pub returns : goal.returns
 unfolding is_own ◌or◌ ◌and◌
