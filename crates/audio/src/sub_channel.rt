@@ -3,7 +3,7 @@ ghost use Rattle.std.specs.Prelude.{◌≡◌};
 ghost use Rattle.audio.specs.SubChannel.{sub_ask, sub_bad, index_of, relative, shown_relative, position_bytes, status_bytes, reported};
 
 use address::shown_address;
-use command::field::{bit1, bit6};
+use command::field::bit;
 use ground::number::{bytes32, wide};
 use play::{COMPLETED, NONE, Play};
 use table::layout::is_track;
@@ -25,8 +25,8 @@ pub fn sub_ask(b1: u8, b2: u8, b3: u8) -> SubAsk
     ensures { result ≡ sub_ask b1 b2 b3 }
 {
     SubAsk {
-        msf: bit1(b1),
-        sub_q: bit6(b2),
+        msf: bit::<1>(b1),
+        sub_q: bit::<6>(b2),
         format: b3,
     }
 }

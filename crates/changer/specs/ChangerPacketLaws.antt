@@ -1,5 +1,5 @@
 -- How the code's outcomes meet an answer.
-use Rattle.std.specs.Prelude.{ℕ, ◌≤◌, ◌<◌, min, ◌≡◌, Bool, Option, List, ◌++◌, length, take, drop}
+use Rattle.std.specs.Prelude.{ℕ, ◌≤◌, ◌<◌, min, ◌≡◌, Bool, Option, None, List, ◌++◌, length, take, drop}
 use Rattle.std.proofs.Math.Path.{refl, sym, ap}
 use Rattle.std.proofs.Common.{◌∙◌, lt_of_not-le, drop_of_length-le, take_all, eq-eqb, ne_eqb, lt-ltb, le-ltb, ltb-true, leb-true}
 use Rattle.std.proofs.Math.Bool.{true, false, not}
@@ -18,7 +18,6 @@ use Rattle.disc.specs.Part.{unfit, rule_with}
 use Rattle.disc.specs.PartLaws.{rule_with-none, rule_with-fault}
 use Rattle.gate.specs.declared.fault.Fault.TheVariants.{BadField}
 use Rattle.gate.specs.declared.unit.Pending.{Pending}
-use Rattle.gate.specs.declared.unit.Pending.TheVariants.{Nothing}
 use Rattle.gate.specs.Unit.{clear, pending_of, attention_sense, told}
 use Rattle.gate.specs.Gate.{Result, fails, goes, Reply, refuse, settle, gate}
 use Rattle.gate.specs.GateLaws.{gate-tells, gate-settles}
@@ -110,8 +109,8 @@ answered_by-carried m {a} x = record {
 }
 
 -- an attention is told
-pub answered_by-tells : (a : Pending) (u : Unit) (m : Mechanism) (r : Result Mechanism) {o : Driven} (b : List ℕ)
-    → pending_of u ≡ a → (a ≡ Nothing → ⊥) → o ≡ checked (attention_sense a) (told a u) m.deck
+pub answered_by-tells : (a : Option Pending) (u : Unit) (m : Mechanism) (r : Result Mechanism) {o : Driven} (b : List ℕ)
+    → pending_of u ≡ a → (a ≡ None → ⊥) → o ≡ checked (attention_sense a) (told a u) m.deck
     → AnsweredBy (gate u m r) m.slots b (outcome_with o m.home staying) b
 answered_by-tells a u m r b e n x = rw (gate-tells a u m r e n) (record {
   outcome = ap (λ (o : Driven). (outcome_with o m.home staying).outcome) x;
@@ -136,7 +135,7 @@ module _ (u : Unit) (m : Mechanism) where
   settled-slots (goes next loading full limit start count) = refl
 
   pub answered_by-settles : (r : Result Mechanism) {a : Act} {o : Driven} {b b' : List ℕ}
-      → pending_of u ≡ Nothing → ActedOn r m b a b' → o ≡ finished u (clear u) m.deck a.done
+      → pending_of u ≡ None → ActedOn r m b a b' → o ≡ finished u (clear u) m.deck a.done
       → AnsweredBy (gate u m r) m.slots b (outcome_with o a.home a.moves) b'
   answered_by-settles r {a} {o} {b} e x f =
       let y = x.acted in

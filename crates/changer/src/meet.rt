@@ -11,12 +11,12 @@ use crate::load::{Act, failed, load_unload};
 use crate::slots::{is_in_order, staying};
 use crate::status::mechanism_status;
 use crate::{Changer, Met, Moves, Outcome, Slot};
-use command::field::{bit0, bit1};
+use command::field::bit;
 use disc::disc::fault;
 use disc::part::UNFIT;
 use drive::state::UNKNOWN_STATE;
 use gate::fault::Fault;
-use gate::unit::{Pending, clear, first_pending};
+use gate::unit::{clear, first_pending};
 use ground::number::word16;
 use outcome::{finish, tell};
 use table::layout::BOUND;
@@ -76,7 +76,7 @@ fn is_own(p: &[u8]) -> bool
 {
     match p[0] {
         LOAD_UNLOAD | MECHANISM_STATUS => true,
-        START_STOP => bit1(p[4]),
+        START_STOP => bit::<1>(p[4]),
         _ => false,
     }
 }
@@ -87,7 +87,7 @@ fn own(p: &[u8], c: Changer, slots: &[Slot], mem: &mut [u8]) -> Act
     ensures { ActedOn (own p.now (mechanism_of c slots.now)) (mechanism_of c slots.now) mem.old result mem.new }
 {
     match p[0] {
-        LOAD_UNLOAD => load_unload(bit1(p[4]), bit0(p[4]), p[8], c, slots),
+        LOAD_UNLOAD => load_unload(bit::<1>(p[4]), bit::<0>(p[4]), p[8], c, slots),
         MECHANISM_STATUS => mechanism_status(word16(p[8], p[9]), c, slots, mem),
         _ => failed(Fault::BadField, c.home),
     }
@@ -102,9 +102,8 @@ fn gated(slots: &[Slot], c: Changer, p: &[u8], mem: &mut [u8]) -> Met
     let deck = c.drive.deck;
     let a = first_pending(unit);
     match a {
-        Pending::Power => with_home(tell(a, unit, deck), c.home, staying()),
-        Pending::Change => with_home(tell(a, unit, deck), c.home, staying()),
-        Pending::Nothing => {
+        Some(_) => with_home(tell(a, unit, deck), c.home, staying()),
+        None => {
             let act = own(p, c, slots, mem);
             let done = act.done;
             let moves = act.moves;

@@ -1,5 +1,5 @@
 -- No full answer passes the bound: READ TOC's are no longer than the table, and every other is short or empty.
-use Rattle.std.specs.Prelude.{◌≡◌, refl, Bool, true, false, not, List, ℕ, zero, suc, ◌+◌, ◌≤◌, length, eqb, ltb}
+use Rattle.std.specs.Prelude.{◌≡◌, refl, Bool, true, false, not, List, ℕ, zero, suc, ◌+◌, ◌≤◌, length, eqb, ltb, Option, Some, None}
 use Rattle.std.proofs.Common.{sym, ap, ◌∙◌, true≢false, arith, length-append, length-drop, ltb-false}
 use Rattle.std.proofs.lemmas.Bool.{not-true}
 use Rattle.ground.specs.Tests.{◌and◌, ◌or◌, either, and_head, and_tail}
@@ -15,7 +15,7 @@ use Rattle.disc.specs.RulesLaws.{is_fit_true, fit_sized, fit-numbered}
 use Rattle.disc.specs.FitLaws.{session-none}
 use Rattle.disc.specs.Disc.{disc_of}
 use Rattle.gate.specs.declared.unit.Pending.{Pending}
-use Rattle.gate.specs.declared.unit.Pending.TheVariants.{Power, Change, Nothing}
+use Rattle.gate.specs.declared.unit.Pending.TheVariants.{Power, Change}
 use Rattle.gate.specs.Unit.{pending_of}
 use Rattle.gate.specs.Gate.{Result, fails, goes, Reply, settle, pass, meet, gate}
 use Rattle.command.specs.declared.decode.Command.{Command}
@@ -108,10 +108,10 @@ pass-bounded : (u : Unit) (m : Deck) (r : Result Deck) → Bounded r → length 
 pass-bounded u m (fails f) h = omega arith
 pass-bounded u m (goes next loading full limit start count) h = h
 
-meet-bounded : (a : Pending) (u : Unit) (m : Deck) (r : Result Deck) → Bounded r → length (meet a u m r).full ≤ bound
-meet-bounded Power u m r h = omega arith
-meet-bounded Change u m r h = omega arith
-meet-bounded Nothing u m r h = settle-bounded u m r h
+meet-bounded : (a : Option Pending) (u : Unit) (m : Deck) (r : Result Deck) → Bounded r → length (meet a u m r).full ≤ bound
+meet-bounded (Some Power) u m r h = omega arith
+meet-bounded (Some Change) u m r h = omega arith
+meet-bounded None u m r h = settle-bounded u m r h
 
 steps_by-bounded : (k : Kind) (c : Command) (u : Unit) (m : Deck) (p t l : List ℕ) → Bounded (perform c p m t l)
     → length (steps_by k c u m p t l).full ≤ bound

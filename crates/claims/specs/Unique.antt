@@ -48,7 +48,7 @@ use Rattle.disc.specs.Disc.{unfit_by, reading}
 use Rattle.command.specs.declared.decode.Command.{Command}
 use Rattle.command.specs.declared.decode.Kind.{Kind}
 use Rattle.command.specs.declared.done.Went.{Went}
-use Rattle.command.specs.Command.{decode, kind_of, needing, bit0, bit1, bit6}
+use Rattle.command.specs.Command.{decode, kind_of, needing, bit, bit0, bit1, bit6}
 use Rattle.command.specs.Tray.{start_stop, prevent, no_medium}
 use Rattle.command.specs.Inquiry.{inquiry_bytes}
 use Rattle.command.specs.Done.{Done, went_with, done, done_of}
@@ -57,7 +57,6 @@ use Rattle.blocks.specs.Blocks.{capacity, seek, read}
 use Rattle.audio.specs.declared.sub_channel.SubAsk.{SubAsk}
 use Rattle.audio.specs.Audio.{play, pause_resume}
 use Rattle.audio.specs.SubChannel.{sub_ask, sub_bad, position_bytes, status_bytes, reported}
-use Rattle.mode.specs.declared.mode_sense.Shown.{Shown}
 use Rattle.mode.specs.ModeSense.{page_shown, mode_bytes}
 use Rattle.mode.specs.ModeSelect.{mode_select}
 use Rattle.event.specs.EventClass.{class_for}
@@ -264,13 +263,13 @@ unique-hold u a r s = value_once
 pub unique-clear : (u r s : Unit) → r ≡ clear u → s ≡ clear u → r ≡ s
 unique-clear u r s = value_once
 
-pub unique-first-pending : (u : Unit) (r s : Pending) → r ≡ pending_of u → s ≡ pending_of u → r ≡ s
+pub unique-first-pending : (u : Unit) (r s : Option Pending) → r ≡ pending_of u → s ≡ pending_of u → r ≡ s
 unique-first-pending u r s = value_once
 
-pub unique-told : (u : Unit) (a : Pending) (r s : Unit) → r ≡ told a u → s ≡ told a u → r ≡ s
+pub unique-told : (u : Unit) (a : Option Pending) (r s : Unit) → r ≡ told a u → s ≡ told a u → r ≡ s
 unique-told u a r s = value_once
 
-pub unique_sense_of-pending : (a : Pending) (r s : Sense) → r ≡ attention_sense a → s ≡ attention_sense a → r ≡ s
+pub unique_sense_of-pending : (a : Option Pending) (r s : Sense) → r ≡ attention_sense a → s ≡ attention_sense a → r ≡ s
 unique_sense_of-pending a r s = value_once
 
 pub unique-give : (u : Unit) (r s : Giving) → r ≡ give u → s ≡ give u → r ≡ s
@@ -386,6 +385,9 @@ unique-kind_of c r s = value_once
 pub unique-needs-disc : (c : Command) (b : ℕ) (r s : Bool) → r ≡ needing c b → s ≡ needing c b → r ≡ s
 unique-needs-disc c b r s = value_once
 
+pub unique-bit : (n b : ℕ) (r s : Bool) → r ≡ bit n b → s ≡ bit n b → r ≡ s
+unique-bit n b r s = value_once
+
 pub unique-bit0 : (b : ℕ) (r s : Bool) → r ≡ bit0 b → s ≡ bit0 b → r ≡ s
 unique-bit0 b r s = value_once
 
@@ -428,7 +430,7 @@ unique-good len start count u m r s = value_once
 pub unique_finish : (u v : Unit) (m : Deck) (d : Done) (r s : Outcome) → r ≡ finished u v m d → s ≡ finished u v m d → r ≡ s
 unique_finish u v m d r s = value_once
 
-pub unique_tell : (a : Pending) (u : Unit) (m : Deck) (r s : Outcome)
+pub unique_tell : (a : Option Pending) (u : Unit) (m : Deck) (r s : Outcome)
     → r ≡ checked (attention_sense a) (told a u) m → s ≡ checked (attention_sense a) (told a u) m → r ≡ s
 unique_tell a u m r s = value_once
 
@@ -483,7 +485,7 @@ unique-reported a r s = value_once
 
 -- ---- mode
 
-pub unique-page-shown : (b : ℕ) (a : Page) (r s : Shown) → r ≡ page_shown b a → s ≡ page_shown b a → r ≡ s
+pub unique-page-shown : (b : ℕ) (a : Page) (r s : Result Page Fault) → r ≡ page_shown b a → s ≡ page_shown b a → r ≡ s
 unique-page-shown b a r s = value_once
 
 pub unique_mode-bytes : (a : Page) (r s : List ℕ) → r ≡ mode_bytes a → s ≡ mode_bytes a → r ≡ s

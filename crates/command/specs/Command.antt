@@ -1,5 +1,5 @@
 -- The packets, by operation code, and the fields that stand in them (those of READ TOC and READ SUB-CHANNEL with their answers).
-use Rattle.std.specs.Prelude.{ℕ, ◌+◌, ◌/◌, ◌%◌, Bool, true, false, not, List, get_or, eqb}
+use Rattle.std.specs.Prelude.{ℕ, ◌+◌, ◌/◌, ◌%◌, ◌^◌, Bool, true, false, not, List, get_or, eqb}
 use Rattle.ground.specs.Tests.{◌and◌, choose◌then◌else◌}
 use Rattle.ground.specs.Number.{word16, word32}
 use Rattle.command.specs.declared.decode.Command.{Command}
@@ -36,16 +36,20 @@ byte p k = get_or p k 0
 abbrev pub code_of : List ℕ → ℕ
 code_of p = byte p 0
 
+-- bit n of a byte, n below 8 (a greater one is taken by its remainder)
+abbrev pub bit : ℕ → ℕ → Bool
+bit n b = eqb (b / 2 ^ (n % 8) % 2) 1
+
 -- bit 0 and bit 1 of a byte
 abbrev pub bit0 : ℕ → Bool
-bit0 b = eqb (b % 2) 1
+bit0 b = bit 0 b
 
 abbrev pub bit1 : ℕ → Bool
-bit1 b = eqb (b / 2 % 2) 1
+bit1 b = bit 1 b
 
 -- bit 6 of a byte
 abbrev pub bit6 : ℕ → Bool
-bit6 b = eqb (b / 64 % 2) 1
+bit6 b = bit 6 b
 
 -- the number in a packet's four bytes from i on
 abbrev pub word_at : List ℕ → ℕ → ℕ

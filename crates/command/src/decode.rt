@@ -3,7 +3,7 @@ ghost use Rattle.std.specs.Prelude.{◌≡◌};
 ghost use Rattle.command.specs.Command.{decode, kind_of, starting, needing};
 
 use crate::class::{class_at, command_of};
-use crate::field::{bit0, bit1};
+use crate::field::bit;
 
 #[derive(Clone, Copy)]
 pub enum Command {
@@ -72,10 +72,7 @@ pub fn kind_of(c: Command) -> Kind
 fn starting(b: u8) -> bool
     ensures { result ≡ starting b }
 {
-    if bit1(b) {
-        return false;
-    }
-    bit0(b)
+    !bit::<1>(b) && bit::<0>(b)
 }
 
 // The command needs a disc; b is the packet's byte 4.

@@ -1,26 +1,10 @@
 // Bits of a packet's byte.
 ghost use Rattle.std.specs.Prelude.{◌≡◌};
-ghost use Rattle.command.specs.Command.{bit0, bit1, bit6};
+ghost use Rattle.command.specs.Command.{bit};
 
-use ground::number::wide;
-
-// Bit 0 of a packet's byte.
-pub fn bit0(b: u8) -> bool
-    ensures { result ≡ bit0 b }
+// Bit N of a packet's byte, N below 8: `wrapping_shr` takes any N, so that nothing is asked of a caller.
+pub fn bit<const N: u32>(b: u8) -> bool
+    ensures { result ≡ bit N b }
 {
-    wide(b) % 2 == 1
-}
-
-// Bit 1 of a packet's byte.
-pub fn bit1(b: u8) -> bool
-    ensures { result ≡ bit1 b }
-{
-    wide(b) / 2 % 2 == 1
-}
-
-// Bit 6 of a packet's byte.
-pub fn bit6(b: u8) -> bool
-    ensures { result ≡ bit6 b }
-{
-    wide(b) / 64 % 2 == 1
+    b.wrapping_shr(N) % 2 == 1
 }

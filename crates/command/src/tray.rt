@@ -4,7 +4,7 @@ ghost use Rattle.command.specs.Tray.{moving, eject, load, start_stop, prevent, n
 ghost use Rattle.command.specs.Done.{done_of};
 
 use crate::done::{Done, Went, done_with, went_with};
-use crate::field::{bit0, bit1};
+use crate::field::bit;
 use deck::{Deck, Shifted};
 use gate::fault::Fault;
 
@@ -45,20 +45,20 @@ fn load(m: Deck) -> Done
 pub fn start_stop(b: u8, m: Deck) -> Done
     ensures { result ≡ done_of (start_stop b m) }
 {
-    if bit1(b) {
-        if bit0(b) {
-            return load(m);
-        }
-        return eject(m);
+    if !bit::<1>(b) {
+        return done_with(m);
     }
-    done_with(m)
+    if bit::<0>(b) {
+        return load(m);
+    }
+    eject(m)
 }
 
 // PREVENT/ALLOW: the lock becomes bit 0.
 pub fn prevent(b: u8, m: Deck) -> Done
     ensures { result ≡ done_of (prevent b m) }
 {
-    done_with(m.with_lock(bit0(b)))
+    done_with(m.with_lock(bit::<0>(b)))
 }
 
 // No medium: the tray tells which.

@@ -1,11 +1,11 @@
 -- "Steps for a packet", over any deck: a command's result names no attention, and the gate decides what is told.
-use Rattle.std.specs.Prelude.{ℕ, Bool, List, [], ◌∷◌}
+use Rattle.std.specs.Prelude.{ℕ, Bool, List, [], ◌∷◌, Option, Some, None}
 use Rattle.attention.specs.declared.sense.Sense.{Sense}
 use Rattle.attention.specs.declared.Unit.{Unit}
 use Rattle.attention.specs.Unit.{attend}
 use Rattle.gate.specs.declared.fault.Fault.{Fault}
 use Rattle.gate.specs.declared.unit.Pending.{Pending}
-use Rattle.gate.specs.declared.unit.Pending.TheVariants.{Power, Change, Nothing}
+use Rattle.gate.specs.declared.unit.Pending.TheVariants.{Power, Change}
 use Rattle.gate.specs.Fault.{sense_of}
 use Rattle.gate.specs.Unit.{hold, clear, pending_of, attention_sense, told, give}
 
@@ -57,10 +57,10 @@ module _ {M : Type 0} where
   pass u m (goes next loading full limit start count) = good full limit start count (attend loading u) next
 
   -- step 2: "CHECK CONDITION with 06/29/00 or 06/28/00. That one stops being pending. This is a telling."
-  abbrev pub meet : Pending → Unit → M → Result M → Reply M
-  meet Power u m r = check (attention_sense Power) (told Power u) m
-  meet Change u m r = check (attention_sense Change) (told Change u) m
-  meet Nothing u m r = settle u m r
+  abbrev pub meet : Option Pending → Unit → M → Result M → Reply M
+  meet (Some Power) u m r = check (attention_sense (Some Power)) (told (Some Power) u) m
+  meet (Some Change) u m r = check (attention_sense (Some Change)) (told (Some Change) u) m
+  meet None u m r = settle u m r
 
   unfoldable pub gate : Unit → M → Result M → Reply M
   gate u m r = meet (pending_of u) u m r

@@ -6,12 +6,11 @@ ghost use Rattle.gate.specs.Gate.{sense_bytes};
 use attention::Unit;
 use attention::sense::{CHANGED, NO_SENSE, POWERED, Sense, sense_at};
 
-// The attention that is told next: power first.
+// An attention that is pending.
 #[derive(Clone, Copy)]
 pub enum Pending {
     Power,
     Change,
-    Nothing,
 }
 
 // What REQUEST SENSE gives, and the unit then.
@@ -25,11 +24,7 @@ pub struct Giving {
 pub fn hold(u: Unit, sense: Sense) -> Unit
     ensures { result ≡ hold sense u }
 {
-    Unit {
-        power: u.power,
-        change: u.change,
-        sense,
-    }
+    Unit { sense, ..u }
 }
 
 // The unit after GOOD: sense 00/00/00.
@@ -39,47 +34,38 @@ pub fn clear(u: Unit) -> Unit
     hold(u, sense_at(NO_SENSE))
 }
 
-// The attention that is pending, power first.
-pub fn first_pending(u: Unit) -> Pending
+// The attention that is told next, if one is pending: power first.
+pub fn first_pending(u: Unit) -> Option<Pending>
     ensures { result ≡ pending_of u }
 {
     if u.power {
-        return Pending::Power;
+        return Some(Pending::Power);
     }
     if u.change {
-        return Pending::Change;
+        return Some(Pending::Change);
     }
-    Pending::Nothing
+    None
 }
 
 // That attention stops being pending.
-pub fn told(u: Unit, a: Pending) -> Unit
+pub fn told(u: Unit, a: Option<Pending>) -> Unit
     ensures { result ≡ told a u }
 {
-    let sense = u.sense;
     match a {
-        Pending::Power => Unit {
-            power: false,
-            change: u.change,
-            sense,
-        },
-        Pending::Change => Unit {
-            power: u.power,
-            change: false,
-            sense,
-        },
-        Pending::Nothing => u,
+        Some(Pending::Power) => Unit { power: false, ..u },
+        Some(Pending::Change) => Unit { change: false, ..u },
+        None => u,
     }
 }
 
 // The triple of an attention; 00/00/00 for none.
-pub fn sense_of_pending(a: Pending) -> Sense
+pub fn sense_of_pending(a: Option<Pending>) -> Sense
     ensures { result ≡ attention_sense a }
 {
     match a {
-        Pending::Power => sense_at(POWERED),
-        Pending::Change => sense_at(CHANGED),
-        Pending::Nothing => sense_at(NO_SENSE),
+        Some(Pending::Power) => sense_at(POWERED),
+        Some(Pending::Change) => sense_at(CHANGED),
+        None => sense_at(NO_SENSE),
     }
 }
 

@@ -1,14 +1,13 @@
 -- 5Ah, MODE SENSE(10), "for page 01h, eight header bytes and eight page bytes".
-use Rattle.std.specs.Prelude.{ℕ, ◌/◌, ◌%◌, false, List, [], ◌∷◌, eqb}
+use Rattle.std.specs.Prelude.{ℕ, ◌/◌, ◌%◌, false, List, [], ◌∷◌, eqb, Result as Answer, Ok, Err}
 use Rattle.ground.specs.Tests.{choose◌then◌else◌}
 use Rattle.page.specs.declared.Page.{Page}
 use Rattle.page.specs.Page.{page_of, defaults}
 use Rattle.deck.specs.declared.Deck.{Deck}
+use Rattle.gate.specs.declared.fault.Fault.{Fault}
 use Rattle.gate.specs.declared.fault.Fault.TheVariants.{BadField, NoSaving}
 use Rattle.gate.specs.Gate.{Result, fails}
 use Rattle.command.specs.Done.{answering}
-use Rattle.mode.specs.declared.mode_sense.Shown.{Shown}
-use Rattle.mode.specs.declared.mode_sense.Shown.TheVariants.{Fails, Values}
 
 -- 004 byte 2: the page control in bits 7 and 6, the page code in bits 5 to 0
 abbrev pub control_in : ℕ → ℕ
@@ -36,11 +35,11 @@ unfoldable pub values_of : ℕ → Page → Page
 values_of control current = choose eqb control asks_changeable then changeable else (choose eqb control asks_default then defaults else current)
 
 -- "after step 3, in MODE SENSE 05/24/00 for another page, then 05/39/00 for saved values": b is the packet's byte 2
-unfoldable pub page_shown : ℕ → Page → Shown
+unfoldable pub page_shown : ℕ → Page → Answer Page Fault
 page_shown b current =
     choose eqb (page_in b) 0x01
-    then (choose eqb (control_in b) asks_saved then Fails NoSaving else Values (values_of (control_in b) current))
-    else Fails BadField
+    then (choose eqb (control_in b) asks_saved then Err NoSaving else Ok (values_of (control_in b) current))
+    else Err BadField
 
 -- "Sense gives 00 0E and six zeros, then 01 06, recovery byte, retry count and four zeros."
 abbrev pub mode_bytes : Page → List ℕ
@@ -50,9 +49,9 @@ mode_bytes g =
     ∷ []
 
 -- the fault, or the values' bytes, `limit` of them being asked for
-abbrev pub gives : Shown → ℕ → Deck → Result Deck
-gives (Fails f) limit m = fails f
-gives (Values g) limit m = answering false m (mode_bytes g) limit
+abbrev pub gives : Answer Page Fault → ℕ → Deck → Result Deck
+gives (Err f) limit m = fails f
+gives (Ok g) limit m = answering false m (mode_bytes g) limit
 
 -- b is the packet's byte 2, limit its allocation length
 abbrev pub mode_sense : ℕ → ℕ → Deck → Result Deck

@@ -15,13 +15,7 @@ const LIST: usize = 16;
 fn is_page(code: u8, len: u8, recovery: u8) -> bool
     ensures { result ≡ is_page code len recovery }
 {
-    if code == 0x01 {
-        if len == 0x06 {
-            return is_setting(recovery);
-        }
-        return false;
-    }
-    false
+    code == 0x01 && len == 0x06 && is_setting(recovery)
 }
 
 // The page's recovery byte and retry count are set where it begins as it must; else it is a bad one.
@@ -38,14 +32,14 @@ fn selected(code: u8, len: u8, recovery: u8, retry: u8, m: Deck) -> Done
 pub fn mode_select(n: usize, list: &[u8], m: Deck) -> Done
     ensures { result ≡ done_of (mode_select n list.now m) }
 {
-    if n == list.len() {
-        if n == 0 {
-            return done_with(m);
-        }
-        if n == LIST {
-            return selected(list[8], list[9], list[10], list[11], m);
-        }
+    if n != list.len() {
         return Err(Fault::ListLength);
     }
-    Err(Fault::ListLength)
+    if n == 0 {
+        return done_with(m);
+    }
+    if n != LIST {
+        return Err(Fault::ListLength);
+    }
+    selected(list[8], list[9], list[10], list[11], m)
 }

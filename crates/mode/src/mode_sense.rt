@@ -6,13 +6,6 @@ use gate::fault::Fault;
 use ground::number::wide;
 use page::{Page, defaults};
 
-// What the packet's byte 2 comes to: a fault, or the values that are shown.
-#[derive(Clone, Copy)]
-pub enum Shown {
-    Fails(Fault),
-    Values(Page),
-}
-
 // The one page that there is.
 const PAGE: usize = 0x01;
 
@@ -46,18 +39,18 @@ fn values_of(control: usize, current: Page) -> Page
     current
 }
 
-// Another page is a bad field, and then saved values are not to be had; b is the packet's byte 2.
-pub fn page_shown(b: u8, current: Page) -> Shown
+// The values that are shown: another page is a bad field, and then saved values are not to be had; b is the packet's byte 2.
+pub fn page_shown(b: u8, current: Page) -> Result<Page, Fault>
     ensures { result ≡ page_shown b current }
 {
     let control = wide(b) / 64;
-    if wide(b) % 64 == PAGE {
-        if control == SAVED {
-            return Shown::Fails(Fault::NoSaving);
-        }
-        return Shown::Values(values_of(control, current));
+    if wide(b) % 64 != PAGE {
+        return Err(Fault::BadField);
     }
-    Shown::Fails(Fault::BadField)
+    if control == SAVED {
+        return Err(Fault::NoSaving);
+    }
+    Ok(values_of(control, current))
 }
 
 // Eight header bytes, and the page.

@@ -88,7 +88,7 @@ pub fn finish(u: Unit, v: Unit, deck: Deck, done: Done) -> Outcome
 }
 
 // A telling: CHECK CONDITION with the attention's triple, and it stops being pending.
-pub fn tell(a: Pending, unit: Unit, deck: Deck) -> Outcome
+pub fn tell(a: Option<Pending>, unit: Unit, deck: Deck) -> Outcome
     ensures { result ≡ checked (attention_sense a) (told a unit) deck }
 {
     check(sense_of_pending(a), told(unit, a), deck)

@@ -7,7 +7,7 @@ ghost use Rattle.target.specs.Perform.{Performed};
 
 use crate::perform::answer;
 use command::done::Done;
-use command::field::bit0;
+use command::field::bit;
 use deck::Deck;
 use event::event_answer::{class_bytes, cleared, none_bytes};
 use event::event_class::{NO_CLASS, class_for};
@@ -18,7 +18,7 @@ pub(crate) fn get_event(p: &[u8], m: Deck, mem: &mut [u8]) -> Done
     requires { (length p.now ≡ 12) × (bound ≤ length mem.old) }
     ensures { Performed (get_event (byte p.now 1) (byte p.now 4) (length_in p.now) m) mem.old result mem.new }
 {
-    let bad = !bit0(p[1]);
+    let bad = !bit::<0>(p[1]);
     let limit = word16(p[7], p[8]);
     let class = class_for(p[4], m.event);
     let next = cleared(class, limit, m);

@@ -9,15 +9,13 @@ use crate::perform::answer;
 use command::done::Done;
 use deck::Deck;
 use ground::number::word16;
-use mode::mode_sense::{Shown, mode_bytes, page_shown};
+use mode::mode_sense::{mode_bytes, page_shown};
 
 // The packet's byte 2 decides; the values that it asks for are laid, cut to the allocation length.
 pub(crate) fn mode_sense(p: &[u8], m: Deck, mem: &mut [u8]) -> Done
     requires { (length p.now ≡ 12) × (bound ≤ length mem.old) }
     ensures { Performed (mode_sense (byte p.now 2) (length_in p.now) m) mem.old result mem.new }
 {
-    match page_shown(p[2], m.page) {
-        Shown::Fails(f) => Err(f),
-        Shown::Values(g) => answer(false, m, &mode_bytes(g), word16(p[7], p[8]), mem),
-    }
+    let g = page_shown(p[2], m.page)?;
+    answer(false, m, &mode_bytes(g), word16(p[7], p[8]), mem)
 }

@@ -14,7 +14,7 @@ use command::decode::{Command, Kind, decode, kind_of};
 use disc::disc::{Disc, read};
 use disc::part::UNFIT;
 use drive::state::{Drive, UNKNOWN_STATE};
-use gate::unit::{Pending, clear, first_pending, give, sense_bytes};
+use gate::unit::{clear, first_pending, give, sense_bytes};
 use ground::memory::put_cut;
 use ground::number::wide;
 use outcome::{Outcome, finish, good, refuse, tell};
@@ -74,9 +74,8 @@ fn gated(
     let deck = d.deck;
     let a = first_pending(unit);
     match a {
-        Pending::Power => tell(a, unit, deck),
-        Pending::Change => tell(a, unit, deck),
-        Pending::Nothing => {
+        Some(_) => tell(a, unit, deck),
+        None => {
             let done = perform(c, p, deck, t, list, disc, mem);
             finish(unit, clear(unit), deck, done)
         }

@@ -19,7 +19,7 @@ use blocks::blocks::{capacity_bytes, read_blocks, seek};
 use blocks::range::in_range;
 use command::decode::{Command, needs_disc};
 use command::done::{Done, Went, done_with, went_with};
-use command::field::bit0;
+use command::field::bit;
 use command::inquiry::inquiry_bytes;
 use command::tray::{no_medium, prevent, start_stop};
 use deck::Deck;
@@ -89,7 +89,7 @@ fn work(c: Command, p: &[u8], m: Deck, t: &[u8], list: &[u8], disc: Disc, mem: &
     match c {
         Command::TestUnitReady => done_with(m),
         Command::RequestSense => done_with(m),
-        Command::Inquiry => answer(bit0(p[1]), m, &inquiry_bytes(), wide(p[4]), mem),
+        Command::Inquiry => answer(bit::<0>(p[1]), m, &inquiry_bytes(), wide(p[4]), mem),
         Command::StartStop => start_stop(p[4], m),
         Command::Prevent => prevent(p[4], m),
         Command::ReadCapacity => answer(false, m, &capacity_bytes(disc.lead_out), 8, mem),
@@ -98,7 +98,7 @@ fn work(c: Command, p: &[u8], m: Deck, t: &[u8], list: &[u8], disc: Disc, mem: &
         Command::ReadToc => read_toc(p, m, t, disc, mem),
         Command::Read12 => read_run(word_at(p, 2), word_at(p, 6), m, t, disc),
         Command::PlayAudio => play_run(word_at(p, 2), word16(p[7], p[8]), m, t, disc),
-        Command::PauseResume => pause_resume(bit0(p[8]), m),
+        Command::PauseResume => pause_resume(bit::<0>(p[8]), m),
         Command::ReadSubChannel => read_sub_channel(p, m, t, mem),
         Command::ModeSense => mode_sense(p, m, mem),
         Command::ModeSelect => mode_select(word16(p[7], p[8]), list, m),

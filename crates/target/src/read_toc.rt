@@ -6,7 +6,7 @@ ghost use Rattle.target.specs.FitFacts.{ReadOff};
 ghost use Rattle.target.specs.Perform.{Performed};
 
 use command::done::{Done, Went, went_with};
-use command::field::bit1;
+use command::field::bit;
 use deck::Deck;
 use disc::disc::Disc;
 use gate::fault::Fault;
@@ -21,7 +21,7 @@ fn toc_ask(p: &[u8]) -> TocAsk
 {
     TocAsk {
         format: wide(p[2]) % 16,
-        msf: bit1(p[1]),
+        msf: bit::<1>(p[1]),
         number: p[6],
     }
 }

@@ -2,4 +2,4 @@
 use Rattle.audio.proofs.sub_channel.sub_ask.Goals as goal
 
 pub returns : goal.returns
-returns c = rw (c.bit1.ensures, c.bit6.ensures)
+returns c = rw (c.bit.ensures, c.bit-2.ensures)

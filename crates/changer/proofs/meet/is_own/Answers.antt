@@ -10,7 +10,7 @@ returns-in-166 c = elim c.in-166.is [ inl e ↦ rw e | inr e ↦ rw e ]
 
 pub returns-in-27 : goal.returns-in-27
 unfolding is_own ◌or◌ ◌and◌
-returns-in-27 c = rw c.in-27.is c.bit1.ensures
+returns-in-27 c = rw c.in-27.is c.bit.ensures
 
 pub returns-in_default : goal.returns-in_default
 unfolding is_own ◌or◌ ◌and◌

@@ -6,5 +6,5 @@ use Rattle.command.specs.Done.{done, done_of}
 use Rattle.command.proofs.tray.prevent.Goals as goal
 
 pub returns : goal.returns
-returns c = let l = c.with_lock.ensures ∙ ap (with_lock c.args.m) c.bit0.ensures in
+returns c = let l = c.with_lock.ensures ∙ ap (with_lock c.args.m) c.bit.ensures in
     c.done_with.ensures ∙ ap (λ (k : Deck). done_of (done k)) l

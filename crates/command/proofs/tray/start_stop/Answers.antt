@@ -5,14 +5,16 @@ use Rattle.command.specs.Done.{done_of}
 use Rattle.command.specs.Tray.{start_stop}
 use Rattle.command.proofs.tray.start_stop.Goals as goal
 
-pub returns-then-bit0 : goal.returns-then-bit0
+pub returns-then-not-bit : goal.returns-then-not-bit
 unfolding start_stop
-returns-then-bit0 c = c.load.ensures ∙ ap done_of (sym (when _ _ _ (sym c.bit1.ensures ∙ c.if-bit1.true) ∙ when _ _ _ (sym c.bit0.ensures ∙ c.if-bit0.true)))
+returns-then-not-bit c = c.done_with.ensures ∙ ap done_of (sym (unless _ _ _ (sym c.bit.ensures ∙ c.if-not-bit.true)))
 
-pub returns-then-bit1 : goal.returns-then-bit1
+pub returns-then-bit : goal.returns-then-bit
 unfolding start_stop
-returns-then-bit1 c = c.eject.ensures ∙ ap done_of (sym (when _ _ _ (sym c.bit1.ensures ∙ c.if-bit1.true) ∙ unless _ _ _ (sym c.bit0.ensures ∙ c.if-bit0.false)))
+returns-then-bit c =
+    c.load.ensures ∙ ap done_of (sym (when _ _ _ (sym c.bit.ensures ∙ c.if-not-bit.false) ∙ when _ _ _ (sym c.bit-2.ensures ∙ c.if-bit.true)))
 
 pub returns : goal.returns
 unfolding start_stop
-returns c = c.done_with.ensures ∙ ap done_of (sym (unless _ _ _ (sym c.bit1.ensures ∙ c.if-bit1.false)))
+returns c =
+    c.eject.ensures ∙ ap done_of (sym (when _ _ _ (sym c.bit.ensures ∙ c.if-not-bit.false) ∙ unless _ _ _ (sym c.bit-2.ensures ∙ c.if-bit.false)))

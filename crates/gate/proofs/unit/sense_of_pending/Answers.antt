@@ -1,13 +1,11 @@
 -- `gate::unit::sense_of_pending` meets its contract: each arm cites the row of its attention.
-use mathlib.Core.Path.{sym, ap, ◌∙◌}
-use Rattle.gate.specs.Unit.{attention_sense}
 use Rattle.gate.proofs.unit.sense_of_pending.Goals as goal
 
-pub returns-in-Power : goal.returns-in-Power
-returns-in-Power c = c.sense_at.ensures ∙ sym (ap attention_sense c.in-Power.is)
+pub returns-in-Some-Power : goal.returns-in-Some-Power
+returns-in-Some-Power c = let i = c.in-Some-Power in rw (i.is, rw i.is at i.field-0-is) c.sense_at.ensures
 
-pub returns-in-Change : goal.returns-in-Change
-returns-in-Change c = c.sense_at-in-Change.ensures ∙ sym (ap attention_sense c.in-Change.is)
+pub returns-in-Some-Change : goal.returns-in-Some-Change
+returns-in-Some-Change c = let i = c.in-Some-Change in rw (i.is, rw i.is at i.field-0-is) c.sense_at-in-Some-Change.ensures
 
-pub returns-in-Nothing : goal.returns-in-Nothing
-returns-in-Nothing c = c.sense_at-in-Nothing.ensures ∙ sym (ap attention_sense c.in-Nothing.is)
+pub returns-in-None : goal.returns-in-None
+returns-in-None c = rw c.in-None.is c.sense_at-in-None.ensures

@@ -7,10 +7,10 @@ pub returns-then-class-eq-NO_CLASS : goal.returns-then-class-eq-NO_CLASS
 returns-then-class-eq-NO_CLASS c = let m = c.args.m in
     let e = event_bytes-none _ m c.if-class-eq-NO_CLASS.true in
     rw (← c.class_for-class.ensures, e)
-    (rw (c.bit0-bad.ensures, c.cleared-next.ensures, e, c.none_bytes.ensures, c.word16-limit.ensures) at c.answer.ensures)
+    (rw (c.bit-bad.ensures, c.cleared-next.ensures, e, c.none_bytes.ensures, c.word16-limit.ensures) at c.answer.ensures)
 
 pub returns : goal.returns
 returns c = let m = c.args.m in
     let e = event_bytes-class _ m c.if-class-eq-NO_CLASS.false in
     rw (← c.class_for-class.ensures, e)
-    (rw (c.bit0-bad.ensures, c.cleared-next.ensures, e, c.class_bytes.ensures, c.word16-limit.ensures) at c.answer-2.ensures)
+    (rw (c.bit-bad.ensures, c.cleared-next.ensures, e, c.class_bytes.ensures, c.word16-limit.ensures) at c.answer-2.ensures)

@@ -25,7 +25,7 @@ pub returns-in-RequestSense : goal.returns-in-RequestSense
 returns-in-RequestSense c = rw c.in-RequestSense.is (performed_quiet _ refl c.done_with-in-RequestSense.ensures)
 
 pub returns-in-Inquiry : goal.returns-in-Inquiry
-returns-in-Inquiry c = rw c.in-Inquiry.is (rw (c.bit0.ensures, c.inquiry_bytes.ensures, c.wide.ensures.same) at c.answer.ensures)
+returns-in-Inquiry c = rw c.in-Inquiry.is (rw (c.bit.ensures, c.inquiry_bytes.ensures, c.wide.ensures.same) at c.answer.ensures)
 
 pub returns-in-StartStop : goal.returns-in-StartStop
 returns-in-StartStop c = rw c.in-StartStop.is (performed_quiet _ (start_stop_quiet _ _) c.start_stop.ensures)
@@ -54,7 +54,7 @@ pub returns-in-PlayAudio : goal.returns-in-PlayAudio
 returns-in-PlayAudio c = rw c.in-PlayAudio.is (performed_quiet _ (ranged_quiet _ _ _ _ _ refl) (rw (c.word_at-in-PlayAudio.ensures, c.word16-in-PlayAudio.ensures) at c.play_run.ensures))
 
 pub returns-in-PauseResume : goal.returns-in-PauseResume
-returns-in-PauseResume c = rw c.in-PauseResume.is (performed_quiet _ (pause_resume_quiet _ _) (rw c.bit0-in-PauseResume.ensures at c.pause_resume.ensures))
+returns-in-PauseResume c = rw c.in-PauseResume.is (performed_quiet _ (pause_resume_quiet _ _) (rw c.bit-in-PauseResume.ensures at c.pause_resume.ensures))
 
 pub returns-in-ReadSubChannel : goal.returns-in-ReadSubChannel
 returns-in-ReadSubChannel c = rw c.in-ReadSubChannel.is c.read_sub_channel.ensures

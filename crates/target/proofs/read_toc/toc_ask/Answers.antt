@@ -2,4 +2,4 @@
 use Rattle.target.proofs.read_toc.toc_ask.Goals as goal
 
 pub returns : goal.returns
-returns c = rw (c.wide.ensures.same, c.bit1.ensures)
+returns c = rw (c.wide.ensures.same, c.bit.ensures)
