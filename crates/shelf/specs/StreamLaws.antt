@@ -1,15 +1,16 @@
 -- Laws of a stream: its whole tables one after the other, what comes behind, and that it makes no difference in which pieces it was read.
-use Rattle.std.specs.Prelude.{◌≡◌, refl, true, false, ◌⊎◌, List, [], ◌∷◌, ◌++◌, ℕ, zero, suc, ◌+◌, ◌-◌, ◌≤◌, ◌<◌, min, take, get_or, leb, Result, Ok, Err}
+use Rattle.std.specs.Prelude.{◌≡◌, refl, true, false, List, [], ◌∷◌, ◌++◌, ℕ, zero, suc, ◌+◌, ◌-◌, ◌≤◌, ◌<◌, min, take, get_or, leb, Result, Ok, Err, Option, Some, None}
 use Rattle.std.proofs.Math.Path.{sym, ap}
-use Rattle.std.proofs.Common.{◌∙◌, ⊎_elim, append_assoc, append-nil, lt_of_not-le, length-append, length-take, take-append-drop, drop-drop, length-take-le, get_or-append-add, get_or-drop, get_or-take, take_all, le-leb}
+use Rattle.std.proofs.Common.{◌∙◌, ⊎_elim, append_assoc, append-nil, zero-add, lt_of_not-le, length-append, take-append-drop, drop-drop, length-take-le, get_or-drop, take_all, le-leb}
 use native.Mathlib.Omega.{arith}
 use Rattle.std.proofs.Math.Decide.{dec_le}
 use Rattle.std.proofs.Math.ListN.{length, drop, length-drop}
 use Rattle.std.proofs.lemmas.List.{take-append-le, drop-append-le}
 use Rattle.std.proofs.Math.Seq.{take-append_seam}
 use Rattle.std.proofs.lemmas.Bool.{lt-leb}
+use Rattle.core.specs.List.{copy_within}
 use Rattle.ground.specs.Tests.{choose◌then◌else◌, when, unless, either}
-use Rattle.ground.specs.Memory.{Laid, fill, fill_fits}
+use Rattle.ground.specs.Memory.{fill_fits}
 use Rattle.shelf.specs.Totals.{nothing, sum, of_table, totals_of, within, too_large, bounded}
 use Rattle.shelf.specs.TotalsLaws.{sum_assoc, sum_comm, sum-nothing, nothing-sum, totals-none, totals-next, totals-one, totals-append, nothing-within, within-over, within_chose, bounded_is, bounded-over, bounded-told, bounded-told-over}
 use Rattle.shelf.specs.Stream.{table_length, wholes_in, rest_in, wholes, rest, cut_off, tables, shelf, counted, passed_to, passed, left_by, taken_by, kept_by, left_in, Took}
@@ -18,28 +19,28 @@ use Rattle.shelf.specs.declared.totals.TooLarge.{TooLarge}
 use Rattle.shelf.specs.declared.stream.Passed.{Passed}
 use Rattle.shelf.specs.declared.stream.Taken.{Taken}
 
--- how long the table is that s begins with, where it is whole; else 0
-unfoldable pub length_of_whole : List ℕ → ℕ
-length_of_whole s = choose leb (table_length s) (length s) then table_length s else 0
+-- how long the table is that s begins with, where it is whole
+unfoldable pub length_of_whole : List ℕ → Option ℕ
+length_of_whole s = choose leb (table_length s) (length s) then Some (table_length s) else None
 
-pub whole_length-whole : (s : List ℕ) → table_length s ≤ length s → length_of_whole s ≡ table_length s
+pub whole_length-whole : (s : List ℕ) → table_length s ≤ length s → length_of_whole s ≡ Some (table_length s)
 unfolding length_of_whole
 whole_length-whole s h = when _ _ _ (le-leb _ _ h)
 
-pub whole_length-cut : (s : List ℕ) → length s < table_length s → length_of_whole s ≡ 0
+pub whole_length-cut : (s : List ℕ) → length s < table_length s → length_of_whole s ≡ None
 unfolding length_of_whole
 whole_length-cut s h = unless _ _ _ (lt-leb _ _ h)
 
 -- what is told of it
-pub whole_length_some : (s : List ℕ) {n : ℕ} → n ≡ length_of_whole s → (n ≡ 0 → ⊥) → (table_length s ≤ length s) × (n ≡ table_length s)
-whole_length_some s e h = elim (dec_le (table_length s) (length s)) [
-  | yes g ↦ (g, e ∙ whole_length-whole s g)
-  | no g ↦ absurd (h (e ∙ whole_length-cut s (lt_of_not-le g)))
+pub whole_length_some : (s : List ℕ) {n : ℕ} → Some n ≡ length_of_whole s → (table_length s ≤ length s) × (n ≡ table_length s)
+whole_length_some s e = elim (dec_le (table_length s) (length s)) [
+  | yes g ↦ (let w = whole_length-whole s g in (g, cc))
+  | no g ↦ (let w = whole_length-cut s (lt_of_not-le g) in cc)
 ]
 
-pub whole_length-none : (s : List ℕ) {n : ℕ} → n ≡ length_of_whole s → n ≡ 0 → length s < table_length s
-whole_length-none s e h = elim (dec_le (table_length s) (length s)) [
-  | yes g ↦ (let q = whole_length-whole s g in absurd (omega arith))
+pub whole_length-none : (s : List ℕ) → None ≡ length_of_whole s → length s < table_length s
+whole_length-none s e = elim (dec_le (table_length s) (length s)) [
+  | yes g ↦ (let w = whole_length-whole s g in cc)
   | no g ↦ lt_of_not-le g
 ]
 
@@ -241,32 +242,6 @@ pub tables-cut : (s : List ℕ) → 0 < length s → length s < table_length s �
 unfolding tables
 tables-cut s l h = rw (wholes_end s h, rest_end s h) (cut_off_some s l)
 
--- ---- bytes of a room moved to its front
-
--- once the first i of them are there, the next one stands where it stood
-pub moved-next :
-    (m : List ℕ) (from n i : ℕ) {m₁ : List ℕ} → Laid m (take i (take n (drop from m))) i m₁ → i < n → from + i < length m
-    → get_or m₁ (from + i) 0 ≡ get_or (take n (drop from m)) i 0
-moved-next m from n i {m₁} l h k =
-    let d = length-drop from m in
-    let t = length-take n (drop from m) in
-    let e : length (take i (take n (drop from m))) ≡ i = length-take-le i (take n (drop from m)) (omega arith) in
-    let f : m₁ ≡ take i (take n (drop from m)) ++ drop i m =
-    l.bytes ∙ fill_fits m (take i (take n (drop from m))) (omega arith)
-    ∙ ap (λ (x : ℕ). take i (take n (drop from m)) ++ drop x m) e in
-    let p : from + i ≡ length (take i (take n (drop from m))) + from = omega arith in
-    ap (λ (x : List ℕ). get_or x (from + i) 0) f
-    ∙ ap (λ (x : ℕ). get_or (take i (take n (drop from m)) ++ drop i m) x 0) p
-    ∙ get_or-append-add (take i (take n (drop from m))) (drop i m) from 0
-    ∙ get_or-drop i m from 0
-    ∙ ap (λ (x : ℕ). get_or m x 0) (omega arith)
-    ∙ sym (get_or-drop from m i 0)
-    ∙ sym (get_or-take n (drop from m) i 0 h)
-
--- how many they are
-pub moved_length : (m : List ℕ) (from n i : ℕ) → (n ≤ i) ⊎ (length m ≤ from + i) → length (take n (drop from m)) ≤ i
-moved_length m from n i c = let d = length-drop from m in let t = length-take n (drop from m) in ⊎_elim (λ h. omega arith) (λ h. omega arith) c
-
 -- ---- table by table, as the code goes
 
 pub passed_to_on : (a : Totals) (used : ℕ) → within a ≡ true → passed_to a used ≡ Ok (record { totals = a; used = used })
@@ -464,32 +439,22 @@ drop_of_take m used n h k =
     ∙ ap (λ (x : ℕ). take x (drop used (take n m) ++ drop n m)) e
     ∙ take-append_seam (drop used (take n m)) (drop n m)
 
--- totals so far, and how many bytes are left
-abbrev pub taken : Totals → ℕ → Taken
-taken a left = record { totals = a; left = left }
-
 -- none of the bytes were used: all stand where they stood
-pub keep-none :
-    (p : Passed) (n : ℕ) (m : List ℕ) {left : ℕ} → p.used ≡ 0 → left ≡ n → n ≤ length m
-    → (Ok (taken p.totals left) ≡ taken_by (Ok p) n) × (m ≡ kept_by (Ok p) (take n m) m)
-unfolding taken_by kept_by
-keep-none p n m e k h =
+pub keep-none : (p : Passed) (n : ℕ) (m : List ℕ) → p.used ≡ 0 → n ≤ length m → m ≡ kept_by (Ok p) (take n m) m
+unfolding kept_by
+keep-none p n m e h =
     let l = length-take-le n m h in
-    rw (e, k) (
-      ap (λ (x : ℕ). Ok (taken p.totals x)) (omega arith),
-      sym (fill_fits m (take n m) (omega arith) ∙ ap (λ (x : ℕ). take n m ++ drop x m) l ∙ take-append-drop n m),
-    )
+    rw e (sym (fill_fits m (take n m) (omega arith) ∙ ap (λ (x : ℕ). take n m ++ drop x m) l ∙ take-append-drop n m))
 
 -- what is left was moved
-pub keep-moved :
-    (p : Passed) (n : ℕ) (m : List ℕ) {left : ℕ} {m' : List ℕ} → p.used ≤ n → n ≤ length m
-    → Laid m (take (n - p.used) (drop p.used m)) left m' → (Ok (taken p.totals left) ≡ taken_by (Ok p) n) × (m' ≡ kept_by (Ok p) (take n m) m)
-unfolding taken_by kept_by
-keep-moved p n m h k l =
-    let c = l.count in
-    let t = length-take (n - p.used) (drop p.used m) in
-    let d = length-drop p.used m in
-    (ap (λ (x : ℕ). Ok (taken p.totals x)) (omega arith), l.bytes ∙ ap (fill m) (drop_of_take m p.used n h k))
+pub keep-moved : (p : Passed) (n : ℕ) (m : List ℕ) → p.used ≤ n → n ≤ length m → copy_within m p.used n 0 ≡ kept_by (Ok p) (take n m) m
+unfolding kept_by
+keep-moved p n m h k =
+    let e = drop_of_take m p.used n h k in
+    let l : length (drop p.used (take n m)) ≡ n - p.used = length-drop p.used (take n m) ∙ ap (λ (x : ℕ). x - p.used) (length-take-le n m k) in
+    ap (λ (x : ℕ). take (n - p.used) (drop p.used m) ++ drop x m) (zero-add (n - p.used) ∙ sym l)
+    ∙ ap (λ (x : List ℕ). x ++ drop (length (drop p.used (take n m))) m) e
+    ∙ sym (fill_fits m (drop p.used (take n m)) (omega arith))
 
 -- the first n bytes of the room, which has as many or fewer than it is asked for
 pub took_of :

@@ -1,6 +1,5 @@
 // A stream of tables, cut apart.
-ghost use Rattle.std.specs.Prelude.{◌≡◌, ◌-◌, ◌≤◌, length, take, drop};
-ghost use Rattle.ground.specs.Memory.{Laid};
+ghost use Rattle.std.specs.Prelude.{◌≡◌, ◌≤◌, length, take};
 ghost use Rattle.shelf.specs.Totals.{nothing, sum};
 ghost use Rattle.shelf.specs.Stream.{counted, passed_to, passed, left_by, taken_by, kept_by, left_in, Took};
 ghost use Rattle.shelf.specs.StreamLaws.{length_of_whole, with_rest};
@@ -22,18 +21,18 @@ pub struct Taken {
     pub left: usize,
 }
 
-// How long the table is that s begins with, where it is whole; else 0.
-fn whole_length(s: &[u8]) -> usize
+// How long the table is that s begins with, where it is whole.
+fn whole_length(s: &[u8]) -> Option<usize>
     ensures { result ≡ length_of_whole s.now }
 {
     if s.len() < 2 {
-        return 0;
+        return None;
     }
     let n = word16(s[0], s[1]) + 2;
     if n <= s.len() {
-        return n;
+        return Some(n);
     }
-    0
+    None
 }
 
 // What the whole tables come to that s begins with.
@@ -42,11 +41,7 @@ fn wholes_of(s: &[u8]) -> Result<Passed, TooLarge>
 {
     let mut totals = nothing();
     let mut used = 0;
-    while used < s.len() {
-        let n = whole_length(&s[used..]);
-        if n == 0 {
-            break;
-        }
+    while let Some(n) = whole_length(&s[used..]) {
         totals = count(totals, &s[used..used + n])?;
         used += n;
     }
@@ -88,36 +83,17 @@ pub fn count_all(totals: Totals, s: &[u8]) -> Result<Totals, TooLarge>
     with_rest(p.totals, &s[p.used..])
 }
 
-// Moves the bytes from `from` up to `end` to the front of the room, and tells how many they are.
-fn keep_rest(room: &mut [u8], from: usize, end: usize) -> usize
-    ensures { Laid room.old (take (end - from) (drop from room.old)) result room.new }
-{
-    let mut i = 0;
-    let mut j = from;
-    while j < end {
-        if room.len() <= j {
-            return i;
-        }
-        room[i] = room[j];
-        i += 1;
-        j += 1;
-    }
-    i
-}
-
 // What is left behind the bytes that were used of the first `end` stands in front then; where none were used nothing is moved.
 fn keep(p: Passed, room: &mut [u8], end: usize) -> Taken
     requires { (p.used ≤ end) × (end ≤ length room.old) }
     ensures { (Ok result ≡ taken_by (Ok p) end) × (room.new ≡ kept_by (Ok p) (take end room.old) room.old) }
 {
-    let left = if p.used == 0 {
-        end
-    } else {
-        keep_rest(room, p.used, end)
-    };
+    if 0 < p.used {
+        room.copy_within(p.used..end, 0);
+    }
     Taken {
         totals: p.totals,
-        left,
+        left: end - p.used,
     }
 }
 

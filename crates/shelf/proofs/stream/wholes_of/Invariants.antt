@@ -6,8 +6,8 @@ use Rattle.shelf.specs.Totals.{nothing}
 use Rattle.shelf.specs.StreamLaws.{Passing}
 use Rattle.shelf.proofs.stream.wholes_of.Given as goal
 
-abbrev pub invariant-loop-used : goal.invariant-loop-used
-invariant-loop-used l = Passing nothing l.s l.totals l.used
+abbrev pub invariant-loop-n : goal.invariant-loop-n
+invariant-loop-n l = Passing nothing l.s l.totals l.used
 
-abbrev pub decreases-loop-used : goal.decreases-loop-used
-decreases-loop-used l = length l.s - l.used
+abbrev pub decreases-loop-n : goal.decreases-loop-n
+decreases-loop-n l = length l.s - l.used
