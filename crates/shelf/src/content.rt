@@ -98,20 +98,17 @@ pub(crate) fn held_by(t: &[u8]) -> Held
     requires { Fit t.now }
     ensures { result ≡ held_by t.now }
 {
-    let n = t[3];
     let d = &t[HEADER..];
-    let mut k: u8 = 0;
     let mut at = 0;
     let mut out = 0;
     let mut of_data = 0;
     let mut of_none = 0;
-    while k < n {
+    for _ in 0..t[3] {
         let s = &d[at..];
         of_none += address_at(s, 3) - out;
         of_data += data_of(s);
         out = address_at(s, 2);
         at += session_bytes(s);
-        k += 1;
     }
     Held { of_data, of_none }
 }
