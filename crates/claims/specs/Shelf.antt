@@ -1,14 +1,13 @@
 -- K13: "What our disc shelf holds." What is told of a stream of tables, whatever its bytes, and of the totals.
-use Rattle.std.specs.Prelude.{◌≡◌, List, [], ◌∷◌, ◌++◌, ℕ, ◌+◌, ◌≤◌, ◌<◌, length, take, drop}
+use Rattle.std.specs.Prelude.{◌≡◌, List, [], ◌∷◌, ◌++◌, ℕ, ◌+◌, ◌≤◌, ◌<◌, length, take, drop, Ok, Err}
 use Rattle.std.proofs.Common.{sym, ap, ◌∙◌, append-nil, arith, length-take-le}
 use Rattle.table.specs.Layout.{bound, data_length}
 use Rattle.disc.specs.Rules.{fault}
-use Rattle.shelf.specs.Totals.{sum, totals_of, Within}
+use Rattle.shelf.specs.Totals.{sum, totals_of, Within, too_large}
 use Rattle.shelf.specs.TotalsLaws.{totals-append}
 use Rattle.shelf.specs.Stream.{table_length, wholes, rest, tables, shelf, counted}
 use Rattle.shelf.specs.StreamLaws.{tables-none, tables-next, tables-cut, tables_more}
 use Rattle.shelf.specs.declared.totals.Totals.{Totals}
-use Rattle.shelf.specs.declared.totals.Counted.TheVariants.{Is, TooLarge}
 use Rattle.shelf.specs.Shelved.{concat, lead_outs, pieces}
 use Rattle.shelf.specs.ShelfLaws.{tables-blocks, tables-count, tables_each, tables-concat, short_broken, cut_broken, over_broken, pieces_agree, counted-within}
 
@@ -74,10 +73,10 @@ shelf-sum s r h =
 -- ---- 64 bits
 
 -- "Totals are 64-bit; past that it stops": from any totals a on, the sums are told exactly where each of them is within 64 bits
-pub shelf-told : (a : Totals) (s : List ℕ) → Within (sum a (shelf s)) → counted a s ≡ Is (sum a (shelf s))
+pub shelf-told : (a : Totals) (s : List ℕ) → Within (sum a (shelf s)) → counted a s ≡ Ok (sum a (shelf s))
 shelf-told a s w = (counted-within a s).0 w
 
-pub shelf_too_large : (a : Totals) (s : List ℕ) → (Within (sum a (shelf s)) → ⊥) → counted a s ≡ TooLarge
+pub shelf_too_large : (a : Totals) (s : List ℕ) → (Within (sum a (shelf s)) → ⊥) → counted a s ≡ Err too_large
 shelf_too_large a s w = (counted-within a s).1 w
 
 -- ---- in pieces

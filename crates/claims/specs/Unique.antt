@@ -67,7 +67,7 @@ use Rattle.outcome.specs.Outcome.{Answered, refused, checked, granted, finished}
 use Rattle.target.specs.Packet.{answer}
 use Rattle.cue.specs.declared.write.Written.{Written}
 use Rattle.shelf.specs.declared.totals.Totals.{Totals}
-use Rattle.shelf.specs.declared.totals.Counted.{Counted}
+use Rattle.shelf.specs.declared.totals.TooLarge.{TooLarge}
 use Rattle.shelf.specs.declared.stream.Taken.{Taken}
 use Rattle.shelf.specs.Totals.{nothing, sum, of_table, bounded, numbers_of}
 use Rattle.shelf.specs.Stream.{counted, left_in, Took}
@@ -528,16 +528,16 @@ unique_write_table s m m₁ m₂ r t a b = (value_once a.outcome b.outcome, valu
 pub unique-nothing : (r s : Totals) → r ≡ nothing → s ≡ nothing → r ≡ s
 unique-nothing r s = value_once
 
-pub unique-count : (a : Totals) (t : List ℕ) (r s : Counted) → r ≡ bounded (sum a (of_table t)) → s ≡ bounded (sum a (of_table t)) → r ≡ s
+pub unique-count : (a : Totals) (t : List ℕ) (r s : Result Totals TooLarge) → r ≡ bounded (sum a (of_table t)) → s ≡ bounded (sum a (of_table t)) → r ≡ s
 unique-count a t r s = value_once
 
 pub unique_numbers : (a : Totals) (r s : List ℕ) → r ≡ numbers_of a → s ≡ numbers_of a → r ≡ s
 unique_numbers a r s = value_once
 
-pub unique-count-all : (a : Totals) (t : List ℕ) (r s : Counted) → r ≡ counted a t → s ≡ counted a t → r ≡ s
+pub unique-count-all : (a : Totals) (t : List ℕ) (r s : Result Totals TooLarge) → r ≡ counted a t → s ≡ counted a t → r ≡ s
 unique-count-all a t r s = value_once
 
-pub unique_take_in : (a : Totals) (m m₁ m₂ : List ℕ) (end : ℕ) (r s : Taken)
+pub unique_take_in : (a : Totals) (m m₁ m₂ : List ℕ) (end : ℕ) (r s : Result Taken TooLarge)
     → Took a (take end m) m r m₁ × (left_in r ≤ 65536) → Took a (take end m) m s m₂ × (left_in s ≤ 65536) → (r ≡ s) × (m₁ ≡ m₂)
 unique_take_in a m m₁ m₂ end r s p q =
     (value_once p.0.outcome q.0.outcome, value_once p.0.memory q.0.memory)

@@ -1,5 +1,5 @@
 -- The lines that a call prints.
-use Rattle.std.specs.Prelude.{ℕ, Bool, List, [], ◌∷◌, eqb, length, take}
+use Rattle.std.specs.Prelude.{ℕ, Bool, List, [], ◌∷◌, eqb, length, take, Result, Ok, Err}
 use Rattle.ground.specs.Tests.{choose◌then◌else◌}
 use Rattle.ground.specs.Number.{bytes32}
 use Rattle.print.specs.Joined.{◌next◌, spaced, line_end}
@@ -18,8 +18,7 @@ use Rattle.changer.specs.declared.Changer.{Changer}
 use Rattle.cue.specs.declared.write.Written.{Written}
 use Rattle.shelf.specs.Totals.{numbers_of}
 use Rattle.shelf.specs.declared.totals.Totals.{Totals}
-use Rattle.shelf.specs.declared.totals.Counted.{Counted}
-use Rattle.shelf.specs.declared.totals.Counted.TheVariants.{Is, TooLarge}
+use Rattle.shelf.specs.declared.totals.TooLarge.{TooLarge}
 
 -- `0` or `1`
 unfoldable pub digit : Bool → ℕ
@@ -130,6 +129,6 @@ written_line w memory = call 116 w.number next summed_text w.len memory next lin
 unfoldable pub totals_line : Totals → List ℕ
 totals_line a = (104 ∷ 32 ∷ []) next joined 32 (numbers_of a) next line_end
 
-unfoldable pub counted_line : Counted → List ℕ
-counted_line (Is a) = totals_line a
-counted_line TooLarge = 104 ∷ 32 ∷ 116 ∷ 111 ∷ 111 ∷ 32 ∷ 108 ∷ 97 ∷ 114 ∷ 103 ∷ 101 ∷ 10 ∷ []
+unfoldable pub counted_line : Result Totals TooLarge → List ℕ
+counted_line (Ok a) = totals_line a
+counted_line (Err e) = 104 ∷ 32 ∷ 116 ∷ 111 ∷ 111 ∷ 32 ∷ 108 ∷ 97 ∷ 114 ∷ 103 ∷ 101 ∷ 10 ∷ []

@@ -19,7 +19,7 @@ use print::front::front;
 use print::hex::{next_hex, next_shown, next_three};
 use print::numbers::put_joined;
 use print::sum::adler32;
-use shelf::totals::{Counted, Totals, numbers};
+use shelf::totals::{TooLarge, Totals, numbers};
 
 // A flag as '0' or '1'.
 fn digit(b: bool) -> u8
@@ -276,11 +276,11 @@ fn put_totals(totals: Totals, out: &mut [u8]) -> usize
 }
 
 // The line of a shelf.
-pub(crate) fn put_counted(counted: Counted, out: &mut [u8]) -> usize
+pub(crate) fn put_counted(counted: Result<Totals, TooLarge>, out: &mut [u8]) -> usize
     ensures { Laid out.old (counted_line counted) result out.new }
 {
     match counted {
-        Counted::Is(totals) => put_totals(totals, out),
-        Counted::TooLarge => copy_front(b"h too large\n", out),
+        Ok(totals) => put_totals(totals, out),
+        Err(TooLarge) => copy_front(b"h too large\n", out),
     }
 }

@@ -1,5 +1,5 @@
 -- The same blocks by the tracks' lengths, as the code counts them: no block is gone over.
-use Rattle.std.specs.Prelude.{ℕ, zero, suc, ◌+◌, ◌-◌, Bool, true, false, List, ltb}
+use Rattle.std.specs.Prelude.{ℕ, zero, suc, ◌+◌, ◌-◌, Bool, List, ltb, Option, Some, None}
 use Rattle.ground.specs.Tests.{choose◌then◌else◌}
 use Rattle.table.specs.Layout.{flags_at}
 use Rattle.sessions.specs.Session.{tracks, session}
@@ -30,14 +30,19 @@ gap_before d k = track_start (session d k) 0 - out_before d k
 
 -- nothing passed
 abbrev pub idle : Run
-idle = record { blocks = 0; running = false; from = 0 }
+idle = record { blocks = 0; from = None }
+
+-- where a run begins at the latest: where it began already, or here
+unfoldable pub since : Option ℕ → ℕ → ℕ
+since (Some a) e = a
+since None e = e
 
 -- what is known once a track has been passed that starts there
 unfoldable pub run_past : Bool → ℕ → Run → Run
 run_past b start r =
     choose b
-    then (choose r.running then r else record { blocks = r.blocks; running = true; from = start })
-    else (choose r.running then record { blocks = r.blocks + (start - r.from); running = false; from = 0 } else r)
+    then record { blocks = r.blocks; from = Some (since r.from start) }
+    else record { blocks = r.blocks + (start - since r.from start); from = None }
 
 -- once the first i tracks have been passed
 unfoldable pub run_at : List ℕ → ℕ → Run
@@ -46,4 +51,4 @@ run_at s (suc i) = run_past (is_data (flags_at s (3 + i))) (track_start s i) (ru
 
 -- the blocks in all, where the next edge is there
 unfoldable pub blocks_to : ℕ → Run → ℕ
-blocks_to e r = choose r.running then r.blocks + (e - r.from) else r.blocks
+blocks_to e r = r.blocks + (e - since r.from e)

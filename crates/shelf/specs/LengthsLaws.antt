@@ -1,5 +1,5 @@
 -- Laws of a session's tracks by their lengths: the edges rise, and the runs of data tracks come to the blocks of each.
-use Rattle.std.specs.Prelude.{◌≡◌, refl, Bool, true, false, List, ℕ, zero, suc, ◌+◌, ◌-◌, ◌≤◌, ◌<◌}
+use Rattle.std.specs.Prelude.{◌≡◌, refl, Bool, true, false, List, ℕ, zero, suc, ◌+◌, ◌-◌, ◌≤◌, ◌<◌, Option, Some, None, IfSome}
 use Rattle.std.proofs.Math.Path.{sym}
 use Rattle.std.proofs.Common.{subst, ◌∙◌, arith, add-one, lt_of_not-le, lt-ltb, le-ltb}
 use Rattle.std.proofs.Math.Decide.{dec_le}
@@ -11,7 +11,7 @@ use Rattle.tracks.specs.Track.{is_data}
 use Rattle.tracks.specs.declared.track.Mode.TheVariants.{Data}
 use Rattle.shelf.specs.Count.{sum_below}
 use Rattle.shelf.specs.CountLaws.{sum-none, sum-next}
-use Rattle.shelf.specs.Lengths.{edge, track_blocks, idle, run_past, run_at, blocks_to}
+use Rattle.shelf.specs.Lengths.{edge, track_blocks, idle, since, run_past, run_at, blocks_to}
 use Rattle.shelf.specs.declared.content.Run.{Run}
 
 -- ---- the edges
@@ -42,33 +42,49 @@ edge-most s n i r = elim (dec_le n i) [
 
 -- ---- a run of data tracks
 
+pub since_some : {o : Option ℕ} {a : ℕ} (e : ℕ) → o ≡ Some a → since o e ≡ a
+unfolding since
+since_some e h = rw h
+
+pub since-none : {o : Option ℕ} (e : ℕ) → o ≡ None → since o e ≡ e
+unfolding since
+since-none e h = rw h
+
+-- it began no later than here
+since-below : (o : Option ℕ) (e : ℕ) → since o e ≤ e → IfSome o (λ a. a ≤ e)
+unfolding since
+since-below (Some a) e h = h
+since-below None e h = tt
+
 module _ (b : Bool) (start : ℕ) (r : Run) where
   -- a data track goes on with the run, or begins one
-  pub run_past-on : b ≡ true → r.running ≡ true → r ≡ run_past b start r
+  pub run_past-on : {a : ℕ} → b ≡ true → r.from ≡ Some a → r ≡ run_past b start r
   unfolding run_past
-  run_past-on e h = sym (when _ _ _ e ∙ when _ _ _ h)
+  run_past-on e h = let q = since_some start h in rw (when _ _ _ e, q, ← h) refl
 
-  pub run_past-begins : b ≡ true → r.running ≡ false → record { blocks = r.blocks; running = true; from = start } ≡ run_past b start r
+  pub run_past-begins : b ≡ true → r.from ≡ None → record { blocks = r.blocks; from = Some start } ≡ run_past b start r
   unfolding run_past
-  run_past-begins e h = sym (when _ _ _ e ∙ unless _ _ _ h)
+  run_past-begins e h = let q = since-none start h in rw (when _ _ _ e, q) refl
 
   -- another one ends it, or goes by
-  pub run_past-ends :
-      b ≡ false → r.running ≡ true → record { blocks = r.blocks + (start - r.from); running = false; from = 0 } ≡ run_past b start r
+  pub run_past-ends : {a : ℕ} → b ≡ false → r.from ≡ Some a → record { blocks = r.blocks + (start - a); from = None } ≡ run_past b start r
   unfolding run_past
-  run_past-ends e h = sym (unless _ _ _ e ∙ when _ _ _ h)
+  run_past-ends e h = let q = since_some start h in rw (unless _ _ _ e, q) refl
 
-  pub run_past-off : b ≡ false → r.running ≡ false → r ≡ run_past b start r
+  pub run_past-off : b ≡ false → r.from ≡ None → r ≡ run_past b start r
   unfolding run_past
-  run_past-off e h = sym (unless _ _ _ e ∙ unless _ _ _ h)
+  run_past-off e h =
+      let q = since-none start h in
+      let z : r.blocks ≡ r.blocks + (start - start) = omega arith in
+      rw (unless _ _ _ e, q, ← z, ← h) refl
 
-pub blocks_to_on : (e : ℕ) (r : Run) → r.running ≡ true → blocks_to e r ≡ r.blocks + (e - r.from)
+pub blocks_to_on : (e : ℕ) (r : Run) {a : ℕ} → r.from ≡ Some a → blocks_to e r ≡ r.blocks + (e - a)
 unfolding blocks_to
-blocks_to_on e r h = when _ _ _ h
+blocks_to_on e r h = let q = since_some e h in omega arith
 
-pub blocks_to_off : (e : ℕ) (r : Run) → r.running ≡ false → blocks_to e r ≡ r.blocks
+pub blocks_to_off : (e : ℕ) (r : Run) → r.from ≡ None → blocks_to e r ≡ r.blocks
 unfolding blocks_to
-blocks_to_off e r h = unless _ _ _ h
+blocks_to_off e r h = let q = since-none e h in omega arith
 
 pub run_at-none : (s : List ℕ) → run_at s 0 ≡ idle
 unfolding run_at
@@ -80,42 +96,26 @@ run_at-next s i = rw add-one
 
 -- r has come to the edge e with so many blocks
 pub record Come (r : Run) (e blocks : ℕ) : Type 0 where
-  pub from : r.from ≤ e
+  pub from : since r.from e ≤ e
   pub total : blocks_to e r ≡ blocks
 
 come-next :
-    (b x : Bool) (r : Run) (e e' blocks : ℕ) → r.running ≡ x → e ≤ e' → Come r e blocks
-    → Come (run_past b e r) e' (blocks + (choose b then e' - e else 0))
-come-next true true r e e' blocks q l c =
-    let u = c.from in
-    let v = sym (blocks_to_on e r q) ∙ c.total in
-    let w = when true (e' - e) 0 refl in
-    rw (← run_past-on true e r refl q) (record { from = omega arith; total = blocks_to_on e' r q ∙ omega arith })
-come-next true false r e e' blocks q l c =
-    let v = sym (blocks_to_off e r q) ∙ c.total in
-    let w = when true (e' - e) 0 refl in
-    rw (← run_past-begins true e r refl q) (record { from = l; total = blocks_to_on e' _ refl ∙ omega arith })
-come-next false true r e e' blocks q l c =
-    let v = sym (blocks_to_on e r q) ∙ c.total in
-    let w = unless false (e' - e) 0 refl in
-    rw (← run_past-ends false e r refl q) (record { from = omega arith; total = blocks_to_off e' _ refl ∙ omega arith })
-come-next false false r e e' blocks q l c =
-    let u = c.from in
-    let v = sym (blocks_to_off e r q) ∙ c.total in
-    let w = unless false (e' - e) 0 refl in
-    rw (← run_past-off false e r refl q) (record { from = omega arith; total = blocks_to_off e' r q ∙ omega arith })
+    (b : Bool) (r : Run) (e e' blocks : ℕ) → e ≤ e' → Come r e blocks → Come (run_past b e r) e' (blocks + (choose b then e' - e else 0))
+unfolding since run_past blocks_to choose◌then◌else◌
+come-next true r e e' blocks l c = let u = c.from in let v = c.total in record { from = omega arith; total = omega arith }
+come-next false r e e' blocks l c = let u = c.from in let v = c.total in record { from = omega arith; total = omega arith }
 
 -- the first i tracks passed: the blocks of the data tracks among them
 pub come : (s : List ℕ) (n : ℕ) → Rises s n → (i : ℕ) → i ≤ n → Come (run_at s i) (edge s n i) (sum_below i (track_blocks Data s n))
 unfolding track_blocks
 come s n r zero l =
-    rw (run_at-none s) (record { from = omega arith; total = blocks_to_off _ idle refl ∙ sym (sum-none _) })
+    rw (run_at-none s) (record { from = let q = since-none {o = None} (edge s n 0) refl in omega arith; total = blocks_to_off _ idle refl ∙ sym (sum-none _) })
 come s n r (suc i) l =
     let h : i < n = omega arith in
     let e : edge s n i ≡ track_start s i = edge_track s n i h in
     let c = come s n r i (omega arith) in
     let g = edge-rises s n i r h in
-    let k = come-next (is_data (flags_at s (3 + i))) _ (run_at s i) (edge s n i) (edge s n (i + 1)) _ refl (omega arith) c in
+    let k = come-next (is_data (flags_at s (3 + i))) (run_at s i) (edge s n i) (edge s n (i + 1)) _ (omega arith) c in
     let q : Come (run_at s (i + 1)) (edge s n (i + 1)) (sum_below (i + 1) (track_blocks Data s n)) =
     rw (run_at-next s i, sum-next i (track_blocks Data s n))
     (subst (λ (x : ℕ). Come (run_past (is_data (flags_at s (3 + i))) x (run_at s i)) (edge s n (i + 1))
@@ -141,22 +141,20 @@ blocks-most s n r (suc i) l =
 -- before the track after i others, and at the end
 pub run-before :
     (s : List ℕ) (n i : ℕ) {r : Run} → Rises s n → i < n → r ≡ run_at s i
-    → (r.from ≤ track_start s i) × (blocks_to (track_start s i) r ≤ track_start s i)
+    → IfSome r.from (λ a. a ≤ track_start s i) × (blocks_to (track_start s i) r ≤ track_start s i)
 run-before s n i u h q =
     let c = come s n u i (omega arith) in
     let e = edge_track s n i h in
     let m = blocks-most s n u i (omega arith) in
-    let a = c.from in
     let b = c.total in
-    rw (q, ← e) (a, omega arith)
+    rw (q, ← e) (since-below _ _ c.from, omega arith)
 
 pub run-done :
     (s : List ℕ) (n i : ℕ) {r : Run} → Rises s n → i ≡ n → r ≡ run_at s i
-    → (r.from ≤ session_lead_out s) × (blocks_to (session_lead_out s) r ≤ session_lead_out s) × (blocks_to (session_lead_out s) r ≡ sum_below n (track_blocks Data s n))
+    → IfSome r.from (λ a. a ≤ session_lead_out s) × (blocks_to (session_lead_out s) r ≤ session_lead_out s) × (blocks_to (session_lead_out s) r ≡ sum_below n (track_blocks Data s n))
 run-done s n i u z q =
     let c = come s n u n (omega arith) in
     let e = edge-out s n n (omega arith) in
     let m = blocks-most s n u n (omega arith) in
-    let a = c.from in
     let b = c.total in
-    rw (q, z, ← e) (a, omega arith, b)
+    rw (q, z, ← e) (since-below _ _ c.from, omega arith, b)

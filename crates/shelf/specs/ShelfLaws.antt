@@ -1,5 +1,5 @@
 -- Laws of a stream of tables: what one table adds, and so what any number of them do; and what is read piece by piece.
-use Rattle.std.specs.Prelude.{◌≡◌, refl, Bool, true, false, List, [], ◌∷◌, ◌++◌, ℕ, zero, suc, ◌+◌, ◌-◌, ◌≤◌, ◌<◌, length, take, drop}
+use Rattle.std.specs.Prelude.{◌≡◌, refl, Bool, true, false, List, [], ◌∷◌, ◌++◌, ℕ, zero, suc, ◌+◌, ◌-◌, ◌≤◌, ◌<◌, length, take, drop, Result, Ok, Err}
 use Rattle.std.proofs.Common.{sym, ap, ◌∙◌, append_assoc, append-nil, arith, lt_of_not-le, length-drop, take-append-drop, ne_eqb}
 use Rattle.std.proofs.Math.Decide.{dec_le}
 use Rattle.std.proofs.lemmas.Bool.{lt-leb}
@@ -10,15 +10,14 @@ use Rattle.disc.specs.RulesLaws.{fault-first}
 use Rattle.shelf.specs.Count.{one_if}
 use Rattle.shelf.specs.Content.{last_out}
 use Rattle.shelf.specs.ContentLaws.{blocks_three}
-use Rattle.shelf.specs.Totals.{sum, if_fit, of_table, totals_of, within, bounded, Within}
+use Rattle.shelf.specs.Totals.{sum, if_fit, of_table, totals_of, within, too_large, bounded, Within}
 use Rattle.shelf.specs.TotalsLaws.{within_parts, parts_within, bounded_is, bounded-over}
 use Rattle.shelf.specs.Stream.{table_length, tables, shelf, counted, passed}
 use Rattle.shelf.specs.Shelved.{concat, lead_outs, go_on, pieces}
 use Rattle.shelf.specs.StreamLaws.{tables-none, tables-next, tables-cut, counted_on, counted-past}
 use Rattle.shelf.specs.declared.totals.Totals.{Totals}
-use Rattle.shelf.specs.declared.totals.Counted.TheVariants.{Is, TooLarge}
+use Rattle.shelf.specs.declared.totals.TooLarge.{TooLarge}
 use Rattle.shelf.specs.declared.stream.Passed.{Passed}
-use Rattle.shelf.specs.declared.stream.Passed.TheVariants.{On, Over}
 
 -- ---- tables one after the other
 
@@ -125,11 +124,11 @@ tables-count (t ∷ ts) = let c = table-one t in let b = tables-count ts in omeg
 
 pub counted-within :
     (a : Totals) (s : List ℕ)
-    → (Within (sum a (shelf s)) → counted a s ≡ Is (sum a (shelf s))) × ((Within (sum a (shelf s)) → ⊥) → counted a s ≡ TooLarge)
+    → (Within (sum a (shelf s)) → counted a s ≡ Ok (sum a (shelf s))) × ((Within (sum a (shelf s)) → ⊥) → counted a s ≡ Err too_large)
 unfolding counted
 counted-within a s = (λ w. bounded_is _ (parts_within w), λ n. decided (within (sum a (shelf s))) refl n)
   where
-    decided : (b : Bool) → within (sum a (shelf s)) ≡ b → (Within (sum a (shelf s)) → ⊥) → bounded (sum a (shelf s)) ≡ TooLarge
+    decided : (b : Bool) → within (sum a (shelf s)) ≡ b → (Within (sum a (shelf s)) → ⊥) → bounded (sum a (shelf s)) ≡ Err too_large
     decided true e n = absurd (n (within_parts e))
     decided false e n = bounded-over _ e
 
@@ -142,7 +141,7 @@ pieces_agree a held (p ∷ ps) =
     by-passed (passed a (held ++ p)) refl (λ b left. pieces_agree b left ps) ∙ ap (counted a) (append_assoc held p (concat ps))
   where
     by-passed :
-        (q : Passed) → q ≡ passed a (held ++ p) → ((b : Totals) (left : List ℕ) → pieces b left ps ≡ counted b (left ++ concat ps))
+        (q : Result Passed TooLarge) → q ≡ passed a (held ++ p) → ((b : Totals) (left : List ℕ) → pieces b left ps ≡ counted b (left ++ concat ps))
         → go_on q (held ++ p) (λ b left. pieces b left ps) ≡ counted a ((held ++ p) ++ concat ps)
-    by-passed (On b used) e again = again b (drop used (held ++ p)) ∙ counted_on a (held ++ p) (concat ps) e
-    by-passed Over e again = counted-past a (held ++ p) (concat ps) e
+    by-passed (Ok q) e again = again q.totals (drop q.used (held ++ p)) ∙ counted_on a (held ++ p) (concat ps) e
+    by-passed (Err q) e again = counted-past a (held ++ p) (concat ps) e

@@ -1,15 +1,13 @@
 -- "A program reads tables from standard input, each its data length plus 2 long": a stream of bytes cut into tables.
-use Rattle.std.specs.Prelude.{ℕ, zero, suc, ◌+◌, ◌-◌, List, [], ◌∷◌, ◌++◌, length, take, drop, leb, ◌≡◌}
+use Rattle.std.specs.Prelude.{ℕ, zero, suc, ◌+◌, ◌-◌, List, [], ◌∷◌, ◌++◌, length, take, drop, leb, ◌≡◌, Result, Ok, Err}
 use Rattle.ground.specs.Tests.{choose◌then◌else◌}
 use Rattle.ground.specs.Memory.{fill}
 use Rattle.table.specs.Layout.{data_length}
 use Rattle.shelf.specs.declared.totals.Totals.{Totals}
-use Rattle.shelf.specs.declared.totals.Counted.{Counted}
+use Rattle.shelf.specs.declared.totals.TooLarge.{TooLarge}
 use Rattle.shelf.specs.declared.stream.Passed.{Passed}
-use Rattle.shelf.specs.declared.stream.Passed.TheVariants.{On, Over}
 use Rattle.shelf.specs.declared.stream.Taken.{Taken}
-use Rattle.shelf.specs.declared.stream.Taken.TheVariants.{On as OnTaken, Over as OverTaken}
-use Rattle.shelf.specs.Totals.{sum, totals_of, within, bounded}
+use Rattle.shelf.specs.Totals.{sum, totals_of, within, too_large, bounded}
 
 -- how long the table is that s begins with; a byte that is not there counts as 0
 abbrev pub table_length : List ℕ → ℕ
@@ -47,37 +45,37 @@ unfoldable pub shelf : List ℕ → Totals
 shelf s = totals_of (tables s)
 
 -- the same on top of what was counted before
-unfoldable pub counted : Totals → List ℕ → Counted
+unfoldable pub counted : Totals → List ℕ → Result Totals TooLarge
 counted a s = bounded (sum a (shelf s))
 
 -- totals, and how many bytes were counted for them
-unfoldable pub passed_to : Totals → ℕ → Passed
-passed_to a used = choose within a then On a used else Over
+unfoldable pub passed_to : Totals → ℕ → Result Passed TooLarge
+passed_to a used = choose within a then Ok (record { totals = a; used = used }) else Err too_large
 
 -- what was read so far: its whole tables are counted, and how many bytes they take is told
-unfoldable pub passed : Totals → List ℕ → Passed
+unfoldable pub passed : Totals → List ℕ → Result Passed TooLarge
 passed a s = passed_to (sum a (totals_of (wholes s))) (length s - length (rest s))
 
 -- how many of n bytes are left
-unfoldable pub left_by : Passed → ℕ → ℕ
-left_by (On a used) n = n - used
-left_by Over n = 0
+unfoldable pub left_by : Result Passed TooLarge → ℕ → ℕ
+left_by (Ok p) n = n - p.used
+left_by (Err e) n = 0
 
 -- a piece taken in: the totals so far and how many of its n bytes are left; and what the room m holds then whose first bytes are s: what is
 -- left of them stands in front
-unfoldable pub taken_by : Passed → ℕ → Taken
-taken_by (On a used) n = OnTaken a (n - used)
-taken_by Over n = OverTaken
+unfoldable pub taken_by : Result Passed TooLarge → ℕ → Result Taken TooLarge
+taken_by (Ok p) n = Ok (record { totals = p.totals; left = n - p.used })
+taken_by (Err e) n = Err e
 
-unfoldable pub kept_by : Passed → List ℕ → List ℕ → List ℕ
-kept_by (On a used) s m = fill m (drop used s)
-kept_by Over s m = m
+unfoldable pub kept_by : Result Passed TooLarge → List ℕ → List ℕ → List ℕ
+kept_by (Ok p) s m = fill m (drop p.used s)
+kept_by (Err e) s m = m
 
-pub record Took (a : Totals) (s m : List ℕ) (r : Taken) (m' : List ℕ) : Type 0 where
+pub record Took (a : Totals) (s m : List ℕ) (r : Result Taken TooLarge) (m' : List ℕ) : Type 0 where
   pub outcome : r ≡ taken_by (passed a s) (length s)
   pub memory : m' ≡ kept_by (passed a s) s m
 
 -- how many bytes are left
-unfoldable pub left_in : Taken → ℕ
-left_in (OnTaken a left) = left
-left_in OverTaken = 0
+unfoldable pub left_in : Result Taken TooLarge → ℕ
+left_in (Ok t) = t.left
+left_in (Err e) = 0

@@ -1,48 +1,46 @@
 -- Laws of a stream: its whole tables one after the other, what comes behind, and that it makes no difference in which pieces it was read.
-use Rattle.std.specs.Prelude.{◌≡◌, refl, true, false, ◌⊎◌, List, [], ◌∷◌, ◌++◌, ℕ, zero, suc, ◌+◌, ◌-◌, ◌≤◌, ◌<◌, min, take, get_or, leb}
+use Rattle.std.specs.Prelude.{◌≡◌, refl, true, false, List, [], ◌∷◌, ◌++◌, ℕ, zero, suc, ◌+◌, ◌-◌, ◌≤◌, ◌<◌, min, take, get_or, leb, Result, Ok, Err, Option, Some, None}
 use Rattle.std.proofs.Math.Path.{sym, ap}
-use Rattle.std.proofs.Common.{◌∙◌, ⊎_elim, append_assoc, append-nil, lt_of_not-le, length-append, length-take, take-append-drop, drop-drop, length-take-le, get_or-append-add, get_or-drop, get_or-take, take_all, le-leb}
+use Rattle.std.proofs.Common.{◌∙◌, ⊎_elim, append_assoc, append-nil, zero-add, lt_of_not-le, length-append, take-append-drop, drop-drop, length-take-le, get_or-drop, take_all, le-leb}
 use native.Mathlib.Omega.{arith}
 use Rattle.std.proofs.Math.Decide.{dec_le}
 use Rattle.std.proofs.Math.ListN.{length, drop, length-drop}
 use Rattle.std.proofs.lemmas.List.{take-append-le, drop-append-le}
 use Rattle.std.proofs.Math.Seq.{take-append_seam}
 use Rattle.std.proofs.lemmas.Bool.{lt-leb}
+use Rattle.core.specs.List.{copy_within}
 use Rattle.ground.specs.Tests.{choose◌then◌else◌, when, unless, either}
-use Rattle.ground.specs.Memory.{Laid, fill, fill_fits}
-use Rattle.shelf.specs.Totals.{nothing, sum, of_table, totals_of, within, bounded}
+use Rattle.ground.specs.Memory.{fill_fits}
+use Rattle.shelf.specs.Totals.{nothing, sum, of_table, totals_of, within, too_large, bounded}
 use Rattle.shelf.specs.TotalsLaws.{sum_assoc, sum_comm, sum-nothing, nothing-sum, totals-none, totals-next, totals-one, totals-append, nothing-within, within-over, within_chose, bounded_is, bounded-over, bounded-told, bounded-told-over}
 use Rattle.shelf.specs.Stream.{table_length, wholes_in, rest_in, wholes, rest, cut_off, tables, shelf, counted, passed_to, passed, left_by, taken_by, kept_by, left_in, Took}
 use Rattle.shelf.specs.declared.totals.Totals.{Totals}
-use Rattle.shelf.specs.declared.totals.Counted.{Counted}
-use Rattle.shelf.specs.declared.totals.Counted.TheVariants.{Is, TooLarge}
+use Rattle.shelf.specs.declared.totals.TooLarge.{TooLarge}
 use Rattle.shelf.specs.declared.stream.Passed.{Passed}
-use Rattle.shelf.specs.declared.stream.Passed.TheVariants.{On, Over}
 use Rattle.shelf.specs.declared.stream.Taken.{Taken}
-use Rattle.shelf.specs.declared.stream.Taken.TheVariants.{On as OnTaken, Over as OverTaken}
 
--- how long the table is that s begins with, where it is whole; else 0
-unfoldable pub length_of_whole : List ℕ → ℕ
-length_of_whole s = choose leb (table_length s) (length s) then table_length s else 0
+-- how long the table is that s begins with, where it is whole
+unfoldable pub length_of_whole : List ℕ → Option ℕ
+length_of_whole s = choose leb (table_length s) (length s) then Some (table_length s) else None
 
-pub whole_length-whole : (s : List ℕ) → table_length s ≤ length s → length_of_whole s ≡ table_length s
+pub whole_length-whole : (s : List ℕ) → table_length s ≤ length s → length_of_whole s ≡ Some (table_length s)
 unfolding length_of_whole
 whole_length-whole s h = when _ _ _ (le-leb _ _ h)
 
-pub whole_length-cut : (s : List ℕ) → length s < table_length s → length_of_whole s ≡ 0
+pub whole_length-cut : (s : List ℕ) → length s < table_length s → length_of_whole s ≡ None
 unfolding length_of_whole
 whole_length-cut s h = unless _ _ _ (lt-leb _ _ h)
 
 -- what is told of it
-pub whole_length_some : (s : List ℕ) {n : ℕ} → n ≡ length_of_whole s → (n ≡ 0 → ⊥) → (table_length s ≤ length s) × (n ≡ table_length s)
-whole_length_some s e h = elim (dec_le (table_length s) (length s)) [
-  | yes g ↦ (g, e ∙ whole_length-whole s g)
-  | no g ↦ absurd (h (e ∙ whole_length-cut s (lt_of_not-le g)))
+pub whole_length_some : (s : List ℕ) {n : ℕ} → Some n ≡ length_of_whole s → (table_length s ≤ length s) × (n ≡ table_length s)
+whole_length_some s e = elim (dec_le (table_length s) (length s)) [
+  | yes g ↦ (let w = whole_length-whole s g in (g, cc))
+  | no g ↦ (let w = whole_length-cut s (lt_of_not-le g) in cc)
 ]
 
-pub whole_length-none : (s : List ℕ) {n : ℕ} → n ≡ length_of_whole s → n ≡ 0 → length s < table_length s
-whole_length-none s e h = elim (dec_le (table_length s) (length s)) [
-  | yes g ↦ (let q = whole_length-whole s g in absurd (omega arith))
+pub whole_length-none : (s : List ℕ) → None ≡ length_of_whole s → length s < table_length s
+whole_length-none s e = elim (dec_le (table_length s) (length s)) [
+  | yes g ↦ (let w = whole_length-whole s g in cc)
   | no g ↦ lt_of_not-le g
 ]
 
@@ -244,48 +242,25 @@ pub tables-cut : (s : List ℕ) → 0 < length s → length s < table_length s �
 unfolding tables
 tables-cut s l h = rw (wholes_end s h, rest_end s h) (cut_off_some s l)
 
--- ---- bytes of a room moved to its front
-
--- once the first i of them are there, the next one stands where it stood
-pub moved-next :
-    (m : List ℕ) (from n i : ℕ) {m₁ : List ℕ} → Laid m (take i (take n (drop from m))) i m₁ → i < n → from + i < length m
-    → get_or m₁ (from + i) 0 ≡ get_or (take n (drop from m)) i 0
-moved-next m from n i {m₁} l h k =
-    let d = length-drop from m in
-    let t = length-take n (drop from m) in
-    let e : length (take i (take n (drop from m))) ≡ i = length-take-le i (take n (drop from m)) (omega arith) in
-    let f : m₁ ≡ take i (take n (drop from m)) ++ drop i m =
-    l.bytes ∙ fill_fits m (take i (take n (drop from m))) (omega arith)
-    ∙ ap (λ (x : ℕ). take i (take n (drop from m)) ++ drop x m) e in
-    let p : from + i ≡ length (take i (take n (drop from m))) + from = omega arith in
-    ap (λ (x : List ℕ). get_or x (from + i) 0) f
-    ∙ ap (λ (x : ℕ). get_or (take i (take n (drop from m)) ++ drop i m) x 0) p
-    ∙ get_or-append-add (take i (take n (drop from m))) (drop i m) from 0
-    ∙ get_or-drop i m from 0
-    ∙ ap (λ (x : ℕ). get_or m x 0) (omega arith)
-    ∙ sym (get_or-drop from m i 0)
-    ∙ sym (get_or-take n (drop from m) i 0 h)
-
--- how many they are
-pub moved_length : (m : List ℕ) (from n i : ℕ) → (n ≤ i) ⊎ (length m ≤ from + i) → length (take n (drop from m)) ≤ i
-moved_length m from n i c = let d = length-drop from m in let t = length-take n (drop from m) in ⊎_elim (λ h. omega arith) (λ h. omega arith) c
-
 -- ---- table by table, as the code goes
 
-pub passed_to_on : (a : Totals) (used : ℕ) → within a ≡ true → passed_to a used ≡ On a used
+pub passed_to_on : (a : Totals) (used : ℕ) → within a ≡ true → passed_to a used ≡ Ok (record { totals = a; used = used })
 unfolding passed_to
 passed_to_on a used h = when _ _ _ h
 
-pub passed_to-over : (a : Totals) (used : ℕ) → within a ≡ false → passed_to a used ≡ Over
+pub passed_to-over : (a : Totals) (used : ℕ) → within a ≡ false → passed_to a used ≡ Err too_large
 unfolding passed_to
 passed_to-over a used h = unless _ _ _ h
 
-pub passed_to-told : (a : Totals) (used : ℕ) {b : Totals} {n : ℕ} → On b n ≡ passed_to a used → (within a ≡ true) × (b ≡ a) × (n ≡ used)
+pub passed_to-told :
+    (a : Totals) (used : ℕ) {p : Passed} → Ok p ≡ passed_to a used → (within a ≡ true) × (p.totals ≡ a) × (p.used ≡ used)
 unfolding passed_to
-passed_to-told a used h =
-    ⊎_elim (λ w. let k = w.1 in (w.0, cc, cc)) (λ w. let k = w.1 in let z : ◌≡◌ {A = ℕ} 0 1 = cc in absurd (omega arith)) (within_chose a h)
+passed_to-told a used {p} h =
+    ⊎_elim (λ w. let k = w.1 in
+    let e : p ≡ record { totals = a; used = used } = cc in (w.0, ap (λ (x : Passed). x.totals) e, ap (λ (x : Passed). x.used) e)) (λ w. let k = w.1 in
+    let z : ◌≡◌ {A = ℕ} 0 1 = cc in absurd (omega arith)) (within_chose a h)
 
-pub passed_to-told-over : (a : Totals) (used : ℕ) → Over ≡ passed_to a used → within a ≡ false
+pub passed_to-told-over : (a : Totals) (used : ℕ) {e : TooLarge} → Err e ≡ passed_to a used → within a ≡ false
 unfolding passed_to
 passed_to-told-over a used h =
     ⊎_elim (λ w. let k = w.1 in let z : ◌≡◌ {A = ℕ} 0 1 = cc in absurd (omega arith)) (λ w. w.0) (within_chose a h)
@@ -315,7 +290,7 @@ module _ {a : Totals} {s : List ℕ} {b : Totals} {at : ℕ} (p : Passing a s b 
         ∙ p.counts
 
     pub passing-next :
-        {b' : Totals} {n : ℕ} → n ≡ table_length (drop at s) → Is b' ≡ bounded (sum b (of_table (take n (drop at s)))) → Passing a s b' (at + n)
+        {b' : Totals} {n : ℕ} → n ≡ table_length (drop at s) → Ok b' ≡ bounded (sum b (of_table (take n (drop at s)))) → Passing a s b' (at + n)
     passing-next {b'} {n} e q =
         let t = bounded-told _ (rw e at q) in
         let l = length-drop at s in
@@ -329,14 +304,14 @@ module _ {a : Totals} {s : List ℕ} {b : Totals} {at : ℕ} (p : Passing a s b 
 
     -- or is too much
     pub passing-over :
-        {n : ℕ} → n ≡ table_length (drop at s) → TooLarge ≡ bounded (sum b (of_table (take n (drop at s)))) → Over ≡ passed a s
+        {n : ℕ} {o : TooLarge} → n ≡ table_length (drop at s) → Err o ≡ bounded (sum b (of_table (take n (drop at s)))) → Err o ≡ passed a s
     unfolding passed
     passing-over {n} e q =
         let w = bounded-told-over _ (rw e at q) in
         sym (passed_to-over _ _ (ap within (sym passing-more) ∙ within-over _ _ w))
 
   -- none does
-  pub passing-end : length (drop at s) < table_length (drop at s) → On b at ≡ passed a s
+  pub passing-end : length (drop at s) < table_length (drop at s) → Ok (record { totals = b; used = at }) ≡ passed a s
   unfolding passed
   passing-end h =
       let e : b ≡ sum a (totals_of (wholes s)) =
@@ -351,13 +326,13 @@ module _ {a : Totals} {s : List ℕ} {b : Totals} {at : ℕ} (p : Passing a s b 
 
 -- what the whole tables come to, added to any totals
 pub passed_on :
-    (a : Totals) (s : List ℕ) {more : Totals} {used : ℕ} → On more used ≡ passed nothing s → passed_to (sum a more) used ≡ passed a s
+    (a : Totals) (s : List ℕ) {p : Passed} → Ok p ≡ passed nothing s → passed_to (sum a p.totals) p.used ≡ passed a s
 unfolding passed
 passed_on a s h =
     let t = passed_to-told _ _ h in
     rw (t.1, t.2) (ap (λ (x : Totals). passed_to (sum a x) (length s - length (rest s))) (nothing-sum (totals_of (wholes s))))
 
-pub passed_over : (a : Totals) (s : List ℕ) → Over ≡ passed nothing s → Over ≡ passed a s
+pub passed_over : (a : Totals) (s : List ℕ) {e : TooLarge} → Err e ≡ passed nothing s → Err e ≡ passed a s
 unfolding passed
 passed_over a s h =
     let w = passed_to-told-over _ _ h in
@@ -375,22 +350,23 @@ counted_more a s r =
     ∙ sym (sum_assoc a (totals_of (wholes s)) (totals_of (tables (rest s ++ r))))
 
 -- from what the whole tables of s left on; or they were too much, and so is all with what comes behind
-pub counted_on : (a : Totals) (s r : List ℕ) {b : Totals} {used : ℕ} → On b used ≡ passed a s → counted b (drop used s ++ r) ≡ counted a (s ++ r)
+pub counted_on :
+    (a : Totals) (s r : List ℕ) {p : Passed} → Ok p ≡ passed a s → counted p.totals (drop p.used s ++ r) ≡ counted a (s ++ r)
 unfolding counted passed
 counted_on a s r h =
     let t = passed_to-told _ _ h in
     rw (t.1, t.2, rest-drop s) (ap bounded (sym (counted_more a s r)))
 
-pub counted-past : (a : Totals) (s r : List ℕ) → Over ≡ passed a s → TooLarge ≡ counted a (s ++ r)
+pub counted-past : (a : Totals) (s r : List ℕ) {e : TooLarge} → Err e ≡ passed a s → Err e ≡ counted a (s ++ r)
 unfolding counted passed
 counted-past a s r h = sym (bounded-over _ (ap within (counted_more a s r) ∙ within-over _ _ (passed_to-told-over _ _ h)))
 
 -- totals so far, and what is left behind the whole tables
-unfoldable pub with_rest : Totals → List ℕ → Counted
-with_rest a [] = Is a
+unfoldable pub with_rest : Totals → List ℕ → Result Totals TooLarge
+with_rest a [] = Ok a
 with_rest a (b ∷ s) = bounded (sum a (of_table (b ∷ s)))
 
-pub with_rest-none : (a : Totals) (s : List ℕ) → length s ≡ 0 → with_rest a s ≡ Is a
+pub with_rest-none : (a : Totals) (s : List ℕ) → length s ≡ 0 → with_rest a s ≡ Ok a
 unfolding with_rest
 with_rest-none a [] h = refl
 with_rest-none a (b ∷ s) h = absurd (omega arith)
@@ -410,42 +386,42 @@ with_rest-all a (b ∷ s) w h =
     ap (λ (x : Totals). bounded (sum a x)) (sym (ap totals_of (tables-cut (b ∷ s) (omega arith) h) ∙ totals-one (b ∷ s)))
 
 -- the bytes counted lie in what was read
-pub passed_used : (a : Totals) (s : List ℕ) {b : Totals} {used : ℕ} → On b used ≡ passed a s → used ≤ length s
+pub passed_used : (a : Totals) (s : List ℕ) {p : Passed} → Ok p ≡ passed a s → p.used ≤ length s
 unfolding passed
 passed_used a s h = let u = (passed_to-told _ _ h).2 in omega arith
 
 -- so all tables: the whole ones, and then one that is cut off or none
-pub counted-rest : (a : Totals) (s : List ℕ) {b : Totals} {used : ℕ} → On b used ≡ passed a s → with_rest b (drop used s) ≡ counted a s
+pub counted-rest : (a : Totals) (s : List ℕ) {p : Passed} → Ok p ≡ passed a s → with_rest p.totals (drop p.used s) ≡ counted a s
 unfolding passed
-counted-rest a s {b} {used} h =
+counted-rest a s {p} h =
     let t = passed_to-told _ _ h in
-    with_rest-all b (drop used s) (ap within t.1 ∙ t.0) (rw (t.2, rest-drop s) (rest_short s))
-    ∙ ap (counted b) (sym (append-nil (drop used s))) ∙ counted_on a s [] h ∙ ap (counted a) (append-nil s)
+    with_rest-all p.totals (drop p.used s) (ap within t.1 ∙ t.0) (rw (t.2, rest-drop s) (rest_short s))
+    ∙ ap (counted p.totals) (sym (append-nil (drop p.used s))) ∙ counted_on a s [] h ∙ ap (counted a) (append-nil s)
 
-pub counted-over : (a : Totals) (s : List ℕ) → Over ≡ passed a s → TooLarge ≡ counted a s
+pub counted-over : (a : Totals) (s : List ℕ) {e : TooLarge} → Err e ≡ passed a s → Err e ≡ counted a s
 counted-over a s h = counted-past a s [] h ∙ ap (counted a) (append-nil s)
 
 -- ---- room for more
 
-pub left_by_on : (a : Totals) (used n : ℕ) → left_by (On a used) n ≡ n - used
+pub left_by_on : (p : Passed) (n : ℕ) → left_by (Ok p) n ≡ n - p.used
 unfolding left_by
-left_by_on a used n = refl
+left_by_on p n = refl
 
-left_by-over : (n : ℕ) → left_by Over n ≡ 0
+left_by-over : (e : TooLarge) (n : ℕ) → left_by (Err e) n ≡ 0
 unfolding left_by
-left_by-over n = refl
+left_by-over e n = refl
 
 -- of bytes fewer than the longest table has, which is 65,537 long
 pub passed-left : (a : Totals) (s : List ℕ) → ((i : ℕ) → get_or s i 0 < 256) → left_by (passed a s) (length s) ≤ 65536
 unfolding passed passed_to
 passed-left a s h =
-    either (λ (r : Passed). left_by r (length s) ≤ 65536) (within (sum a (totals_of (wholes s))))
-    (λ w. let e = left_by_on (sum a (totals_of (wholes s))) (length s - length (rest s)) (length s) in
+    either (λ (r : Result Passed TooLarge). left_by r (length s) ≤ 65536) (within (sum a (totals_of (wholes s))))
+    (λ w. let e = left_by_on (record { totals = sum a (totals_of (wholes s)); used = length s - length (rest s) }) (length s) in
     let l = rest-length s in
     let t = rest_short s in
     let p : get_or (rest s) 0 0 < 256 = byte 0 in
     let q : get_or (rest s) 1 0 < 256 = byte 1 in
-    omega arith) (λ w. let e = left_by-over (length s) in omega arith)
+    omega arith) (λ w. let e = left_by-over too_large (length s) in omega arith)
   where
     byte : (i : ℕ) → get_or (rest s) i 0 < 256
     byte i = rw (sym (rest-drop s)) (rw (get_or-drop (length s - length (rest s)) s i 0) (h _))
@@ -464,55 +440,49 @@ drop_of_take m used n h k =
     ∙ take-append_seam (drop used (take n m)) (drop n m)
 
 -- none of the bytes were used: all stand where they stood
-pub keep-none :
-    (a : Totals) {used : ℕ} (n : ℕ) (m : List ℕ) → used ≡ 0 → n ≤ length m
-    → (OnTaken a n ≡ taken_by (On a used) n) × (m ≡ kept_by (On a used) (take n m) m)
-unfolding taken_by kept_by
-keep-none a n m e h =
+pub keep-none : (p : Passed) (n : ℕ) (m : List ℕ) → p.used ≡ 0 → n ≤ length m → m ≡ kept_by (Ok p) (take n m) m
+unfolding kept_by
+keep-none p n m e h =
     let l = length-take-le n m h in
-    rw e (
-      ap (OnTaken a) (omega arith),
-      sym (fill_fits m (take n m) (omega arith) ∙ ap (λ (x : ℕ). take n m ++ drop x m) l ∙ take-append-drop n m),
-    )
+    rw e (sym (fill_fits m (take n m) (omega arith) ∙ ap (λ (x : ℕ). take n m ++ drop x m) l ∙ take-append-drop n m))
 
 -- what is left was moved
-pub keep-moved :
-    (a : Totals) {used : ℕ} (n : ℕ) (m : List ℕ) {left : ℕ} {m' : List ℕ} → used ≤ n → n ≤ length m
-    → Laid m (take (n - used) (drop used m)) left m' → (OnTaken a left ≡ taken_by (On a used) n) × (m' ≡ kept_by (On a used) (take n m) m)
-unfolding taken_by kept_by
-keep-moved a {used} n m h k l =
-    let c = l.count in
-    let t = length-take (n - used) (drop used m) in
-    let d = length-drop used m in
-    (ap (OnTaken a) (omega arith), l.bytes ∙ ap (fill m) (drop_of_take m used n h k))
+pub keep-moved : (p : Passed) (n : ℕ) (m : List ℕ) → p.used ≤ n → n ≤ length m → copy_within m p.used n 0 ≡ kept_by (Ok p) (take n m) m
+unfolding kept_by
+keep-moved p n m h k =
+    let e = drop_of_take m p.used n h k in
+    let l : length (drop p.used (take n m)) ≡ n - p.used = length-drop p.used (take n m) ∙ ap (λ (x : ℕ). x - p.used) (length-take-le n m k) in
+    ap (λ (x : ℕ). take (n - p.used) (drop p.used m) ++ drop x m) (zero-add (n - p.used) ∙ sym l)
+    ∙ ap (λ (x : List ℕ). x ++ drop (length (drop p.used (take n m))) m) e
+    ∙ sym (fill_fits m (drop p.used (take n m)) (omega arith))
 
 -- the first n bytes of the room, which has as many or fewer than it is asked for
 pub took_of :
-    (a : Totals) (m : List ℕ) (end : ℕ) {n : ℕ} {p : Passed} {r : Taken} {m' : List ℕ} → n ≡ min end (length m) → p ≡ passed a (take n m)
+    (a : Totals) (m : List ℕ) (end : ℕ) {n : ℕ} {p : Result Passed TooLarge} {r : Result Taken TooLarge} {m' : List ℕ} → n ≡ min end (length m) → p ≡ passed a (take n m)
     → r ≡ taken_by p n → m' ≡ kept_by p (take n m) m → Took a (take end m) m r m'
 took_of a m end {n} {p} e h o k =
     let l = length-take-le n m (omega arith) in
     let s : take n m ≡ take end m = shorter (dec_le end (length m)) in
-    rw (← s) (record { outcome = o ∙ ap (λ (x : Passed). taken_by x n) h ∙ ap (taken_by (passed a (take n m))) (sym l); memory = rw h at k })
+    rw (← s) (record { outcome = o ∙ ap (λ (x : Result Passed TooLarge). taken_by x n) h ∙ ap (taken_by (passed a (take n m))) (sym l); memory = rw h at k })
   where
     shorter : Dec (end ≤ length m) → take n m ≡ take end m
     shorter (yes g) = let q : n ≡ end = omega arith in ap (λ (x : ℕ). take x m) q
     shorter (no g) = let i = lt_of_not-le g in take_all n m (omega arith) ∙ sym (take_all end m (omega arith))
 
 -- how many are left
-pub left_in-taken : (p : Passed) (n : ℕ) → left_in (taken_by p n) ≡ left_by p n
+pub left_in-taken : (p : Result Passed TooLarge) (n : ℕ) → left_in (taken_by p n) ≡ left_by p n
 unfolding left_in taken_by left_by
-left_in-taken (On a used) n = refl
-left_in-taken Over n = refl
+left_in-taken (Ok p) n = refl
+left_in-taken (Err e) n = refl
 
-pub left_in_on : {r : Taken} {a : Totals} {left : ℕ} → r ≡ OnTaken a left → left_in r ≡ left
+pub left_in_on : {r : Result Taken TooLarge} {t : Taken} → r ≡ Ok t → left_in r ≡ t.left
 unfolding left_in
 left_in_on e = rw e
 
-pub taken_short : {p q : Passed} {n l : ℕ} {r : Taken} → r ≡ taken_by p n → q ≡ p → l ≡ n → left_by q l ≤ 65536 → left_in r ≤ 65536
+pub taken_short : {p q : Result Passed TooLarge} {n l : ℕ} {r : Result Taken TooLarge} → r ≡ taken_by p n → q ≡ p → l ≡ n → left_by q l ≤ 65536 → left_in r ≤ 65536
 taken_short {p} {q} {n} h e k b = rw (h, left_in-taken p n) (rw (e, k) at b)
 
 -- too large: nothing is left or moved
-pub took-over : (m s : List ℕ) (n : ℕ) → (OverTaken ≡ taken_by Over n) × (m ≡ kept_by Over s m) × (left_in OverTaken ≤ 65536)
+pub took-over : (e : TooLarge) (m s : List ℕ) (n : ℕ) → (Err e ≡ taken_by (Err e) n) × (m ≡ kept_by (Err e) s m) × (left_in (Err e) ≤ 65536)
 unfolding taken_by kept_by left_in
-took-over m s n = (refl, refl, omega arith)
+took-over e m s n = (refl, refl, omega arith)

@@ -1,6 +1,6 @@
 -- The thirteen totals: "prints, one a line: tables, fit ones, unfit ones by K6's rule, and over the fit ones tracks, data blocks, audio blocks,
 -- blocks of no track".
-use Rattle.std.specs.Prelude.{ℕ, ◌+◌, ◌≤◌, Bool, List, [], ◌∷◌, leb, eqb}
+use Rattle.std.specs.Prelude.{ℕ, ◌+◌, ◌≤◌, Bool, List, [], ◌∷◌, leb, eqb, Result, Ok, Err}
 use Rattle.ground.specs.Tests.{◌and◌, choose◌then◌else◌}
 use Rattle.disc.specs.Rules.{fault, is_fit}
 use Rattle.tracks.specs.Track.{is_mode}
@@ -8,8 +8,7 @@ use Rattle.tracks.specs.declared.track.Mode.TheVariants.{Data, Audio}
 use Rattle.shelf.specs.Count.{one_if}
 use Rattle.shelf.specs.Content.{tracks_in, blocks_in, is_none}
 use Rattle.shelf.specs.declared.totals.Totals.{Totals}
-use Rattle.shelf.specs.declared.totals.Counted.{Counted}
-use Rattle.shelf.specs.declared.totals.Counted.TheVariants.{Is, TooLarge}
+use Rattle.shelf.specs.declared.totals.TooLarge.{TooLarge}
 
 -- of no table
 abbrev pub nothing : Totals
@@ -101,9 +100,13 @@ within a =
     and leb a.rule4 most and leb a.rule5 most and leb a.rule6 most and leb a.rule7 most and leb a.tracks most
     and leb a.data_blocks most and leb a.audio_blocks most and leb a.trackless most
 
+-- what is handed back in place of totals, which has one value
+abbrev pub too_large : TooLarge
+too_large = record {}
+
 -- "past that it stops with "total too large""
-unfoldable pub bounded : Totals → Counted
-bounded a = choose within a then Is a else TooLarge
+unfoldable pub bounded : Totals → Result Totals TooLarge
+bounded a = choose within a then Ok a else Err too_large
 
 -- the totals in the order of their lines
 abbrev pub numbers_of : Totals → List ℕ

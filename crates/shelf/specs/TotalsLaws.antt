@@ -1,5 +1,5 @@
 -- Laws of the totals: sums of sums, and that a total past 64 bits stays past them.
-use Rattle.std.specs.Prelude.{◌≡◌, refl, Bool, true, false, ◌⊎◌, List, [], ◌∷◌, ◌++◌, ℕ, ◌+◌, ◌-◌, ◌≤◌, leb, eqb}
+use Rattle.std.specs.Prelude.{◌≡◌, refl, Bool, true, false, ◌⊎◌, List, [], ◌∷◌, ◌++◌, ℕ, ◌+◌, ◌-◌, ◌≤◌, leb, eqb, Ok, Err}
 use Rattle.std.proofs.Common.{sym, ap, ◌∙◌, true≢false, inl, inr, ⊎_elim, arith, add_assoc, add_comm, add-zero, zero-add, lt_of_not-le, le-leb, leb-true, eqb-true}
 use Rattle.std.proofs.Math.Decide.{dec_le}
 use Rattle.std.proofs.lemmas.Bool.{lt-leb}
@@ -15,9 +15,9 @@ use Rattle.shelf.specs.Count.{one_if}
 use Rattle.shelf.specs.Content.{tracks_in, blocks_in, is_none}
 use Rattle.shelf.specs.ContentLaws.{blocks_three, fit-tracks, held_by}
 use Rattle.shelf.specs.declared.content.Held.{Held}
-use Rattle.shelf.specs.Totals.{nothing, sum, if_fit, of_table, totals_of, most, Within, within, bounded}
+use Rattle.shelf.specs.Totals.{nothing, sum, if_fit, of_table, totals_of, most, Within, within, too_large, bounded}
 use Rattle.shelf.specs.declared.totals.Totals.{Totals}
-use Rattle.shelf.specs.declared.totals.Counted.TheVariants.{Is, TooLarge}
+use Rattle.shelf.specs.declared.totals.TooLarge.{TooLarge}
 
 -- ---- sums
 
@@ -156,20 +156,20 @@ within_chose a {x} {y} {r} h = decided (within a) refl
     decided true e = inl (e, h ∙ when _ _ _ e)
     decided false e = inr (e, h ∙ unless _ _ _ e)
 
-pub bounded_is : (a : Totals) → within a ≡ true → bounded a ≡ Is a
+pub bounded_is : (a : Totals) → within a ≡ true → bounded a ≡ Ok a
 unfolding bounded
 bounded_is a h = when _ _ _ h
 
-pub bounded-over : (a : Totals) → within a ≡ false → bounded a ≡ TooLarge
+pub bounded-over : (a : Totals) → within a ≡ false → bounded a ≡ Err too_large
 unfolding bounded
 bounded-over a h = unless _ _ _ h
 
 -- what is told
-pub bounded-told : (a : Totals) {b : Totals} → Is b ≡ bounded a → (within a ≡ true) × (b ≡ a)
+pub bounded-told : (a : Totals) {b : Totals} → Ok b ≡ bounded a → (within a ≡ true) × (b ≡ a)
 unfolding bounded
 bounded-told a h = ⊎_elim (λ w. let k = w.1 in (w.0, cc)) (λ w. let k = w.1 in let z : ◌≡◌ {A = ℕ} 0 1 = cc in absurd (omega arith)) (within_chose a h)
 
-pub bounded-told-over : (a : Totals) → TooLarge ≡ bounded a → within a ≡ false
+pub bounded-told-over : (a : Totals) {e : TooLarge} → Err e ≡ bounded a → within a ≡ false
 unfolding bounded
 bounded-told-over a h = ⊎_elim (λ w. let k = w.1 in let z : ◌≡◌ {A = ℕ} 0 1 = cc in absurd (omega arith)) (λ w. w.0) (within_chose a h)
 

@@ -1,5 +1,5 @@
 // What a fit table adds: its blocks by their tracks, told by the tracks' lengths and not block by block.
-ghost use Rattle.std.specs.Prelude.{◌≡◌, ◌+◌, ◌*◌, ◌≤◌, length};
+ghost use Rattle.std.specs.Prelude.{◌≡◌, ◌+◌, ◌*◌, ◌≤◌, length, IfSome};
 ghost use Rattle.table.specs.Layout.{row, flags_at};
 ghost use Rattle.table.specs.Row.{address_at};
 ghost use Rattle.sessions.specs.Session.{first, last, tracks};
@@ -18,12 +18,11 @@ use table::layout::{FLAGS, HEADER, PMIN, ROW};
 use table::row::{row_of, start_of};
 use tracks::track::is_data;
 
-// Tracks passed: the blocks of the runs of data tracks that have ended, and where one began that has not.
+// Tracks passed: the blocks of the runs of data tracks that have ended, and where one began that has not, if one did.
 #[derive(Clone, Copy)]
 pub struct Run {
     pub blocks: usize,
-    pub running: bool,
-    pub from: usize,
+    pub from: Option<usize>,
 }
 
 // A fit table's blocks of data tracks, and of no track.
@@ -39,8 +38,7 @@ fn idle() -> Run
 {
     Run {
         blocks: 0,
-        running: false,
-        from: 0,
+        from: None,
     }
 }
 
@@ -55,28 +53,21 @@ fn address_at(s: &[u8], j: usize) -> usize
 
 // The session's track after i others is passed. Its address is looked at only where a run of data tracks begins or ends.
 fn pass(s: &[u8], i: usize, r: Run) -> Run
-    requires { (row * (4 + i) ≤ length s.now) × (r.from ≤ track_start s.now i) × (blocks_to (track_start s.now i) r ≤ track_start s.now i) }
+    requires { (row * (4 + i) ≤ length s.now) × IfSome r.from (λ a. a ≤ track_start s.now i) × (blocks_to (track_start s.now i) r ≤ track_start s.now i) }
     ensures { result ≡ run_past (is_data (flags_at s.now (3 + i))) (track_start s.now i) r }
 {
     let j = 3 + i;
-    if is_data(s[ROW * j + FLAGS]) {
-        if r.running {
-            return r;
-        }
-        return Run {
-            blocks: r.blocks,
-            running: true,
-            from: address_at(s, j),
-        };
+    match (is_data(s[ROW * j + FLAGS]), r.from) {
+        (true, None) => Run {
+            from: Some(address_at(s, j)),
+            ..r
+        },
+        (false, Some(from)) => Run {
+            blocks: r.blocks + (address_at(s, j) - from),
+            from: None,
+        },
+        _ => r,
     }
-    if r.running {
-        return Run {
-            blocks: r.blocks + (address_at(s, j) - r.from),
-            running: false,
-            from: 0,
-        };
-    }
-    r
 }
 
 // The blocks of the data tracks among the n tracks of the session that s begins with.
@@ -85,15 +76,13 @@ fn data_in(s: &[u8], n: usize) -> usize
     ensures { result ≡ sum_below n (track_blocks Data s.now n) }
 {
     let mut r = idle();
-    let mut i = 0;
-    while i < n {
+    for i in 0..n {
         r = pass(s, i, r);
-        i += 1;
     }
-    if r.running {
-        return r.blocks + (address_at(s, 2) - r.from);
+    match r.from {
+        Some(from) => r.blocks + (address_at(s, 2) - from),
+        None => r.blocks,
     }
-    r.blocks
 }
 
 // The same of all its tracks.
@@ -109,20 +98,17 @@ pub(crate) fn held_by(t: &[u8]) -> Held
     requires { Fit t.now }
     ensures { result ≡ held_by t.now }
 {
-    let n = t[3];
     let d = &t[HEADER..];
-    let mut k: u8 = 0;
     let mut at = 0;
     let mut out = 0;
     let mut of_data = 0;
     let mut of_none = 0;
-    while k < n {
+    for _ in 0..t[3] {
         let s = &d[at..];
         of_none += address_at(s, 3) - out;
         of_data += data_of(s);
         out = address_at(s, 2);
         at += session_bytes(s);
-        k += 1;
     }
     Held { of_data, of_none }
 }

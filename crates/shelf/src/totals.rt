@@ -29,12 +29,9 @@ pub struct Totals {
     pub trackless: u64,
 }
 
-// Totals of 64 bits, or one of them is past that.
-#[derive(Clone, Copy)]
-pub enum Counted {
-    Is(Totals),
-    TooLarge,
-}
+// One of the totals is past 64 bits.
+#[derive(Clone, Copy, Debug, PartialEq, Eq)]
+pub struct TooLarge;
 
 // Of no table.
 pub fn nothing() -> Totals
@@ -180,17 +177,17 @@ fn sum(a: Totals, b: Totals) -> Totals
 }
 
 // Both together.
-pub(crate) fn add(a: Totals, b: Totals) -> Counted
+pub(crate) fn add(a: Totals, b: Totals) -> Result<Totals, TooLarge>
     ensures { result ≡ bounded (sum a b) }
 {
     if is_within(a, b) {
-        return Counted::Is(sum(a, b));
+        return Ok(sum(a, b));
     }
-    Counted::TooLarge
+    Err(TooLarge)
 }
 
 // One table more.
-pub fn count(totals: Totals, table: &[u8]) -> Counted
+pub fn count(totals: Totals, table: &[u8]) -> Result<Totals, TooLarge>
     ensures { result ≡ bounded (sum totals (of_table table.now)) }
 {
     add(totals, of_table(table))

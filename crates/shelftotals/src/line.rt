@@ -4,7 +4,7 @@ ghost use Rattle.shelftotals.specs.Told.{lines, told};
 
 use ground::memory::copy_front;
 use print::numbers::put_joined;
-use shelf::totals::{Counted, Totals, numbers};
+use shelf::totals::{TooLarge, Totals, numbers};
 
 // The totals, a line each.
 fn put_lines(totals: Totals, out: &mut [u8]) -> usize
@@ -16,11 +16,11 @@ fn put_lines(totals: Totals, out: &mut [u8]) -> usize
 }
 
 // The totals, or that one of them is too large.
-pub(crate) fn put_told(counted: Counted, out: &mut [u8]) -> usize
+pub(crate) fn put_told(counted: Result<Totals, TooLarge>, out: &mut [u8]) -> usize
     ensures { Laid out.old (told counted) result out.new }
 {
     match counted {
-        Counted::Is(totals) => put_lines(totals, out),
-        Counted::TooLarge => copy_front(b"total too large\n", out),
+        Ok(totals) => put_lines(totals, out),
+        Err(TooLarge) => copy_front(b"total too large\n", out),
     }
 }

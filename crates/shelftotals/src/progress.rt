@@ -15,18 +15,17 @@ const STEP: usize = 67108864;
 // The descriptor by which `./shelf` hands a terminal on: `.ci/program` catches the program's own standard error.
 const HANDED: &str = "/dev/fd/4";
 
-// The terminal that shows it: standard error, or what is handed on, or none.
+// The terminal that shows it: standard error, or what is handed on.
 #[derive(Clone, Copy)]
 pub enum Terminal {
     OfErrors,
     Handed,
-    Nowhere,
 }
 
-// The terminal; the bytes read; and how many more until that is shown again.
+// The terminal, if there is one; the bytes read; and how many more until that is shown again.
 #[derive(Clone, Copy)]
 pub struct Progress {
-    pub terminal: Terminal,
+    pub terminal: Option<Terminal>,
     pub read: usize,
     pub left: usize,
 }
@@ -37,20 +36,17 @@ fn open_handed(rt: &HostRuntime) -> io::Result<File> {
 }
 
 fn is_handed(rt: &HostRuntime) -> bool {
-    match open_handed(rt) {
-        Ok(file) => file.is_terminal(),
-        Err(_) => false,
-    }
+    open_handed(rt).is_ok_and(|file| file.is_terminal())
 }
 
-fn find_terminal(rt: &HostRuntime) -> Terminal {
+fn find_terminal(rt: &HostRuntime) -> Option<Terminal> {
     if rt.stderr().is_terminal() {
-        return Terminal::OfErrors;
+        return Some(Terminal::OfErrors);
     }
     if is_handed(rt) {
-        return Terminal::Handed;
+        return Some(Terminal::Handed);
     }
-    Terminal::Nowhere
+    None
 }
 
 // Writes to the terminal. Where that fails, nothing is shown.
@@ -62,7 +58,6 @@ fn write(rt: &HostRuntime, terminal: Terminal, text: &[u8]) {
                 let _ = file.write_all(text);
             }
         }
-        Terminal::Nowhere => {}
     }
 }
 
@@ -89,40 +84,34 @@ fn show(rt: &HostRuntime, terminal: Terminal, read: usize) {
     write(rt, terminal, front(&line, n));
 }
 
-fn is_nowhere(terminal: Terminal) -> bool {
-    match terminal {
-        Terminal::Nowhere => true,
-        _ => false,
-    }
-}
-
 // So many bytes more are read.
 pub(crate) fn go_on(rt: &HostRuntime, p: Progress, more: usize) -> Progress {
-    if is_nowhere(p.terminal) {
+    let Some(terminal) = p.terminal else {
         return p;
-    }
-    if usize::MAX - p.read < more {
+    };
+    let Some(read) = p.read.checked_add(more) else {
         return p;
-    }
-    let read = p.read + more;
+    };
     if more < p.left {
         return Progress {
-            terminal: p.terminal,
             read,
             left: p.left - more,
+            ..p
         };
     }
-    show(rt, p.terminal, read);
+    show(rt, terminal, read);
     Progress {
-        terminal: p.terminal,
         read,
         left: STEP,
+        ..p
     }
 }
 
 // Ends the line, if one stands there.
 pub(crate) fn end(rt: &HostRuntime, p: Progress) {
-    if STEP <= p.read {
-        write(rt, p.terminal, b"\n");
+    if let Some(terminal) = p.terminal {
+        if STEP <= p.read {
+            write(rt, terminal, b"\n");
+        }
     }
 }

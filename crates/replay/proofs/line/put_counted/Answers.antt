@@ -2,10 +2,10 @@
 use Rattle.replay.specs.Line.{counted_line}
 use Rattle.replay.proofs.line.put_counted.Goals as goal
 
-pub returns-in-Is : goal.returns-in-Is
+pub returns-in-Ok : goal.returns-in-Ok
 unfolding counted_line
-returns-in-Is c = rw c.in-Is.is c.put_totals.ensures
+returns-in-Ok c = rw c.in-Ok.is c.put_totals.ensures
 
-pub returns-in-TooLarge : goal.returns-in-TooLarge
+pub returns-in-Err : goal.returns-in-Err
 unfolding counted_line
-returns-in-TooLarge c = rw c.in-TooLarge.is c.copy_front.ensures
+returns-in-Err c = rw c.in-Err.is c.copy_front.ensures

@@ -1,11 +1,16 @@
 -- `shelf::stream::keep` meets its contract: what is left is moved to the front, or stands there (`keep-moved`, `keep-none`).
+use Rattle.std.proofs.Common.{refl, arith}
+use Rattle.shelf.specs.Stream.{taken_by}
 use Rattle.shelf.specs.StreamLaws.{keep-none, keep-moved}
 use Rattle.shelf.proofs.stream.keep.Goals as goal
-
-pub returns-then-used-eq0 : goal.returns-then-used-eq0
-returns-then-used-eq0 c = keep-none _ _ _ c.if-used-eq0.true c.requires.1
+use Rattle.shelf.proofs.stream.keep.Goals.{then-p-gt0, else-p-gt0}
 
 pub returns : goal.returns
-returns c =
-    keep-moved _ _ _ c.requires.0 c.requires.1
-    c.keep_rest-left.ensures
+unfolding taken_by
+returns c = (
+  refl,
+  elim c.if-p-gt0.branch [
+    | then-p-gt0 w ↦ rw (w.room-is, w.copy_within.ensures.after) (keep-moved _ _ _ c.requires.0 c.requires.1)
+    | else-p-gt0 w ↦ rw w.room-is (keep-none _ _ _ (let t = w.if-p-gt0.false in omega arith) c.requires.1)
+  ],
+)

@@ -1,6 +1,6 @@
 -- `shelf::stream::whole_length` meets its contract: with fewer than two bytes no table is whole, and else the two tell its length.
-use mathlib.Core.Path.{◌≡◌, sym}
-use Prim.Native.Nat.{◌+◌}
+use Rattle.std.proofs.Common.{◌≡◌, sym, ap, ◌∙◌, Some}
+use Prim.Native.Nat.{ℕ, ◌+◌}
 use native.Mathlib.Omega.{arith}
 use Rattle.shelf.specs.Stream.{table_length}
 use Rattle.shelf.specs.StreamLaws.{whole_length-whole, whole_length-cut}
@@ -24,10 +24,8 @@ overflow_add-n c =
 pub returns-then-n-s : goal.returns-then-n-s
 returns-then-n-s c =
     let e = told (goal.at.returns-then-n-s c).After-word16-n in
-    let h = c.type_inv.s 0 in
-    let l = c.type_inv.s 1 in
     let q = whole_length-whole c.args.s.now (let t = c.if-n-s.true in omega arith) in
-    omega arith
+    ap (λ (x : ℕ). Some x) e ∙ sym q
 
 pub returns : goal.returns
 returns c =

@@ -1,6 +1,7 @@
 -- `shelf::stream::wholes_of` meets its contract: each turn counts one whole table more (`passing-next`), and the first that is not whole ends
 -- it (`passing-end`).
-use mathlib.Core.Path.{◌≡◌, sym, ◌∙◌}
+use Rattle.std.proofs.lemmas.Result.{err_from_is_err_and}
+use Rattle.std.proofs.Common.{◌≡◌, sym, ◌∙◌}
 use mathlib.Core.List.{List}
 use Prim.Native.Nat.{ℕ, ◌+◌, ◌-◌, ◌≤◌}
 use native.Mathlib.Omega.{arith}
@@ -19,42 +20,43 @@ inside s at {n} f w =
     let l = length-drop at s in
     omega arith
 
-pub loop-at-init : goal.loop-at-init
-loop-at-init c = rw c.nothing-so_far.ensures (passing-none _)
+pub loop-n-init : goal.loop-n-init
+loop-n-init c = rw c.nothing-totals.ensures (passing-none _)
 
-pub returns-after-loop-at : goal.returns-after-loop-at
-returns-after-loop-at c =
-    let l = length-drop c.loop-at.at c.args.s.now in
-    let t = c.loop-at-test.false in
-    passing-end c.loop-at.invariant (omega arith)
+pub returns : goal.returns
+returns c = passing-end c.loop-n.invariant (whole_length-none _ (sym c.in_default.is ∙ rw rest_all at c.whole_length.ensures))
 
-pub returns-then-n-eq0 : goal.returns-then-n-eq0
-returns-then-n-eq0 c =
-    passing-end c.loop-at.invariant (whole_length-none _ (rw rest_all at c.whole_length-n.ensures) c.if-n-eq0.true)
+pub loop-n-smaller : goal.loop-n-smaller
+loop-n-smaller c =
+    let w = whole_length_some _ (sym c.in-Some.is ∙ rw rest_all at c.whole_length.ensures) in
+    let i = inside c.args.s.now c.loop-n.used c.loop-n.invariant.fits w in
+    let e = w.1 in
+    omega arith
 
-pub overflow_add-at : goal.overflow_add-at
-overflow_add-at c =
-    let w = whole_length_some _ (rw rest_all at c.whole_length-n.ensures) c.if-n-eq0.false in
-    let i = inside c.args.s.now c.loop-at.at c.loop-at.invariant.fits w in
+pub overflow_add-used : goal.overflow_add-used
+overflow_add-used c =
+    let w = whole_length_some _ (sym c.in-Some.is ∙ rw rest_all at c.whole_length.ensures) in
+    let i = inside c.args.s.now c.loop-n.used c.loop-n.invariant.fits w in
     search rules
 
 pub slice_bounds-count-end : goal.slice_bounds-count-end
 slice_bounds-count-end c =
-    let w = whole_length_some _ (rw rest_all at c.whole_length-n.ensures) c.if-n-eq0.false in
-    inside c.args.s.now c.loop-at.at c.loop-at.invariant.fits w
+    let w = whole_length_some _ (sym c.in-Some.is ∙ rw rest_all at c.whole_length.ensures) in
+    inside c.args.s.now c.loop-n.used c.loop-n.invariant.fits w
 
-pub loop-at-preserved : goal.loop-at-preserved
-loop-at-preserved c =
-    let l = c.loop-at in
-    let w = whole_length_some _ (rw rest_all at c.whole_length-n.ensures) c.if-n-eq0.false in
-    let n = c.whole_length-n.result in
-    let e : l.at + n - l.at ≡ n = omega arith in
-    passing-next l.invariant w.0 w.1 (rw e at (sym c.in-Is.is ∙ c.count.ensures))
+pub loop-n-preserved : goal.loop-n-preserved
+loop-n-preserved c =
+    let l = c.loop-n in
+    let w = whole_length_some _ (sym c.in-Some.is ∙ rw rest_all at c.whole_length.ensures) in
+    let n = c.in-Some.n in
+    let e : l.used + n - l.used ≡ n = omega arith in
+    passing-next l.invariant w.0 w.1 (rw e at (sym c.in_ok-totals.was ∙ c.count.ensures))
 
-pub returns-in-TooLarge : goal.returns-in-TooLarge
-returns-in-TooLarge c =
-    let l = c.loop-at in
-    let w = whole_length_some _ (rw rest_all at c.whole_length-n.ensures) c.if-n-eq0.false in
-    let n = c.whole_length-n.result in
-    let e : l.at + n - l.at ≡ n = omega arith in
-    passing-over l.invariant w.0 w.1 (rw e at (sym c.in-TooLarge.is ∙ c.count.ensures))
+pub returns-in_err-totals : goal.returns-in_err-totals
+returns-in_err-totals c =
+    let l = c.loop-n in
+    let w = whole_length_some _ (sym c.in-Some.is ∙ rw rest_all at c.whole_length.ensures) in
+    let n = c.in-Some.n in
+    let e : l.used + n - l.used ≡ n = omega arith in
+    let p = err_from_is_err_and c.from_residual.result c.from_residual.ensures.1 in
+    rw p.1 (passing-over l.invariant w.0 w.1 (rw e at (sym c.in_err-totals.was ∙ c.count.ensures)))

@@ -6,8 +6,8 @@ use Rattle.shelf.specs.Totals.{nothing}
 use Rattle.shelf.specs.StreamLaws.{Passing}
 use Rattle.shelf.proofs.stream.wholes_of.Given as goal
 
-abbrev pub invariant-loop-at : goal.invariant-loop-at
-invariant-loop-at l = Passing nothing l.s l.so_far l.at
+abbrev pub invariant-loop-n : goal.invariant-loop-n
+invariant-loop-n l = Passing nothing l.s l.totals l.used
 
-abbrev pub decreases-loop-at : goal.decreases-loop-at
-decreases-loop-at l = length l.s - l.at
+abbrev pub decreases-loop-n : goal.decreases-loop-n
+decreases-loop-n l = length l.s - l.used

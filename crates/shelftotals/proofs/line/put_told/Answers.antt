@@ -2,10 +2,10 @@
 use Rattle.shelftotals.specs.Told.{told}
 use Rattle.shelftotals.proofs.line.put_told.Goals as goal
 
-pub returns-in-Is : goal.returns-in-Is
+pub returns-in-Ok : goal.returns-in-Ok
 unfolding told
-returns-in-Is c = rw c.in-Is.is c.put_lines.ensures
+returns-in-Ok c = rw c.in-Ok.is c.put_lines.ensures
 
-pub returns-in-TooLarge : goal.returns-in-TooLarge
+pub returns-in-Err : goal.returns-in-Err
 unfolding told
-returns-in-TooLarge c = rw c.in-TooLarge.is c.copy_front.ensures
+returns-in-Err c = rw c.in-Err.is c.copy_front.ensures
