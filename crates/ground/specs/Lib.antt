@@ -2,4 +2,3 @@ pub mod Tests
 pub mod Number
 pub mod Memory
 pub mod Ranges
-pub mod Joined
