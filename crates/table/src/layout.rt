@@ -38,28 +38,19 @@ pub const C0: u8 = 0xC0;
 pub fn is_track(p: usize) -> bool
     ensures { result ≡ is_track p }
 {
-    if 1 <= p {
-        return p <= 99;
-    }
-    false
+    1 <= p && p <= 99
 }
 
 // POINT p is B0h or C0h, which may stand after a session's tracks.
 pub fn is_extra(p: u8) -> bool
     ensures { result ≡ is_extra p }
 {
-    if p == B0 {
-        return true;
-    }
-    p == C0
+    p == B0 || p == C0
 }
 
 // Byte i of d, and 0 past its end.
 pub fn byte_at(d: &[u8], i: usize) -> usize
     ensures { Byte (get_or d.now i 0) result }
 {
-    if i < d.len() {
-        return wide(d[i]);
-    }
-    0
+    d.get(i).map_or(0, |b| wide(*b))
 }

@@ -64,6 +64,7 @@ pub fn row_of(b: &[u8]) -> Row
 }
 
 // The address that it holds, counted in frames from 00:00:00 on.
+#[tactic(auto, unfolding(crate::specs::Row::frames_of))]
 pub fn frames_of(r: Row) -> usize
     ensures same { result ≡ frames_of r }
     ensures small { result ≤ 1166880 }
@@ -72,6 +73,7 @@ pub fn frames_of(r: Row) -> usize
 }
 
 // The block address that it holds.
+#[tactic(auto, unfolding(crate::specs::Row::start_of))]
 pub fn start_of(r: Row) -> usize
     ensures { result ≡ start_of r }
 {
@@ -82,23 +84,14 @@ pub fn start_of(r: Row) -> usize
 pub(crate) fn simple(r: Row) -> bool
     ensures { result ≡ simple r }
 {
-    if wide(r.flags) / 16 == 1 {
-        if r.tno == 0 {
-            return r.zero == 0;
-        }
-        return false;
-    }
-    false
+    wide(r.flags) / 16 == 1 && r.tno == 0 && r.zero == 0
 }
 
 // ADR 5 and TNO 0; the rest is free.
 pub(crate) fn free(r: Row) -> bool
     ensures { result ≡ free r }
 {
-    if wide(r.flags) / 16 == 5 {
-        return r.tno == 0;
-    }
-    false
+    wide(r.flags) / 16 == 5 && r.tno == 0
 }
 
 // Rule 3, by POINT. Most descriptors are simple, so that is asked first.
@@ -108,33 +101,21 @@ fn plain(r: Row) -> bool
     if simple(r) {
         return !is_extra(r.point);
     }
-    if is_extra(r.point) {
-        return free(r);
-    }
-    false
+    is_extra(r.point) && free(r)
 }
 
 // A0's PSEC is 00h, 10h or 20h and its PFRAME 0.
 pub(crate) fn head_a0(r: Row) -> bool
     ensures { result ≡ head_a0 r }
 {
-    if r.pframe == 0 {
-        if wide(r.psec) % 16 == 0 {
-            return r.psec <= 0x20;
-        }
-        return false;
-    }
-    false
+    r.pframe == 0 && wide(r.psec) % 16 == 0 && r.psec <= 0x20
 }
 
 // A1's PSEC and PFRAME are 0.
 pub(crate) fn head_a1(r: Row) -> bool
     ensures { result ≡ head_a1 r }
 {
-    if r.psec == 0 {
-        return r.pframe == 0;
-    }
-    false
+    r.psec == 0 && r.pframe == 0
 }
 
 // Rule 5: what A0 and A1 hold beside their track.
@@ -154,24 +135,20 @@ fn headed(r: Row) -> bool
 fn addressed(r: Row) -> bool
     ensures { result ≡ addressed r }
 {
-    if r.point == A2 {
-        return is_msf(r.pmin, r.psec, r.pframe);
-    }
-    if is_track(wide(r.point)) {
+    if r.point == A2 || is_track(wide(r.point)) {
         return is_msf(r.pmin, r.psec, r.pframe);
     }
     true
 }
 
-// The test that rule n, one of 3, 5 and 6, makes of it.
+// The test that rule n, one of 3, 5 and 6, makes of it. The rule stays a number: a kind of three would narrow what `row_test` takes, and the
+// definition `row_test n` and its laws speak of the number.
 pub fn row_test(n: usize, r: Row) -> bool
     ensures { result ≡ row_test n r }
 {
-    if n == 3 {
-        return plain(r);
+    match n {
+        3 => plain(r),
+        5 => headed(r),
+        _ => addressed(r),
     }
-    if n == 5 {
-        return headed(r);
-    }
-    addressed(r)
 }

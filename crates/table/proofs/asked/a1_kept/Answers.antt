@@ -1,13 +1,14 @@
 -- `table::asked::a1_kept` meets its contract: the two tests are the definition's, in its order.
-use mathlib.Core.Path.{sym, ◌∙◌}
-use Rattle.ground.specs.Tests.{and_on, and_off}
+use Rattle.std.proofs.Common.{arith}
+use Rattle.std.proofs.lemmas.Grind.{common_steps}
+use Rattle.ground.specs.Tests.{◌and◌}
 use Rattle.table.specs.Asked.{a1_kept}
 use Rattle.table.proofs.asked.a1_kept.Goals as goal
 
 pub returns-then-kept : goal.returns-then-kept
-unfolding a1_kept
-returns-then-kept c = and_on _ _ (sym c.kept.ensures ∙ c.if-kept.true) c.head_a1.ensures
+unfolding a1_kept ◌and◌
+returns-then-kept c = grind (arith, common_steps)
 
-pub returns : goal.returns
-unfolding a1_kept
-returns c = and_off _ _ (sym c.kept.ensures ∙ c.if-kept.false)
+pub returns-else-kept : goal.returns-else-kept
+unfolding a1_kept ◌and◌
+returns-else-kept c = grind (arith, common_steps)

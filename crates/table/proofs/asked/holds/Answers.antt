@@ -1,13 +1,14 @@
 -- `table::asked::holds` meets its contract: the two tests are the definition's, in its order.
-use borrow.Author.Tests.{le-leb, lt-leb}
-use Rattle.ground.specs.Tests.{and_on, and_off}
+use Rattle.std.proofs.Common.{arith}
+use Rattle.std.proofs.lemmas.Grind.{common_steps}
+use Rattle.ground.specs.Tests.{◌and◌}
 use Rattle.table.specs.Asked.{holds}
 use Rattle.table.proofs.asked.holds.Goals as goal
 
-pub returns-then-r-gt99 : goal.returns-then-r-gt99
-unfolding holds
-returns-then-r-gt99 c = and_off _ _ (lt-leb _ _ c.if-r-gt99.true)
+pub returns-then-r-le99 : goal.returns-then-r-le99
+unfolding holds ◌and◌
+returns-then-r-le99 c = grind (arith, common_steps)
 
-pub returns : goal.returns
-unfolding holds
-returns c = and_on _ _ (le-leb _ _ c.if-r-gt99.false) c.climbs.ensures
+pub returns-else-r-le99 : goal.returns-else-r-le99
+unfolding holds ◌and◌
+returns-else-r-le99 c = grind (arith, common_steps)

@@ -1,20 +1,15 @@
 -- `table::asked::kept` meets its contract: the three tests are the definition's, in its order.
-use mathlib.Core.Path.{sym}
-use borrow.Author.Tests.{eq-eqb, ne_eqb}
-use Rattle.ground.specs.Tests.{and_on, and_off, and_late, and_both}
+use Rattle.std.proofs.Common.{arith}
+use Rattle.std.proofs.lemmas.Grind.{common_steps}
+use Rattle.ground.specs.Tests.{◌and◌}
 use Rattle.table.specs.Row.{names}
 use Rattle.table.specs.Asked.{kept}
 use Rattle.table.proofs.asked.kept.Goals as goal
 
 pub returns-then-r-p : goal.returns-then-r-p
-unfolding kept names
-returns-then-r-p c =
-    and_on _ _ (and_both _ _ (eq-eqb _ _ c.if-r-k.true) (eq-eqb _ _ c.if-r-p.true)) c.simple.ensures
+unfolding kept names ◌and◌
+returns-then-r-p c = grind (arith, common_steps)
 
-pub returns-then-r-k : goal.returns-then-r-k
-unfolding kept names
-returns-then-r-k c = and_off _ _ (sym (and_late _ _ (sym (ne_eqb _ _ c.if-r-p.false))))
-
-pub returns : goal.returns
-unfolding kept names
-returns c = and_off _ _ (sym (and_off _ _ (ne_eqb _ _ c.if-r-k.false)))
+pub returns-else-r-p : goal.returns-else-r-p
+unfolding kept names ◌and◌
+returns-else-r-p c = grind (arith, common_steps)

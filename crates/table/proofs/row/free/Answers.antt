@@ -1,14 +1,14 @@
 -- `table::row::free` meets its contract: the two tests are the definition's, in its order.
-use mathlib.Core.Path.{refl}
-use borrow.Author.Tests.{eq-eqb, ne_eqb}
-use Rattle.ground.specs.Tests.{and_on, and_off}
+use Rattle.std.proofs.Common.{arith}
+use Rattle.std.proofs.lemmas.Grind.{common_steps}
+use Rattle.ground.specs.Tests.{◌and◌}
 use Rattle.table.specs.Row.{free}
 use Rattle.table.proofs.row.free.Goals as goal
 
 pub returns-then-wide-eq5 : goal.returns-then-wide-eq5
-unfolding free
-returns-then-wide-eq5 c = and_on _ _ (rw c.wide.ensures.same at (eq-eqb _ _ c.if-wide-eq5.true)) refl
+unfolding free ◌and◌
+returns-then-wide-eq5 c = grind (arith, common_steps)
 
-pub returns : goal.returns
-unfolding free
-returns c = and_off _ _ (rw c.wide.ensures.same at (ne_eqb _ _ c.if-wide-eq5.false))
+pub returns-else-wide-eq5 : goal.returns-else-wide-eq5
+unfolding free ◌and◌
+returns-else-wide-eq5 c = grind (arith, common_steps)

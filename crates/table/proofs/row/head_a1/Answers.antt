@@ -1,14 +1,14 @@
 -- `table::row::head_a1` meets its contract: the two tests are the definition's, in its order.
-use mathlib.Core.Path.{refl}
-use borrow.Author.Tests.{eq-eqb, ne_eqb}
-use Rattle.ground.specs.Tests.{and_on, and_off}
+use Rattle.std.proofs.Common.{arith}
+use Rattle.std.proofs.lemmas.Grind.{common_steps}
+use Rattle.ground.specs.Tests.{◌and◌}
 use Rattle.table.specs.Row.{head_a1}
 use Rattle.table.proofs.row.head_a1.Goals as goal
 
 pub returns-then-r-eq0 : goal.returns-then-r-eq0
-unfolding head_a1
-returns-then-r-eq0 c = and_on _ _ (eq-eqb _ _ c.if-r-eq0.true) refl
+unfolding head_a1 ◌and◌
+returns-then-r-eq0 c = grind (arith, common_steps)
 
-pub returns : goal.returns
-unfolding head_a1
-returns c = and_off _ _ (ne_eqb _ _ c.if-r-eq0.false)
+pub returns-else-r-eq0 : goal.returns-else-r-eq0
+unfolding head_a1 ◌and◌
+returns-else-r-eq0 c = grind (arith, common_steps)

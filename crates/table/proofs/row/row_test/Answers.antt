@@ -1,21 +1,17 @@
 -- `table::row::row_test` meets its contract: the rule's number chooses the test as in the definition.
-use mathlib.Core.Path.{sym, ◌∙◌}
-use borrow.Author.Tests.{eq-eqb, ne_eqb}
-use Rattle.ground.specs.Tests.{when, unless}
+use Rattle.std.proofs.Common.{arith, sym, ◌∙◌}
+use Rattle.std.proofs.lemmas.Grind.{common_steps}
+use Rattle.ground.specs.Tests.{choose◌then◌else◌}
 use Rattle.table.specs.Row.{row_test}
+use Rattle.table.specs.RowLaws.{row_test_3, row_test_5}
 use Rattle.table.proofs.row.row_test.Goals as goal
 
-pub returns-then-n-eq3 : goal.returns-then-n-eq3
-unfolding row_test
-returns-then-n-eq3 c = c.plain.ensures ∙ sym (when _ _ _ (eq-eqb _ _ c.if-n-eq3.true))
+pub returns-in-3 : goal.returns-in-3
+returns-in-3 c = rw c.in-3.is (c.plain.ensures ∙ sym (row_test_3 _))
 
-pub returns-then-n-eq5 : goal.returns-then-n-eq5
-unfolding row_test
-returns-then-n-eq5 c =
-    c.headed.ensures ∙ sym (unless _ _ _ (ne_eqb _ _ c.if-n-eq3.false) ∙ when _ _ _ (eq-eqb _ _ c.if-n-eq5.true))
+pub returns-in-5 : goal.returns-in-5
+returns-in-5 c = rw c.in-5.is (c.headed.ensures ∙ sym (row_test_5 _))
 
-pub returns : goal.returns
-unfolding row_test
-returns c =
-    c.addressed.ensures ∙ sym (unless _ _ _ (ne_eqb _ _ c.if-n-eq3.false) ∙ unless _ _ _ (ne_eqb _ _
-    c.if-n-eq5.false))
+pub returns-in_default : goal.returns-in_default
+unfolding row_test choose◌then◌else◌
+returns-in_default c = grind (arith, common_steps)
