@@ -31,7 +31,7 @@ pub record Met (c : Command) (p t : List ℕ) (disc : Disc) (mem : List ℕ) : T
   pub ready : needs_disc c p ≡ true → ReadOff t disc
 
 -- the same before the disc is asked for: a loaded drive's table was read
-pub record Ready (m : Deck) (p t : List ℕ) (disc : Disc) (mem : List ℕ) : Type 0 where
+pub record Ready (m : Deck) (t : List ℕ) (disc : Disc) (mem : List ℕ) : Type 0 where
   pub room : bound ≤ length mem
   pub ready : is_loaded m ≡ true → ReadOff t disc
 

@@ -48,7 +48,7 @@ fn passed(
     disc: Disc,
     mem: &mut [u8],
 ) -> Outcome
-    requires { Ready d.deck p.now t.now disc mem.old }
+    requires { Ready d.deck t.now disc mem.old }
     ensures { Answered (pass d.unit d.deck (perform c p.now d.deck t.now list.now)) mem.old result mem.new }
 {
     let unit = d.unit;
@@ -67,7 +67,7 @@ fn gated(
     disc: Disc,
     mem: &mut [u8],
 ) -> Outcome
-    requires { Ready d.deck p.now t.now disc mem.old }
+    requires { Ready d.deck t.now disc mem.old }
     ensures { Answered (gate d.unit d.deck (perform c p.now d.deck t.now list.now)) mem.old result mem.new }
 {
     let unit = d.unit;
@@ -84,7 +84,7 @@ fn gated(
 
 // The steps, by how the command meets a pending attention.
 fn steps(d: Drive, p: &[u8; 12], t: &[u8], list: &[u8], disc: Disc, mem: &mut [u8]) -> Outcome
-    requires { Ready d.deck p.now t.now disc mem.old }
+    requires { Ready d.deck t.now disc mem.old }
     ensures { Answered (steps_of d p.now t.now list.now) mem.old result mem.new }
 {
     let c = decode(p[0]);

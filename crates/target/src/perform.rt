@@ -62,7 +62,7 @@ fn lies_in(mode: Mode, a: usize, n: usize, t: &[u8], disc: Disc) -> bool
     in_range(a, n, disc.lead_out) && run_is(mode, t, a, n)
 }
 
-// READ of n blocks from a on.
+// READ of n blocks from a on. (Not one function with `play_run`: it would match on the mode to pick `read_blocks` or `play_blocks`, and be no plainer.)
 fn read_run(a: usize, n: usize, m: Deck, t: &[u8], disc: Disc) -> Done
     requires { ReadOff t.now disc }
     ensures { result ≡ done_of (reads a n m t.now) }
@@ -122,7 +122,7 @@ pub(crate) fn perform(
     disc: Disc,
     mem: &mut [u8],
 ) -> Done
-    requires { Ready m p.now t.now disc mem.old }
+    requires { Ready m t.now disc mem.old }
     ensures { Performed (perform c p.now m t.now list.now) mem.old result mem.new }
 {
     if needs_disc(c, p[4]) && !m.is_loaded() {
