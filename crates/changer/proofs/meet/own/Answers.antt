@@ -9,7 +9,7 @@ pub returns-then-code : goal.returns-then-code
 returns-then-code c = let x = c.args in
     let m = mechanism x.deck x.home x.row in
     rw (own-load x.p.now m c.if-code.true)
-    (acted_on_quiet _ (load_unload_quiet _ _ _ m) (rw (c.bit.ensures, c.bit-2.ensures) at c.load_unload.ensures))
+    (acted_on_quiet _ (load_unload_quiet _ _ _ m) (rw (c.bit.ensures, c.bit-then-code.ensures) at c.load_unload.ensures))
 
 pub returns-then-code-2 : goal.returns-then-code-2
 returns-then-code-2 c = let x = c.args in
