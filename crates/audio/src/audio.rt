@@ -28,13 +28,13 @@ fn started(a: usize, n: usize, m: Deck) -> Deck
 pub fn play_blocks(all: bool, a: usize, n: usize, l: usize, m: Deck) -> Done
     ensures { result ≡ done_of (play all a n l m) }
 {
-    if in_range(a, n, l) {
-        if all {
-            return done_with(started(a, n, m));
-        }
+    if !in_range(a, n, l) {
+        return Err(Fault::OutOfRange);
+    }
+    if !all {
         return Err(Fault::IllegalMode);
     }
-    Err(Fault::OutOfRange)
+    done_with(started(a, n, m))
 }
 
 // The status after a resume, or a pause.
@@ -51,10 +51,7 @@ fn resumed(resume: bool) -> u8
 pub fn pause_resume(resume: bool, m: Deck) -> Done
     ensures { result ≡ done_of (pause_resume resume m) }
 {
-    if m.play.status == COMPLETED {
-        return Err(Fault::BadField);
-    }
-    if m.play.status == NONE {
+    if m.play.status == COMPLETED || m.play.status == NONE {
         return Err(Fault::BadField);
     }
     done_with(m.with_play(m.play.with_status(resumed(resume))))

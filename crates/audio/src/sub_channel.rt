@@ -35,10 +35,7 @@ pub fn sub_ask(b1: u8, b2: u8, b3: u8) -> SubAsk
 pub fn sub_bad(ask: SubAsk) -> bool
     ensures { result ≡ sub_bad ask }
 {
-    if ask.sub_q {
-        return ask.format != POSITION;
-    }
-    false
+    ask.sub_q && ask.format != POSITION
 }
 
 // The index: 1 in a track.
@@ -56,10 +53,7 @@ fn relative(u: Track, b: usize) -> usize
     ensures { result ≡ relative u b }
 {
     if is_track(wide(u.number)) {
-        if u.start <= b {
-            return b - u.start;
-        }
-        return 0;
+        return b.saturating_sub(u.start);
     }
     0
 }

@@ -39,15 +39,15 @@ pub fn seek(a: usize, l: usize, m: Deck) -> Done
 pub fn read_blocks(all: bool, a: usize, n: usize, l: usize, m: Deck) -> Done
     ensures { result ≡ done_of (read all a n l m) }
 {
-    if in_range(a, n, l) {
-        if all {
-            return Ok(Went {
-                start: a,
-                count: n,
-                ..went_with(stopped(m))
-            });
-        }
+    if !in_range(a, n, l) {
+        return Err(Fault::OutOfRange);
+    }
+    if !all {
         return Err(Fault::IllegalMode);
     }
-    Err(Fault::OutOfRange)
+    Ok(Went {
+        start: a,
+        count: n,
+        ..went_with(stopped(m))
+    })
 }

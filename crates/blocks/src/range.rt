@@ -6,10 +6,7 @@ ghost use Rattle.blocks.specs.Range.{over, in_range};
 pub(crate) fn last_block(l: usize) -> usize
     ensures { result ≡ l - 1 }
 {
-    if l == 0 {
-        return 0;
-    }
-    l - 1
+    l.saturating_sub(1)
 }
 
 // The address is over the last block's.
@@ -23,8 +20,5 @@ pub(crate) fn over(a: usize, l: usize) -> bool
 pub fn in_range(a: usize, n: usize, l: usize) -> bool
     ensures { result ≡ in_range a n l }
 {
-    if over(a, l) {
-        return false;
-    }
-    n <= l - a
+    !over(a, l) && n <= l - a
 }

@@ -2,5 +2,4 @@ pub mod Tests
 pub mod Number
 pub mod Memory
 pub mod Ranges
-pub mod Joined
 pub mod TestValues

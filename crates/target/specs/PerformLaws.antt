@@ -25,15 +25,13 @@ use Rattle.target.specs.Perform.{written, Performed, L, work, perform}
 
 -- ---- what the code has in hand
 
--- the packet is twelve bytes, the memory is long enough, and a command that needs a disc has one read off a fit table
+-- the memory is long enough, and a command that needs a disc has one read off a fit table
 pub record Met (c : Command) (p t : List ℕ) (disc : Disc) (mem : List ℕ) : Type 0 where
-  pub twelve : length p ≡ 12
   pub room : bound ≤ length mem
   pub ready : needs_disc c p ≡ true → ReadOff t disc
 
 -- the same before the disc is asked for: a loaded drive's table was read
-pub record Ready (m : Deck) (p t : List ℕ) (disc : Disc) (mem : List ℕ) : Type 0 where
-  pub twelve : length p ≡ 12
+pub record Ready (m : Deck) (t : List ℕ) (disc : Disc) (mem : List ℕ) : Type 0 where
   pub room : bound ≤ length mem
   pub ready : is_loaded m ≡ true → ReadOff t disc
 

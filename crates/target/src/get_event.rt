@@ -14,8 +14,8 @@ use event::event_class::{NO_CLASS, class_for};
 use ground::number::word16;
 
 // A packet that does not poll is a bad field; else the class picked is answered, cut to the allocation length.
-pub(crate) fn get_event(p: &[u8], m: Deck, mem: &mut [u8]) -> Done
-    requires { (length p.now ≡ 12) × (bound ≤ length mem.old) }
+pub(crate) fn get_event(p: &[u8; 12], m: Deck, mem: &mut [u8]) -> Done
+    requires { bound ≤ length mem.old }
     ensures { Performed (get_event (byte p.now 1) (byte p.now 4) (length_in p.now) m) mem.old result mem.new }
 {
     let bad = !bit::<0>(p[1]);

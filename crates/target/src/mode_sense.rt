@@ -12,8 +12,8 @@ use ground::number::word16;
 use mode::mode_sense::{mode_bytes, page_shown};
 
 // The packet's byte 2 decides; the values that it asks for are laid, cut to the allocation length.
-pub(crate) fn mode_sense(p: &[u8], m: Deck, mem: &mut [u8]) -> Done
-    requires { (length p.now ≡ 12) × (bound ≤ length mem.old) }
+pub(crate) fn mode_sense(p: &[u8; 12], m: Deck, mem: &mut [u8]) -> Done
+    requires { bound ≤ length mem.old }
     ensures { Performed (mode_sense (byte p.now 2) (length_in p.now) m) mem.old result mem.new }
 {
     let g = page_shown(p[2], m.page)?;

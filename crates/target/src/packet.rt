@@ -42,13 +42,13 @@ fn ask_sense(d: Drive, limit: usize, mem: &mut [u8]) -> Outcome
 fn passed(
     d: Drive,
     c: Command,
-    p: &[u8],
+    p: &[u8; 12],
     t: &[u8],
     list: &[u8],
     disc: Disc,
     mem: &mut [u8],
 ) -> Outcome
-    requires { Ready d.deck p.now t.now disc mem.old }
+    requires { Ready d.deck t.now disc mem.old }
     ensures { Answered (pass d.unit d.deck (perform c p.now d.deck t.now list.now)) mem.old result mem.new }
 {
     let unit = d.unit;
@@ -61,13 +61,13 @@ fn passed(
 fn gated(
     d: Drive,
     c: Command,
-    p: &[u8],
+    p: &[u8; 12],
     t: &[u8],
     list: &[u8],
     disc: Disc,
     mem: &mut [u8],
 ) -> Outcome
-    requires { Ready d.deck p.now t.now disc mem.old }
+    requires { Ready d.deck t.now disc mem.old }
     ensures { Answered (gate d.unit d.deck (perform c p.now d.deck t.now list.now)) mem.old result mem.new }
 {
     let unit = d.unit;
@@ -83,8 +83,8 @@ fn gated(
 }
 
 // The steps, by how the command meets a pending attention.
-fn steps(d: Drive, p: &[u8], t: &[u8], list: &[u8], disc: Disc, mem: &mut [u8]) -> Outcome
-    requires { Ready d.deck p.now t.now disc mem.old }
+fn steps(d: Drive, p: &[u8; 12], t: &[u8], list: &[u8], disc: Disc, mem: &mut [u8]) -> Outcome
+    requires { Ready d.deck t.now disc mem.old }
     ensures { Answered (steps_of d p.now t.now list.now) mem.old result mem.new }
 {
     let c = decode(p[0]);
@@ -112,8 +112,8 @@ fn unread() -> Disc
 }
 
 // Refusal 4, with the broken rule: a loaded drive's table is read first.
-fn meet(d: Drive, p: &[u8], t: &[u8], list: &[u8], mem: &mut [u8]) -> Outcome
-    requires { (length p.now ≡ 12) × (is_known_state d ≡ true) × (bound ≤ length mem.old) }
+fn meet(d: Drive, p: &[u8; 12], t: &[u8], list: &[u8], mem: &mut [u8]) -> Outcome
+    requires { (is_known_state d ≡ true) × (bound ≤ length mem.old) }
     ensures { Answered (answer d p.now t.now list.now (length mem.old)) mem.old result mem.new }
 {
     if d.deck.is_loaded() {
@@ -129,14 +129,14 @@ fn meet(d: Drive, p: &[u8], t: &[u8], list: &[u8], mem: &mut [u8]) -> Outcome
 pub fn packet(d: Drive, p: &[u8], t: &[u8], list: &[u8], mem: &mut [u8]) -> Outcome
     ensures { Answered (answer d p.now t.now list.now (length mem.old)) mem.old result mem.new }
 {
-    if p.len() == 12 {
-        if d.is_known_state() {
-            if mem.len() < BOUND {
-                return refuse(SHORT_MEMORY, 0, d);
-            }
-            return meet(d, p, t, list, mem);
-        }
+    let Ok(p) = <&[u8; 12]>::try_from(p) else {
+        return refuse(NOT_TWELVE, 0, d);
+    };
+    if !d.is_known_state() {
         return refuse(UNKNOWN_STATE, 0, d);
     }
-    refuse(NOT_TWELVE, 0, d)
+    if mem.len() < BOUND {
+        return refuse(SHORT_MEMORY, 0, d);
+    }
+    meet(d, p, t, list, mem)
 }

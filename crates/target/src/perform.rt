@@ -47,8 +47,8 @@ pub(crate) fn answer(bad: bool, next: Deck, full: &[u8], limit: usize, mem: &mut
 }
 
 // The number in the packet's four bytes from i on.
-fn word_at(p: &[u8], i: usize) -> usize
-    requires { i + 4 ≤ length p.now }
+fn word_at(p: &[u8; 12], i: usize) -> usize
+    requires { i ≤ 8 }
     ensures { result ≡ word_at p.now i }
 {
     word32(p[i], p[i + 1], p[i + 2], p[i + 3])
@@ -59,13 +59,10 @@ fn lies_in(mode: Mode, a: usize, n: usize, t: &[u8], disc: Disc) -> bool
     requires { ReadOff t.now disc }
     ensures { result ≡ in_range a n (L t.now) and all_in mode (descriptors t.now) a n }
 {
-    if in_range(a, n, disc.lead_out) {
-        return run_is(mode, t, a, n);
-    }
-    false
+    in_range(a, n, disc.lead_out) && run_is(mode, t, a, n)
 }
 
-// READ of n blocks from a on.
+// READ of n blocks from a on. (Not one function with `play_run`: it would match on the mode to pick `read_blocks` or `play_blocks`, and be no plainer.)
 fn read_run(a: usize, n: usize, m: Deck, t: &[u8], disc: Disc) -> Done
     requires { ReadOff t.now disc }
     ensures { result ≡ done_of (reads a n m t.now) }
@@ -82,7 +79,15 @@ fn play_run(a: usize, n: usize, m: Deck, t: &[u8], disc: Disc) -> Done
 }
 
 // Step 5: each command's own work. (REQUEST SENSE never comes here: `steps` answers it by `ask_sense`.)
-fn work(c: Command, p: &[u8], m: Deck, t: &[u8], list: &[u8], disc: Disc, mem: &mut [u8]) -> Done
+fn work(
+    c: Command,
+    p: &[u8; 12],
+    m: Deck,
+    t: &[u8],
+    list: &[u8],
+    disc: Disc,
+    mem: &mut [u8],
+) -> Done
     requires { Met c p.now t.now disc mem.old }
     ensures { Performed (work c p.now m t.now list.now) mem.old result mem.new }
 {
@@ -110,20 +115,17 @@ fn work(c: Command, p: &[u8], m: Deck, t: &[u8], list: &[u8], disc: Disc, mem: &
 // Steps 3 to 5: an unknown code, then a disc that is needed, then the work.
 pub(crate) fn perform(
     c: Command,
-    p: &[u8],
+    p: &[u8; 12],
     m: Deck,
     t: &[u8],
     list: &[u8],
     disc: Disc,
     mem: &mut [u8],
 ) -> Done
-    requires { Ready m p.now t.now disc mem.old }
+    requires { Ready m t.now disc mem.old }
     ensures { Performed (perform c p.now m t.now list.now) mem.old result mem.new }
 {
-    if needs_disc(c, p[4]) {
-        if m.is_loaded() {
-            return work(c, p, m, t, list, disc, mem);
-        }
+    if needs_disc(c, p[4]) && !m.is_loaded() {
         return Err(no_medium(m));
     }
     work(c, p, m, t, list, disc, mem)

@@ -13,8 +13,8 @@ use ground::number::word16;
 use tracks::track::track_of;
 
 // The position's track is that of the table lent now.
-pub(crate) fn read_sub_channel(p: &[u8], m: Deck, t: &[u8], mem: &mut [u8]) -> Done
-    requires { (length p.now ≡ 12) × (bound ≤ length mem.old) }
+pub(crate) fn read_sub_channel(p: &[u8; 12], m: Deck, t: &[u8], mem: &mut [u8]) -> Done
+    requires { bound ≤ length mem.old }
     ensures { Performed (tells (sub_ask_in p.now) (length_in p.now) m t.now) mem.old result mem.new }
 {
     let ask = sub_ask(p[1], p[2], p[3]);

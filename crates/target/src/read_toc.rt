@@ -15,8 +15,7 @@ use table::layout::HEADER;
 use toc::answer::{TocAsk, put_toc, toc_bad};
 
 // What the packet asks for.
-fn toc_ask(p: &[u8]) -> TocAsk
-    requires { length p.now ≡ 12 }
+fn toc_ask(p: &[u8; 12]) -> TocAsk
     ensures { result ≡ ask_of p.now }
 {
     TocAsk {
@@ -27,8 +26,8 @@ fn toc_ask(p: &[u8]) -> TocAsk
 }
 
 // READ TOC, of a fit table.
-pub(crate) fn read_toc(p: &[u8], m: Deck, t: &[u8], disc: Disc, mem: &mut [u8]) -> Done
-    requires { ReadOff t.now disc × (length p.now ≡ 12) × (bound ≤ length mem.old) }
+pub(crate) fn read_toc(p: &[u8; 12], m: Deck, t: &[u8], disc: Disc, mem: &mut [u8]) -> Done
+    requires { ReadOff t.now disc × (bound ≤ length mem.old) }
     ensures { Performed (read_toc p.now m t.now) mem.old result mem.new }
 {
     let ask = toc_ask(p);

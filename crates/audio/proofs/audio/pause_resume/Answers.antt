@@ -1,5 +1,6 @@
 -- `audio::audio::pause_resume` meets its contract: each way out is one law of the definition.
 use mathlib.Core.Path.{sym, ap, ◌∙◌}
+use Rattle.std.proofs.Common.{inl, inr}
 use Rattle.deck.specs.declared.Deck.{Deck}
 use Rattle.play.specs.Play.{with_status}
 use Rattle.deck.specs.Deck.{with_play}
@@ -8,10 +9,10 @@ use Rattle.audio.specs.AudioLaws.{is_over-completed, is_over-none, is_over_not, 
 use Rattle.audio.proofs.audio.pause_resume.Goals as goal
 
 pub returns-then-m-eq-COMPLETED : goal.returns-then-m-eq-COMPLETED
-returns-then-m-eq-COMPLETED c = ap done_of (sym (pause_resume-over _ _ (is_over-completed _ c.if-m-eq-COMPLETED.true)))
-
-pub returns-then-m-eq-NONE : goal.returns-then-m-eq-NONE
-returns-then-m-eq-NONE c = ap done_of (sym (pause_resume-over _ _ (is_over-none _ c.if-m-eq-NONE.true)))
+returns-then-m-eq-COMPLETED c = ap done_of (sym (pause_resume-over _ _ (elim c.then-m-eq-COMPLETED.either [
+  | inl e ↦ is_over-completed _ e
+  | inr n ↦ is_over-none _ n.1
+])))
 
 pub returns : goal.returns
 returns c = let m = c.args.m in

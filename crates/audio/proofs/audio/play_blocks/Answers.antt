@@ -8,18 +8,18 @@ use Rattle.audio.proofs.audio.play_blocks.Goals as goal
 
 pub started-requires : goal.started-requires
 started-requires c = let x = c.args in
-    let e = in_range-end x.a x.n x.l (sym c.in_range.ensures ∙ c.if-in_range.true) in
+    let e = in_range-end x.a x.n x.l (sym c.in_range.ensures ∙ c.if-not-in_range.false) in
     let f = c.ranges.l in
     omega arith
 
-pub returns-then-all : goal.returns-then-all
-returns-then-all c =
+pub returns : goal.returns
+returns c =
     c.done_with.ensures
     ∙ ap (λ (m : Deck). done_of (done m)) c.started.ensures
-    ∙ ap done_of (sym (ranged-goes _ _ _ _ _ (sym c.in_range.ensures ∙ c.if-in_range.true) c.if-all.true))
+    ∙ ap done_of (sym (ranged-goes _ _ _ _ _ (sym c.in_range.ensures ∙ c.if-not-in_range.false) c.if-not-all.false))
 
-pub returns-then-in_range : goal.returns-then-in_range
-returns-then-in_range c = ap done_of (sym (ranged-mode _ _ _ _ _ (sym c.in_range.ensures ∙ c.if-in_range.true) c.if-all.false))
+pub returns-then-not-all : goal.returns-then-not-all
+returns-then-not-all c = ap done_of (sym (ranged-mode _ _ _ _ _ (sym c.in_range.ensures ∙ c.if-not-in_range.false) c.if-not-all.true))
 
-pub returns : goal.returns
-returns c = ap done_of (sym (ranged-out _ _ _ _ _ (sym c.in_range.ensures ∙ c.if-in_range.false)))
+pub returns-then-not-in_range : goal.returns-then-not-in_range
+returns-then-not-in_range c = ap done_of (sym (ranged-out _ _ _ _ _ (sym c.in_range.ensures ∙ c.if-not-in_range.true)))

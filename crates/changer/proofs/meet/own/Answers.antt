@@ -9,7 +9,7 @@ use Rattle.changer.proofs.meet.own.Goals as goal
 pub returns-in-166 : goal.returns-in-166
 returns-in-166 c = let x = c.args in
     let m = mechanism_of x.c x.slots.now in
-    rw (own-load x.p.now m c.in-166.is) (acted_on_quiet _ (load_unload_quiet _ _ _ m) (rw (c.bit.ensures, c.bit-2.ensures) at c.load_unload.ensures))
+    rw (own-load x.p.now m c.in-166.is) (acted_on_quiet _ (load_unload_quiet _ _ _ m) (rw (c.bit.ensures, c.bit-in-166.ensures) at c.load_unload.ensures))
 
 pub returns-in-189 : goal.returns-in-189
 returns-in-189 c = let x = c.args in

@@ -12,13 +12,13 @@ use Rattle.target.proofs.packet.meet.Goals as goal
 pub steps-requires : goal.steps-requires
 steps-requires c = let q = c.requires in
     let r = read_off _ _ (sym c.in-Ok.ensures) in
-    record { twelve = q.0; room = q.2; ready = λ h. r }
+    record { room = q.1; ready = λ h. r }
 
 pub returns-in-Ok : goal.returns-in-Ok
 returns-in-Ok c = let x = c.args in
     let q = c.requires in
     let r = sym c.in-Ok.ensures in
-    rw (answer-steps x.d x.p.now x.t.now x.list.now _ q.0 q.1 q.2 (λ h. (reading_fit _ _ r).0)) c.steps.ensures
+    rw (answer-steps x.d x.p.now x.t.now x.list.now _ c.told-p q.0 q.1 (λ h. (reading_fit _ _ r).0)) c.steps.ensures
 
 pub returns-in-Err : goal.returns-in-Err
 returns-in-Err c = let x = c.args in
@@ -26,17 +26,17 @@ returns-in-Err c = let x = c.args in
     let r = reading-unfit _ _ (sym c.in-Err.ensures) in
     let h = c.if-is_loaded.true in
     let l = sym c.is_loaded.ensures ∙ h in
-    let e = answer-4 x.d x.p.now x.t.now x.list.now _ q.0 q.1 q.2 l r.0 in
+    let e = answer-4 x.d x.p.now x.t.now x.list.now _ c.told-p q.0 q.1 l r.0 in
     let o = c.refuse.ensures ∙ ap (λ (n : ℕ). refused unfit n x.d) r.1 in
     rw (e, o) (answered-refused _ _ _ _)
 
 pub steps-requires-2 : goal.steps-requires-2
 steps-requires-2 c = let q = c.requires in
     let l = sym c.is_loaded.ensures ∙ c.if-is_loaded.false in
-    record { twelve = q.0; room = q.2; ready = λ h. absurd (true≢false (sym h ∙ l)) }
+    record { room = q.1; ready = λ h. absurd (true≢false (sym h ∙ l)) }
 
 pub returns : goal.returns
 returns c = let x = c.args in
     let q = c.requires in
     let l = sym c.is_loaded.ensures ∙ c.if-is_loaded.false in
-    rw (answer-steps x.d x.p.now x.t.now x.list.now _ q.0 q.1 q.2 (λ h. absurd (true≢false (sym h ∙ l)))) c.steps-2.ensures
+    rw (answer-steps x.d x.p.now x.t.now x.list.now _ c.told-p q.0 q.1 (λ h. absurd (true≢false (sym h ∙ l)))) c.steps-2.ensures

@@ -5,15 +5,20 @@ use Rattle.target.proofs.packet.packet.Goals as goal
 
 pub returns-then-mem-lt-BOUND : goal.returns-then-mem-lt-BOUND
 returns-then-mem-lt-BOUND c = let x = c.args in
-    rw (answer-3 x.d x.p.now x.t.now x.list.now _ c.if-p-eq12.true (sym c.is_known_state.ensures ∙ c.if-is_known_state.true) c.if-mem-lt-BOUND.true, c.refuse.ensures) (answered-refused _ _ _ _)
+    rw (answer-3 x.d x.p.now x.t.now x.list.now _ c.in-Ok.ensures.1.long (sym c.is_known_state.ensures ∙ c.if-not-is_known_state.false) c.if-mem-lt-BOUND.true, c.refuse-then-mem-lt-BOUND.ensures)
+    (answered-refused _ _ _ _)
 
 pub meet-requires : goal.meet-requires
-meet-requires c = (c.if-p-eq12.true, sym c.is_known_state.ensures ∙ c.if-is_known_state.true, c.if-mem-lt-BOUND.false)
+meet-requires c = (sym c.is_known_state.ensures ∙ c.if-not-is_known_state.false, c.if-mem-lt-BOUND.false)
 
-pub returns-then-p-eq12 : goal.returns-then-p-eq12
-returns-then-p-eq12 c = let x = c.args in
-    rw (answer-2 x.d x.p.now x.t.now x.list.now _ c.if-p-eq12.true (sym c.is_known_state.ensures ∙ c.if-is_known_state.false), c.refuse-then-p-eq12.ensures) (answered-refused _ _ _ _)
+pub returns-then-not-is_known_state : goal.returns-then-not-is_known_state
+returns-then-not-is_known_state c = let x = c.args in
+    rw (answer-2 x.d x.p.now x.t.now x.list.now _ c.in-Ok.ensures.1.long (sym c.is_known_state.ensures ∙ c.if-not-is_known_state.true), c.refuse-then-not-is_known_state.ensures)
+    (answered-refused _ _ _ _)
+
+pub returns-in_default : goal.returns-in_default
+returns-in_default c = let x = c.args in
+    rw (answer-1 x.d x.p.now x.t.now x.list.now _ c.in_default.ensures.1, c.refuse.ensures) (answered-refused _ _ _ _)
 
 pub returns : goal.returns
-returns c = let x = c.args in
-    rw (answer-1 x.d x.p.now x.t.now x.list.now _ c.if-p-eq12.false, c.refuse-2.ensures) (answered-refused _ _ _ _)
+returns c = rw c.in-Ok.ensures.1.same at c.meet.ensures

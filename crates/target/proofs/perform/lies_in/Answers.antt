@@ -11,6 +11,7 @@ returns-then-in_range c = let x = c.args in
     let e = ap (in_range x.a x.n) (sym (read_off_leads q)) ∙ sym c.in_range.ensures ∙ c.if-in_range.true in
     and_on _ _ e (c.run_is.ensures ∙ q.fits.runs x.mode x.a x.n)
 
-pub returns : goal.returns
-returns c = let x = c.args in
-    and_off _ _ (ap (in_range x.a x.n) (sym (read_off_leads c.requires)) ∙ sym c.in_range.ensures ∙ c.if-in_range.false)
+pub returns-else-in_range : goal.returns-else-in_range
+returns-else-in_range c = let x = c.args in
+    let e = c.if-in_range.false in
+    e ∙ and_off _ _ (ap (in_range x.a x.n) (sym (read_off_leads c.requires)) ∙ sym c.in_range.ensures ∙ e)

@@ -10,7 +10,7 @@ pub read_run-requires : goal.read_run-requires
 read_run-requires c = c.requires.ready (ap (λ (k : Command). needs_disc k c.args.p.now) c.in-Read10.is)
 
 pub read_toc-requires : goal.read_toc-requires
-read_toc-requires c = (c.requires.ready (ap (λ (k : Command). needs_disc k c.args.p.now) c.in-ReadToc.is), c.requires.twelve, c.requires.room)
+read_toc-requires c = (c.requires.ready (ap (λ (k : Command). needs_disc k c.args.p.now) c.in-ReadToc.is), c.requires.room)
 
 pub read_run-requires-in-Read12 : goal.read_run-requires-in-Read12
 read_run-requires-in-Read12 c = c.requires.ready (ap (λ (k : Command). needs_disc k c.args.p.now) c.in-Read12.is)

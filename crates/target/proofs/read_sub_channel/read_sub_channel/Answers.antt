@@ -13,7 +13,7 @@ answer-requires c =
     let x = c.args in
     let k = c.track_of.result in
     let l = ap length c.position_bytes-full.ensures ∙ position_bytes-length c.sub_ask-ask.result.msf k x.m.play in
-    let r = c.requires.1 in
+    let r = c.requires in
     omega arith
 
 pub returns-then-ask : goal.returns-then-ask

@@ -34,5 +34,5 @@ pub returns : goal.returns
 returns c = let x = c.args in
     let q = c.requires in
     let w = toc_bytes-within (disc_of x.t.now) (format_in x.p.now) (msf_in x.p.now) (number_in x.p.now) (descriptors x.t.now) (read_off-length q.0) in
-    rw c.went_with.ensures (performed-answer _ _ _ (sym (told (goal.at.returns c).After-toc_bad) ∙ c.if-toc_bad.false) (let b = q.2 in omega arith)
+    rw c.went_with.ensures (performed-answer _ _ _ (sym (told (goal.at.returns c).After-toc_bad) ∙ c.if-toc_bad.false) (let b = q.1 in omega arith)
     (rw (c.toc_ask-ask.ensures, c.word16.ensures, q.0.same, rest_all 4 x.t.now) at c.put_toc-len.ensures))
