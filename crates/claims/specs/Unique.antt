@@ -65,13 +65,14 @@ use Rattle.toc.specs.Answer.{toc_bytes, toc_bad}
 use Rattle.outcome.specs.declared.Outcome.{Outcome}
 use Rattle.outcome.specs.Outcome.{Answered, refused, checked, granted, finished}
 use Rattle.target.specs.Packet.{answer}
-use Rattle.cue.specs.declared.write.Written.{Written}
+use Rattle.cue.specs.declared.write.Refusal.{Refusal as NoSheet}
+use Rattle.cue.specs.declared.write.Refusal.TheVariants as sheet
 use Rattle.shelf.specs.declared.totals.Totals.{Totals}
 use Rattle.shelf.specs.declared.totals.TooLarge.{TooLarge}
 use Rattle.shelf.specs.declared.stream.Taken.{Taken}
 use Rattle.shelf.specs.Totals.{nothing, sum, of_table, bounded, numbers_of}
 use Rattle.shelf.specs.Stream.{counted, left_in, Took}
-use Rattle.cue.specs.Write.{answer as answer_sheet, Turned}
+use Rattle.cue.specs.Write.{answer as answer_sheet, Written, written_meaning, Turned}
 
 -- ---- the shapes of a promise, a law each
 
@@ -519,9 +520,29 @@ unique_packet d p t l m m₁ m₂ r s = answer_once
 
 -- ---- cue
 
-pub unique_write_table : (s m m₁ m₂ : List ℕ) (r t : Written)
-    → Turned (answer_sheet s (length m)) m r m₁ → Turned (answer_sheet s (length m)) m t m₂ → (r ≡ t) × (m₁ ≡ m₂)
-unique_write_table s m m₁ m₂ r t a b = (value_once a.outcome b.outcome, value_once a.memory b.memory)
+-- the bytes written, or the refusal, through the number and the length
+written_injective : (r s : Result ℕ NoSheet) → written_meaning r ≡ written_meaning s → r ≡ s
+written_injective (Ok n) (Ok k) e = ap Ok (ap (λ (x : Written). x.len) e)
+written_injective (Ok n) (Err sheet.NotWhole) e = let z : ◌≡◌ {A = ℕ} 0 12 = ap (λ (x : Written). x.number) e in absurd (omega arith)
+written_injective (Ok n) (Err sheet.NoTable) e = let z : ◌≡◌ {A = ℕ} 0 13 = ap (λ (x : Written). x.number) e in absurd (omega arith)
+written_injective (Ok n) (Err sheet.NoRoom) e = let z : ◌≡◌ {A = ℕ} 0 14 = ap (λ (x : Written). x.number) e in absurd (omega arith)
+written_injective (Err sheet.NotWhole) (Ok k) e = let z : ◌≡◌ {A = ℕ} 12 0 = ap (λ (x : Written). x.number) e in absurd (omega arith)
+written_injective (Err sheet.NotWhole) (Err sheet.NotWhole) e = refl
+written_injective (Err sheet.NotWhole) (Err sheet.NoTable) e = let z : ◌≡◌ {A = ℕ} 12 13 = ap (λ (x : Written). x.number) e in absurd (omega arith)
+written_injective (Err sheet.NotWhole) (Err sheet.NoRoom) e = let z : ◌≡◌ {A = ℕ} 12 14 = ap (λ (x : Written). x.number) e in absurd (omega arith)
+written_injective (Err sheet.NoTable) (Ok k) e = let z : ◌≡◌ {A = ℕ} 13 0 = ap (λ (x : Written). x.number) e in absurd (omega arith)
+written_injective (Err sheet.NoTable) (Err sheet.NotWhole) e = let z : ◌≡◌ {A = ℕ} 13 12 = ap (λ (x : Written). x.number) e in absurd (omega arith)
+written_injective (Err sheet.NoTable) (Err sheet.NoTable) e = refl
+written_injective (Err sheet.NoTable) (Err sheet.NoRoom) e = let z : ◌≡◌ {A = ℕ} 13 14 = ap (λ (x : Written). x.number) e in absurd (omega arith)
+written_injective (Err sheet.NoRoom) (Ok k) e = let z : ◌≡◌ {A = ℕ} 14 0 = ap (λ (x : Written). x.number) e in absurd (omega arith)
+written_injective (Err sheet.NoRoom) (Err sheet.NotWhole) e = let z : ◌≡◌ {A = ℕ} 14 12 = ap (λ (x : Written). x.number) e in absurd (omega arith)
+written_injective (Err sheet.NoRoom) (Err sheet.NoTable) e = let z : ◌≡◌ {A = ℕ} 14 13 = ap (λ (x : Written). x.number) e in absurd (omega arith)
+written_injective (Err sheet.NoRoom) (Err sheet.NoRoom) e = refl
+
+pub unique_write_table : (s m m₁ m₂ : List ℕ) (r t : Result ℕ NoSheet)
+    → Turned (answer_sheet s (length m)) m (written_meaning r) m₁ → Turned (answer_sheet s (length m)) m (written_meaning t) m₂
+    → (r ≡ t) × (m₁ ≡ m₂)
+unique_write_table s m m₁ m₂ r t a b = (written_injective r t (value_once a.outcome b.outcome), value_once a.memory b.memory)
 
 -- ---- shelf
 

@@ -1,5 +1,5 @@
 -- The laws of the table made: its parts one after the other.
-use Rattle.std.specs.Prelude.{◌≡◌, refl, Bool, true, false, List, [], ◌∷◌, ◌++◌, ℕ, ◌+◌, ◌*◌, ◌≤◌, eqb, length, take}
+use Rattle.std.specs.Prelude.{◌≡◌, refl, Bool, true, false, Some, List, [], ◌∷◌, ◌++◌, ℕ, ◌+◌, ◌*◌, ◌≤◌, eqb, length, take}
 use Rattle.std.proofs.Common.{sym, ap, ◌∙◌, arith}
 use Rattle.ground.specs.Tests.{choose◌then◌else◌}
 use Rattle.ground.specs.Number.{bytes16}
@@ -74,7 +74,7 @@ table_with-length ts out = let e = body_of-length ts out in omega arith
 
 -- the table of at most 99 tracks is far below the bound, and all of it is laid
 pub table_with-whole :
-    {p : Span} (ts : List Track) → p ≡ span_of ts → is_run p ≡ true → (out : Track) {m m' : List ℕ} {r : ℕ}
+    {p : Span} (ts : List Track) → Some p ≡ span_of ts → is_run p ≡ true → (out : Track) {m m' : List ℕ} {r : ℕ}
     → Laid m (table_with ts out) r m' → length m ≡ bound
     → (r ≡ length (table_with ts out)) × (take r m' ≡ table_with ts out) × (length (table_with ts out) ≤ bound)
 table_with-whole ts e h out l k =

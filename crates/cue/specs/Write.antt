@@ -1,10 +1,11 @@
 -- K12: "Turn a one-session sheet into a disc table": how a sheet is answered, and what the output memory then holds.
-use Rattle.std.specs.Prelude.{◌≡◌, List, [], ℕ, ◌%◌, length, ltb, eqb}
+use Rattle.std.specs.Prelude.{◌≡◌, Result, Ok, Err, List, [], ℕ, ◌%◌, length, ltb, eqb}
 use Rattle.ground.specs.Tests.{choose◌then◌else◌}
 use Rattle.ground.specs.Memory.{fill}
 use Rattle.table.specs.Layout.{bound}
 use Rattle.disc.specs.Rules.{is_fit}
-use Rattle.cue.specs.declared.write.Written.{Written}
+use Rattle.cue.specs.declared.write.Refusal.{Refusal}
+use Rattle.cue.specs.declared.write.Refusal.TheVariants.{NotWhole, NoTable, NoRoom}
 use Rattle.cue.specs.Sheet.{entry_size, is_described}
 use Rattle.cue.specs.Made.{table_of}
 
@@ -39,7 +40,18 @@ unfoldable pub answer : List ℕ → ℕ → Answer
 answer s m =
     choose ltb m bound then refuse no_room else (choose eqb (length s % entry_size) 0 then whole_answer s else refuse not_whole)
 
--- what the call hands back
+-- what the call hands back: the refusal's number or 0, and how many bytes were written
+pub record Written : Type 0 where
+  pub number : ℕ
+  pub len : ℕ
+
+-- the number and the bytes of each case
+abbrev pub written_meaning : Result ℕ Refusal → Written
+written_meaning (Ok n) = record { number = 0; len = n }
+written_meaning (Err NotWhole) = record { number = not_whole; len = 0 }
+written_meaning (Err NoTable) = record { number = no_table; len = 0 }
+written_meaning (Err NoRoom) = record { number = no_room; len = 0 }
+
 abbrev pub written_of : Answer → Written
 written_of a = record { number = a.number; len = length a.bytes }
 

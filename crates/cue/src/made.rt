@@ -35,12 +35,10 @@ fn put_entry(e: Entry, rest: &mut [u8]) -> usize
 fn put_tracks(s: &[u8], part: &mut [u8]) -> usize
     ensures { Laid part.old (rows_of (tracks_of s.now)) result part.new }
 {
-    let n = s.len() / ENTRY;
-    let mut i = 1;
+    let n = (s.len() / ENTRY).saturating_sub(2);
     let mut at = 0;
-    while i + 1 < n {
-        at += put_entry(entry_at(s, i), &mut part[at..]);
-        i += 1;
+    for j in 0..n {
+        at += put_entry(entry_at(s, j + 1), &mut part[at..]);
     }
     at
 }
@@ -74,7 +72,7 @@ fn put_heads(first: Track, last: Track, out: Track, part: &mut [u8]) -> usize
 
 // The table of a sheet whose tracks are gone over, and whose lead-out is out.
 pub(crate) fn put_table(s: &[u8], span: Span, out: Track, part: &mut [u8]) -> usize
-    requires { (span ≡ span_of (tracks_of s.now)) × (is_run span ≡ true) }
+    requires { (Some span ≡ span_of (tracks_of s.now)) × (is_run span ≡ true) }
     ensures { Laid part.old (table_with (tracks_of s.now) out) result part.new }
 {
     let first = span.first;

@@ -1,7 +1,7 @@
 // Turns a file that holds a cue sheet into a disc table, on standard output.
 #![tactic(auto)]
 
-use cue::write::{NO_TABLE, NOT_WHOLE, write_table};
+use cue::write::{Refusal, write_table};
 use input::{fail, is_given, load, say};
 use print::front::front;
 use table::layout::BOUND;
@@ -9,36 +9,32 @@ use table::layout::BOUND;
 // The most bytes of a sheet file: 16,384 entries, where 99 tracks with 100 indexes each have 9,902. The call itself has no such bound.
 const MOST: usize = 131072;
 
-// What a refusal's number means.
-fn say_refused(rt: &HostRuntime, number: u8) {
-    if number == NOT_WHOLE {
-        say(
+// The refusal's number and what it means.
+fn say_refused(rt: &HostRuntime, refusal: Refusal) {
+    match refusal {
+        Refusal::NotWhole => say(
             rt,
             b"refused 12: the sheet is not whole entries of 8 bytes\n",
-        );
-        return;
-    }
-    if number == NO_TABLE {
-        say(
+        ),
+        Refusal::NoTable => say(
             rt,
             b"refused 13: the sheet is not as described, or no fit table has its tracks, controls and addresses\n",
-        );
-        return;
+        ),
+        Refusal::NoRoom => say(rt, b"refused 14: the output memory is under 6,538 bytes\n"),
     }
-    say(rt, b"refused 14: the output memory is under 6,538 bytes\n");
 }
 
 // Writes the sheet's table, or says why there is none.
 fn turn(rt: &HostRuntime, sheet: &[u8]) {
     let mut memory = [0u8; BOUND];
-    let w = write_table(sheet, &mut memory);
-    if w.number == 0 {
-        if let Err(e) = rt.write_all(front(&memory, w.len)) {
-            fail(rt, b"standard output", e);
+    match write_table(sheet, &mut memory) {
+        Ok(len) => {
+            if let Err(e) = rt.write_all(front(&memory, len)) {
+                fail(rt, b"standard output", e);
+            }
         }
-        return;
+        Err(refusal) => say_refused(rt, refusal),
     }
-    say_refused(rt, w.number);
 }
 
 fn main(rt: HostRuntime) {

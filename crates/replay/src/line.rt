@@ -1,11 +1,12 @@
 // The lines that a call prints.
 ghost use Rattle.std.specs.Prelude.{◌≡◌};
 ghost use Rattle.ground.specs.Memory.{Laid};
+ghost use Rattle.cue.specs.Write.{written_meaning};
 ghost use Rattle.replay.specs.Line.{digit as Line·digit};
 ghost use Rattle.replay.specs.Line.{play_text, page_text, kept_text, state_text, call, rule_text, ruled_call, sum_text, decimals, moved_line, outcome_text, memory_text, packet_line, slots_text, changer_text, stood_line, changer_line, msf_line, address_line, summed_text, part_line, written_line, totals_line, counted_line};
 
 use changer::Changer;
-use cue::write::Written;
+use cue::write::{NO_ROOM, NO_TABLE, NOT_WHOLE, Refusal};
 use deck::Deck;
 use disc::part::UNFIT;
 use drive::state::Drive;
@@ -256,11 +257,17 @@ pub(crate) fn put_part(number: u8, rule: u8, part: &[u8], out: &mut [u8]) -> usi
 }
 
 // The line of a cue sheet, with the memory afterwards.
-pub(crate) fn put_written(w: Written, memory: &[u8], out: &mut [u8]) -> usize
-    ensures { Laid out.old (written_line w memory.now) result out.new }
+pub(crate) fn put_written(w: Result<usize, Refusal>, memory: &[u8], out: &mut [u8]) -> usize
+    ensures { Laid out.old (written_line (written_meaning w) memory.now) result out.new }
 {
-    let mut at = put_call(b't', w.number, out);
-    at += next_summed(w.len, memory, &mut out[at..]);
+    let (number, len) = match w {
+        Ok(len) => (0, len),
+        Err(Refusal::NotWhole) => (NOT_WHOLE, 0),
+        Err(Refusal::NoTable) => (NO_TABLE, 0),
+        Err(Refusal::NoRoom) => (NO_ROOM, 0),
+    };
+    let mut at = put_call(b't', number, out);
+    at += next_summed(len, memory, &mut out[at..]);
     at += copy_front(b"\n", &mut out[at..]);
     at
 }

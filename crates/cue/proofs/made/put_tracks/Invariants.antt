@@ -1,15 +1,10 @@
 -- `cue::made::put_tracks` meets its contract: the descriptors of the entries gone over are laid, and the next one's goes into the rest
 -- that begins where they ended (`laid_more`, `rows_of-entry`).
-use mathlib.Core.Path.{◌≡◌}
-use Prim.Native.Nat.{◌≤◌, ◌-◌, ◌/◌}
-use lib.ListN.{length}
+use Rattle.std.proofs.Common.{◌≡◌, length}
 use Rattle.ground.specs.Memory.{Laid}
 use Rattle.cue.specs.Sheet.{tracks_in}
 use Rattle.cue.specs.Made.{rows_of}
 use Rattle.cue.proofs.made.put_tracks.Given as goal
 
-abbrev pub invariant-loop-i : goal.invariant-loop-i
-invariant-loop-i l = (1 ≤ l.i) × (l.i - 1 ≤ l.n - 2) × (l.n ≡ length l.s / 8) × Laid l.initial.part (rows_of (tracks_in l.s (l.i - 1))) l.at l.part × (length l.part ≡ length l.initial.part)
-
-abbrev pub decreases-loop-i : goal.decreases-loop-i
-decreases-loop-i l = l.n - l.i
+abbrev pub invariant-loop-j : goal.invariant-loop-j
+invariant-loop-j l = Laid l.initial.part (rows_of (tracks_in l.s l.j)) l.at l.part × (length l.part ≡ length l.initial.part)
