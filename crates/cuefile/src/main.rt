@@ -43,13 +43,12 @@ fn main(rt: HostRuntime) {
         return;
     }
     let mut sheet = [0u8; MOST + 1];
-    let s = load(&rt, 1, &mut sheet);
-    if !s.whole {
+    let Some(n) = load(&rt, 1, &mut sheet) else {
         return;
-    }
-    if MOST < s.count {
+    };
+    if MOST < n {
         say(&rt, b"too long: a sheet file has at most 131,072 bytes\n");
         return;
     }
-    turn(&rt, front(&sheet, s.count));
+    turn(&rt, front(&sheet, n));
 }

@@ -4,7 +4,7 @@
 
 mod said;
 
-ghost use Rattle.std.specs.Prelude.{◌≡◌, ◌≤◌, length, IfOk};
+ghost use Rattle.std.specs.Prelude.{◌≤◌, length, IfOk, IfSome};
 
 pub use said::{fail, say};
 use std::env::FillError;
@@ -23,22 +23,6 @@ const INVALID: i32 = 22;
 
 // The most bytes of a name.
 const NAME: usize = 4096;
-
-// How many bytes were read, and whether nothing failed.
-#[derive(Clone, Copy)]
-pub struct Loaded {
-    pub count: usize,
-    pub whole: bool,
-}
-
-fn failed() -> Loaded
-    ensures { result.count ≡ 0 }
-{
-    Loaded {
-        count: 0,
-        whole: false,
-    }
-}
 
 // There is an argument i; argument 0 is the program's name.
 pub fn is_given(rt: &HostRuntime, i: usize) -> bool {
@@ -69,42 +53,37 @@ fn read_all(file: &mut File, buf: &mut [u8]) -> io::Result<usize>
 fn read_file(rt: &HostRuntime, name: &[u8], buf: &mut [u8]) -> io::Result<usize>
     ensures { IfOk result (λ n. n ≤ length buf.new) }
 {
-    match str::from_utf8(name) {
-        Ok(path) => {
-            let mut file = File::open(rt, path)?;
-            read_all(&mut file, buf)
-        }
-        Err(_) => Err(io::Error::from_raw_os_error(NO_TEXT)),
-    }
+    let Ok(path) = str::from_utf8(name) else {
+        return Err(io::Error::from_raw_os_error(NO_TEXT));
+    };
+    let mut file = File::open(rt, path)?;
+    read_all(&mut file, buf)
 }
 
 // The same. Where that fails, a line on standard error says why.
-fn load_file(rt: &HostRuntime, name: &[u8], buf: &mut [u8]) -> Loaded
-    ensures { result.count ≤ length buf.new }
+fn load_file(rt: &HostRuntime, name: &[u8], buf: &mut [u8]) -> Option<usize>
+    ensures { IfSome result (λ n. n ≤ length buf.new) }
 {
     match read_file(rt, name, buf) {
-        Ok(count) => Loaded { count, whole: true },
+        Ok(n) => Some(n),
         Err(e) => {
             fail(rt, name, e);
-            failed()
+            None
         }
     }
 }
 
-// Reads the start of the file that argument i names, as much as buf holds. Where that fails, a line on standard error says why.
-pub fn load(rt: &HostRuntime, i: usize, buf: &mut [u8]) -> Loaded
-    ensures { result.count ≤ length buf.new }
+// Reads the start of the file that argument i names, as much as buf holds, and says how many bytes that is. Where that fails, a line on standard
+// error says why.
+pub fn load(rt: &HostRuntime, i: usize, buf: &mut [u8]) -> Option<usize>
+    ensures { IfSome result (λ n. n ≤ length buf.new) }
 {
     let mut name = [0u8; NAME];
-    match rt.arg(i, &mut name) {
-        Ok(n) => load_file(rt, &name[..n], buf),
-        Err(FillError::TooLong) => {
-            fail(rt, b"argument", io::Error::from_raw_os_error(TOO_LONG));
-            failed()
-        }
-        Err(FillError::NotPresent) => {
-            fail(rt, b"argument", io::Error::from_raw_os_error(INVALID));
-            failed()
-        }
-    }
+    let reason = match rt.arg(i, &mut name) {
+        Ok(n) => return load_file(rt, &name[..n], buf),
+        Err(FillError::TooLong) => TOO_LONG,
+        Err(FillError::NotPresent) => INVALID,
+    };
+    fail(rt, b"argument", io::Error::from_raw_os_error(reason));
+    None
 }

@@ -110,16 +110,14 @@ fn main(rt: HostRuntime) {
         return;
     }
     let mut table = [0u8; BOUND + 1];
-    let t = load(&rt, 1, &mut table);
-    if !t.whole {
+    let Some(t) = load(&rt, 1, &mut table) else {
         return;
-    }
+    };
     let mut packets = [0u8; MOST + 1];
-    let p = load(&rt, 2, &mut packets);
-    if !p.whole {
+    let Some(p) = load(&rt, 2, &mut packets) else {
         return;
-    }
-    if MOST < p.count {
+    };
+    if MOST < p {
         write(&rt, b"too long\n");
         return;
     }
@@ -130,8 +128,8 @@ fn main(rt: HostRuntime) {
     let mut line = [0u8; 14000];
     list(
         &rt,
-        front(&table, t.count),
-        front(&packets, p.count),
+        front(&table, t),
+        front(&packets, p),
         &mut mem,
         &mut line,
     );

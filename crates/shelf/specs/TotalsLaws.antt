@@ -1,5 +1,5 @@
 -- Laws of the totals: sums of sums, and that a total past 64 bits stays past them.
-use Rattle.std.specs.Prelude.{◌≡◌, refl, Bool, true, false, ◌⊎◌, List, [], ◌∷◌, ◌++◌, ℕ, ◌+◌, ◌-◌, ◌≤◌, leb, eqb, Ok, Err}
+use Rattle.std.specs.Prelude.{◌≡◌, refl, Bool, true, false, ◌⊎◌, List, [], ◌∷◌, ◌++◌, ℕ, ◌+◌, ◌-◌, ◌≤◌, leb, eqb, Result, Ok, Err}
 use Rattle.std.proofs.Common.{sym, ap, ◌∙◌, true≢false, inl, inr, ⊎_elim, arith, add_assoc, add_comm, add-zero, zero-add, lt_of_not-le, le-leb, leb-true, eqb-true}
 use Rattle.std.proofs.Math.Decide.{dec_le}
 use Rattle.std.proofs.lemmas.Bool.{lt-leb}
@@ -68,12 +68,20 @@ totals-append (t ∷ ts) us =
 
 -- ---- 64 bits
 
--- a number fits into what another leaves exactly where their sum is within them
-pub room-left : (a b : ℕ) {left : ℕ} → b ≤ most → left ≡ most - b → leb a left ≡ leb (a + b) most
-room-left a b {left} h e = elim (dec_le (a + b) most) [
-  | yes l ↦ le-leb a left (omega arith) ∙ sym (le-leb _ _ l)
-  | no l ↦ (let g = lt_of_not-le l in lt-leb a left (omega arith) ∙ sym (lt-leb _ _ g))
+-- one of the sums: where it is past them, it is not told
+unfoldable pub plus : ℕ → ℕ → Result ℕ TooLarge
+plus a b = choose leb (a + b) most then Ok (a + b) else Err too_large
+
+pub plus_told : (a b : ℕ) {n : ℕ} → Ok n ≡ plus a b → (a + b ≤ most) × (n ≡ a + b)
+unfolding plus
+plus_told a b h = elim (dec_le (a + b) most) [
+  | yes l ↦ (let w = when (leb (a + b) most) (Ok (a + b)) (Err too_large) (le-leb _ _ l) in (l, cc))
+  | no l ↦ (let g = lt_of_not-le l in let w = unless (leb (a + b) most) (Ok (a + b)) (Err too_large) (lt-leb _ _ g) in cc)
 ]
+
+pub plus_told-over : (a b : ℕ) {e : TooLarge} → Err e ≡ plus a b → a + b ≤ most → ⊥
+unfolding plus
+plus_told-over a b h l = let w = when (leb (a + b) most) (Ok (a + b)) (Err too_large) (le-leb _ _ l) in cc
 
 pub within_parts : {a : Totals} → within a ≡ true → Within a
 unfolding within
@@ -163,6 +171,13 @@ bounded_is a h = when _ _ _ h
 pub bounded-over : (a : Totals) → within a ≡ false → bounded a ≡ Err too_large
 unfolding bounded
 bounded-over a h = unless _ _ _ h
+
+pub bounded_fails : (a : Totals) → (Within a → ⊥) → bounded a ≡ Err too_large
+bounded_fails a h = decided (within a) refl
+  where
+    decided : (b : Bool) → within a ≡ b → bounded a ≡ Err too_large
+    decided true e = absurd (h (within_parts e))
+    decided false e = bounded-over a e
 
 -- what is told
 pub bounded-told : (a : Totals) {b : Totals} → Ok b ≡ bounded a → (within a ≡ true) × (b ≡ a)

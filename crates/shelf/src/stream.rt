@@ -5,7 +5,7 @@ ghost use Rattle.shelf.specs.Stream.{counted, passed_to, passed, left_by, taken_
 ghost use Rattle.shelf.specs.StreamLaws.{length_of_whole, with_rest};
 
 use crate::totals::{TooLarge, Totals, add, count, nothing};
-use ground::number::{smaller, word16};
+use ground::number::word16;
 
 // The totals with the whole tables counted, and how many bytes those took.
 #[derive(Clone, Copy)]
@@ -103,7 +103,7 @@ pub fn take_in(totals: Totals, room: &mut [u8], end: usize) -> Result<Taken, Too
     ensures taken { Took totals (take end room.old) room.old result room.new }
     ensures short { left_in result ≤ 65536 }
 {
-    let n = smaller(end, room.len());
+    let n = end.min(room.len());
     let p = count_whole(totals, &room[..n])?;
     Ok(keep(p, room, n))
 }

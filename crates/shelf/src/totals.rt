@@ -1,11 +1,10 @@
 // The thirteen totals, and one step: a table counted.
-ghost use Rattle.std.specs.Prelude.{◌≡◌, true, ◌+◌, leb};
-ghost use Rattle.ground.specs.Tests.{◌and◌};
+ghost use Rattle.std.specs.Prelude.{◌≡◌, true};
 ghost use Rattle.disc.specs.Rules.{is_fit};
 ghost use Rattle.disc.specs.Disc.{disc_of};
 ghost use Rattle.shelf.specs.Count.{one_if};
-ghost use Rattle.shelf.specs.Totals.{nothing, sum, of_table, most, within, bounded, numbers_of, Within};
-ghost use Rattle.shelf.specs.TotalsLaws.{of_rule};
+ghost use Rattle.shelf.specs.Totals.{nothing, sum, of_table, bounded, numbers_of};
+ghost use Rattle.shelf.specs.TotalsLaws.{of_rule, plus};
 
 use crate::content::held_by;
 use disc::disc::{Disc, read};
@@ -58,10 +57,7 @@ pub fn nothing() -> Totals
 fn one_if(b: bool) -> u64
     ensures { result ≡ one_if b }
 {
-    if b {
-        return 1;
-    }
-    0
+    u64::from(b)
 }
 
 // Of one table, by the first rule that it breaks; what a fit one holds is not counted.
@@ -78,10 +74,7 @@ fn of_rule(rule: u8) -> Totals
         rule5: one_if(rule == 5),
         rule6: one_if(rule == 6),
         rule7: one_if(rule == 7),
-        tracks: 0,
-        data_blocks: 0,
-        audio_blocks: 0,
-        trackless: 0,
+        ..nothing()
     }
 }
 
@@ -94,17 +87,11 @@ fn of_fit(t: &[u8], disc: Disc) -> Totals
     Totals {
         tables: 1,
         fit: 1,
-        rule1: 0,
-        rule2: 0,
-        rule3: 0,
-        rule4: 0,
-        rule5: 0,
-        rule6: 0,
-        rule7: 0,
         tracks: (wide(disc.last) + 1 - wide(disc.first)) as u64,
         data_blocks: h.of_data as u64,
         audio_blocks: (disc.lead_out - h.of_data - h.of_none) as u64,
         trackless: h.of_none as u64,
+        ..nothing()
     }
 }
 
@@ -118,72 +105,32 @@ fn of_table(t: &[u8]) -> Totals
     }
 }
 
-// The sum is within 64 bits.
-fn room(a: u64, b: u64) -> bool
-    ensures { result ≡ leb (a + b) most }
+// The sum, where it is within 64 bits.
+fn plus(a: u64, b: u64) -> Result<u64, TooLarge>
+    ensures { result ≡ plus a b }
 {
-    a <= u64::MAX - b
+    a.checked_add(b).ok_or(TooLarge)
 }
 
-// Both tests hold.
-fn both(a: bool, b: bool) -> bool
-    ensures { result ≡ a and b }
-{
-    if a {
-        return b;
-    }
-    false
-}
-
-// Each of the sums is within 64 bits.
-fn is_within(a: Totals, b: Totals) -> bool
-    ensures { result ≡ within (sum a b) }
-{
-    let all = room(a.trackless, b.trackless);
-    let all = both(room(a.audio_blocks, b.audio_blocks), all);
-    let all = both(room(a.data_blocks, b.data_blocks), all);
-    let all = both(room(a.tracks, b.tracks), all);
-    let all = both(room(a.rule7, b.rule7), all);
-    let all = both(room(a.rule6, b.rule6), all);
-    let all = both(room(a.rule5, b.rule5), all);
-    let all = both(room(a.rule4, b.rule4), all);
-    let all = both(room(a.rule3, b.rule3), all);
-    let all = both(room(a.rule2, b.rule2), all);
-    let all = both(room(a.rule1, b.rule1), all);
-    let all = both(room(a.fit, b.fit), all);
-    both(room(a.tables, b.tables), all)
-}
-
-// Each of the sums, where they are within 64 bits.
-fn sum(a: Totals, b: Totals) -> Totals
-    requires { Within (sum a b) }
-    ensures { result ≡ sum a b }
-{
-    Totals {
-        tables: a.tables + b.tables,
-        fit: a.fit + b.fit,
-        rule1: a.rule1 + b.rule1,
-        rule2: a.rule2 + b.rule2,
-        rule3: a.rule3 + b.rule3,
-        rule4: a.rule4 + b.rule4,
-        rule5: a.rule5 + b.rule5,
-        rule6: a.rule6 + b.rule6,
-        rule7: a.rule7 + b.rule7,
-        tracks: a.tracks + b.tracks,
-        data_blocks: a.data_blocks + b.data_blocks,
-        audio_blocks: a.audio_blocks + b.audio_blocks,
-        trackless: a.trackless + b.trackless,
-    }
-}
-
-// Both together.
+// Each of the sums, where all are within 64 bits.
 pub(crate) fn add(a: Totals, b: Totals) -> Result<Totals, TooLarge>
     ensures { result ≡ bounded (sum a b) }
 {
-    if is_within(a, b) {
-        return Ok(sum(a, b));
-    }
-    Err(TooLarge)
+    Ok(Totals {
+        tables: plus(a.tables, b.tables)?,
+        fit: plus(a.fit, b.fit)?,
+        rule1: plus(a.rule1, b.rule1)?,
+        rule2: plus(a.rule2, b.rule2)?,
+        rule3: plus(a.rule3, b.rule3)?,
+        rule4: plus(a.rule4, b.rule4)?,
+        rule5: plus(a.rule5, b.rule5)?,
+        rule6: plus(a.rule6, b.rule6)?,
+        rule7: plus(a.rule7, b.rule7)?,
+        tracks: plus(a.tracks, b.tracks)?,
+        data_blocks: plus(a.data_blocks, b.data_blocks)?,
+        audio_blocks: plus(a.audio_blocks, b.audio_blocks)?,
+        trackless: plus(a.trackless, b.trackless)?,
+    })
 }
 
 // One table more.

@@ -7,4 +7,4 @@ few : (r s : List ℕ) (n most : ℕ) → r ≡ take n s → n ≤ most → leng
 few r s n most e h = rw e (let k = length-take n s in omega arith)
 
 pub list-requires : goal.list-requires
-list-requires c = let h : c.load-p.result.count ≤ 49152 = omega arith in (few _ _ _ _ c.front-2.ensures.shows h, refl)
+list-requires c = let h : c.in-Some-load.p ≤ 49152 = omega arith in (few _ _ _ _ c.front-2.ensures.shows h, refl)

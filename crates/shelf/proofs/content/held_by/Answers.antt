@@ -9,7 +9,7 @@ use Rattle.ground.specs.Memory.{rest_all}
 use Rattle.table.specs.Layout.{descriptors}
 use Rattle.sessions.specs.Session.{size}
 use Rattle.sessions.specs.SessionLaws.{size_least}
-use Rattle.disc.specs.RulesLaws.{fit_sized, fit-numbered}
+use Rattle.disc.specs.RulesLaws.{fit_sized}
 use Rattle.shelf.specs.ContentLaws.{summed-none, summed-most, summed-here, summed-rises, summed-begins, summed-next, summed-all}
 use Rattle.shelf.proofs.content.held_by.Goals as goal
 

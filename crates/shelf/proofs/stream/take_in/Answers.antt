@@ -8,21 +8,21 @@ use Rattle.shelf.proofs.stream.take_in.Goals as goal
 
 pub slice_bounds-count_whole-end-2 : goal.slice_bounds-count_whole-end-2
 slice_bounds-count_whole-end-2 c =
-    let e = c.smaller-n.ensures in
-    let l = length-take c.smaller-n.result c.args.room.now in
+    let e = c.min-n.ensures in
+    let l = length-take c.min-n.result c.args.room.now in
     omega arith
 
 pub keep-requires : goal.keep-requires
 keep-requires c =
     let u = passed_used _ _ (sym c.in_ok-p.was ∙ c.count_whole.ensures.same) in
-    let e = c.smaller-n.ensures in
-    let l = length-take c.smaller-n.result c.args.room.now in
+    let e = c.min-n.ensures in
+    let l = length-take c.min-n.result c.args.room.now in
     (omega arith, omega arith)
 
 pub returns : goal.returns
 returns c =
     let a = c.args in
-    let n = c.smaller-n in
+    let n = c.min-n in
     let w = c.count_whole.ensures in
     let g = c.in_ok-p.was in
     let k = c.keep.ensures in
@@ -33,7 +33,7 @@ returns c =
 pub returns-in_err-p : goal.returns-in_err-p
 returns-in_err-p c =
     let a = c.args in
-    let n = c.smaller-n in
+    let n = c.min-n in
     let p = err_from_is_err_and c.from_residual.result c.from_residual.ensures.1 in
     let o = took-over p.0 a.room.now (take n.result a.room.now) n.result in
     rw p.1 (record { taken = took_of _ _ a.end n.ensures (sym c.in_err-p.was ∙ c.count_whole.ensures.same) o.0 o.1; short = o.2 })

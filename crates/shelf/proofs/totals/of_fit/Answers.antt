@@ -23,5 +23,5 @@ overflow_sub-result-3 c = (fit_adds _ c.requires.0 c.requires.1 c.held_by-h.ensu
 
 pub returns : goal.returns
 returns c =
-    rw (c.wide.ensures.same, c.wide-2.ensures.same)
+    rw (c.nothing.ensures, c.wide.ensures.same, c.wide-2.ensures.same)
     (fit_adds _ c.requires.0 c.requires.1 c.held_by-h.ensures).same

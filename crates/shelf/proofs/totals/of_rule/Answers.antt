@@ -4,6 +4,7 @@ use Rattle.shelf.proofs.totals.of_rule.Goals as goal
 pub returns : goal.returns
 returns c =
     rw (
+      c.nothing.ensures,
       c.one_if-8.ensures,
       c.one_if-7.ensures,
       c.one_if-6.ensures,

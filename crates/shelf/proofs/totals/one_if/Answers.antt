@@ -1,10 +1,14 @@
--- `shelf::totals::one_if` meets its contract: the test decides.
-use mathlib.Core.Path.{sym}
-use Rattle.shelf.specs.CountLaws.{one_if_true, one_if_false}
+-- `shelf::totals::one_if` meets its contract: std's conversion is the definition.
+use Rattle.std.proofs.Common.{◌≡◌, refl, ◌∙◌, Bool, true, false}
+use mir.Val.{bool_byte}
+use Rattle.ground.specs.Tests.{choose◌then◌else◌}
+use Rattle.shelf.specs.Count.{one_if}
 use Rattle.shelf.proofs.totals.one_if.Goals as goal
 
-pub returns-then-b : goal.returns-then-b
-returns-then-b c = sym (one_if_true _ c.if-b.true)
+byte : (b : Bool) → bool_byte b ≡ one_if b
+unfolding one_if choose◌then◌else◌
+byte true = refl
+byte false = refl
 
 pub returns : goal.returns
-returns c = sym (one_if_false _ c.if-b.false)
+returns c = c.from.ensures ∙ byte c.args.b
