@@ -10,7 +10,7 @@ pub struct Sense {
     pub ascq: u8,
 }
 
-// The rows of the table, by what they say.
+// The rows of the table, by what they say: numbers, since the table is a form that 01 names and `sense_at` promises an answer for each.
 pub const NO_SENSE: usize = 0;
 
 pub const NO_MEDIUM_CLOSED: usize = 1;

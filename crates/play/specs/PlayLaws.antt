@@ -1,8 +1,7 @@
 -- The laws of the play record: what moving on does in each case, and that it stays a record that refusal 2 does not meet.
-use Rattle.std.specs.Prelude.{◌≡◌, refl, true, ◌||◌, ℕ, ◌+◌, ◌-◌, ◌≤◌, ◌<◌, eqb, ltb, nat_eq}
-use Rattle.std.proofs.Common.{sym, ◌∙◌, lt_of_not-le, eq-eqb, ne_eqb, le-leb, leb-true, lt-ltb, le-ltb}
+use Rattle.std.specs.Prelude.{◌≡◌, refl, true, ◌||◌, ℕ, ◌+◌, ◌≤◌, ◌<◌, eqb, nat_eq}
+use Rattle.std.proofs.Common.{sym, ◌∙◌, eq-eqb, ne_eqb, le-leb, leb-true}
 use native.Mathlib.Omega.{arith}
-use Rattle.std.proofs.Math.Decide.{dec_le}
 use Rattle.ground.specs.Tests.{◌or◌, or_plain, when, unless, either, and_head, and_tail, and_both}
 use Rattle.address.specs.Address.{last}
 use Rattle.play.specs.declared.Play.{Play}

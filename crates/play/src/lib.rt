@@ -14,7 +14,7 @@ pub struct Play {
     pub end: usize,
 }
 
-// The four statuses.
+// The four statuses: bytes, since C reads the record (C interface).
 pub const PLAYING: u8 = 0x11;
 
 pub const PAUSED: u8 = 0x12;
