@@ -29,13 +29,13 @@ class_of GetEvent = 16
 abbrev pub class_at : ℕ → ℕ
 class_at code = class_of (decode code)
 
--- row `code` of a table; past its end 0, "unknown" (sealed, so that a law about it finds the table in the goal)
-unfoldable pub row_at : List ℕ → ℕ → ℕ
-row_at rows code = get_or rows code 0
+-- row `code` of a table; past its end "unknown" (sealed, so that a law about it finds the table in the goal)
+unfoldable pub row_at : List Command → ℕ → Command
+row_at rows code = get_or rows code Unknown
 
--- "The rule tying a row to its code", as one test over the whole table: each of the 256 rows holds its code's class
-abbrev pub keeps_rule : List ℕ → Bool
-keeps_rule rows = every 256 (λ code. eqb (get_or rows code 0) (class_at code))
+-- "The rule tying a row to its code", as one test over the whole table: each of the 256 rows holds the command of its code's class
+abbrev pub keeps_rule : List Command → Bool
+keeps_rule rows = every 256 (λ code. eqb (class_of (get_or rows code Unknown)) (class_at code))
 
 -- 01's list of packets, K2's, K4's and K7's
 abbrev pub packets : List Command

@@ -8,8 +8,8 @@ use Rattle.command.specs.declared.decode.Command.TheVariants.{TestUnitReady, Req
 use Rattle.command.specs.Command.{decode}
 use Rattle.command.specs.Class.{class_of, class_at, row_at, keeps_rule, with_class, command_of}
 
--- a table that keeps the rule has at each code that code's class
-pub row_at_ruled : (rows : List ℕ) → keeps_rule rows ≡ true → (code : ℕ) → code < 256 → row_at rows code ≡ class_at code
+-- a table that keeps the rule has at each code the command of that code's class
+pub row_at_ruled : (rows : List Command) → keeps_rule rows ≡ true → (code : ℕ) → code < 256 → class_of (row_at rows code) ≡ class_at code
 unfolding row_at
 row_at_ruled rows h code l = eqb-true _ _ (every-at _ _ h code l)
 
@@ -92,7 +92,7 @@ decode-code n =
     own k h = inr (eqb-true n k h)
 
 -- two commands of one class are one
-class_of-one : {a b : Command} → class_of a ≡ class_of b → a ≡ b
+pub class_of-one : {a b : Command} → class_of a ≡ class_of b → a ≡ b
 class_of-one {a} {b} e = sym (command_of_class a) ∙ ap command_of e ∙ command_of_class b
 
 -- a code is a command's exactly when it decodes to it

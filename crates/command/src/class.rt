@@ -1,359 +1,280 @@
-// The class of each operation code: a table of 256 rows, one per code, and the command that a class stands for.
+// The command of each operation code: a table of 256 rows, one per code.
 ghost use Rattle.std.specs.Prelude.{◌≡◌};
-ghost use Rattle.command.specs.Class.{class_at, row_at, command_of};
+ghost use Rattle.command.specs.Class.{class_of, class_at, row_at};
 
 use crate::decode::Command;
 use ground::number::wide;
 
-// The classes: a command's number in the definition's list of packets, and 0 for a code that no command has. Above each stands the name
-// that docs/APPENDIX-A.md prints.
-
-// unknown
-const UNKNOWN: u8 = 0;
-
-// TEST UNIT READY
-const TEST_UNIT_READY: u8 = 1;
-
-// REQUEST SENSE
-const REQUEST_SENSE: u8 = 2;
-
-// INQUIRY
-const INQUIRY: u8 = 3;
-
-// START/STOP UNIT
-const START_STOP: u8 = 4;
-
-// PREVENT/ALLOW
-const PREVENT: u8 = 5;
-
-// READ CAPACITY
-const READ_CAPACITY: u8 = 6;
-
-// READ(10)
-const READ_10: u8 = 7;
-
-// SEEK(10)
-const SEEK: u8 = 8;
-
-// READ TOC
-const READ_TOC: u8 = 9;
-
-// READ(12)
-const READ_12: u8 = 10;
-
-// PLAY AUDIO(10)
-const PLAY_AUDIO: u8 = 11;
-
-// PAUSE/RESUME
-const PAUSE_RESUME: u8 = 12;
-
-// READ SUB-CHANNEL
-const READ_SUB_CHANNEL: u8 = 13;
-
-// MODE SENSE(10)
-const MODE_SENSE: u8 = 14;
-
-// MODE SELECT(10)
-const MODE_SELECT: u8 = 15;
-
-// GET EVENT STATUS NOTIFICATION
-const GET_EVENT: u8 = 16;
-
-// Row `code` holds the class of that operation code.
-const ROWS: [u8; 256] = [
-    TEST_UNIT_READY, // 00h
-    UNKNOWN, // 01h
-    UNKNOWN, // 02h
-    REQUEST_SENSE, // 03h
-    UNKNOWN, // 04h
-    UNKNOWN, // 05h
-    UNKNOWN, // 06h
-    UNKNOWN, // 07h
-    UNKNOWN, // 08h
-    UNKNOWN, // 09h
-    UNKNOWN, // 0Ah
-    UNKNOWN, // 0Bh
-    UNKNOWN, // 0Ch
-    UNKNOWN, // 0Dh
-    UNKNOWN, // 0Eh
-    UNKNOWN, // 0Fh
-    UNKNOWN, // 10h
-    UNKNOWN, // 11h
-    INQUIRY, // 12h
-    UNKNOWN, // 13h
-    UNKNOWN, // 14h
-    UNKNOWN, // 15h
-    UNKNOWN, // 16h
-    UNKNOWN, // 17h
-    UNKNOWN, // 18h
-    UNKNOWN, // 19h
-    UNKNOWN, // 1Ah
-    START_STOP, // 1Bh
-    UNKNOWN, // 1Ch
-    UNKNOWN, // 1Dh
-    PREVENT, // 1Eh
-    UNKNOWN, // 1Fh
-    UNKNOWN, // 20h
-    UNKNOWN, // 21h
-    UNKNOWN, // 22h
-    UNKNOWN, // 23h
-    UNKNOWN, // 24h
-    READ_CAPACITY, // 25h
-    UNKNOWN, // 26h
-    UNKNOWN, // 27h
-    READ_10, // 28h
-    UNKNOWN, // 29h
-    UNKNOWN, // 2Ah
-    SEEK, // 2Bh
-    UNKNOWN, // 2Ch
-    UNKNOWN, // 2Dh
-    UNKNOWN, // 2Eh
-    UNKNOWN, // 2Fh
-    UNKNOWN, // 30h
-    UNKNOWN, // 31h
-    UNKNOWN, // 32h
-    UNKNOWN, // 33h
-    UNKNOWN, // 34h
-    UNKNOWN, // 35h
-    UNKNOWN, // 36h
-    UNKNOWN, // 37h
-    UNKNOWN, // 38h
-    UNKNOWN, // 39h
-    UNKNOWN, // 3Ah
-    UNKNOWN, // 3Bh
-    UNKNOWN, // 3Ch
-    UNKNOWN, // 3Dh
-    UNKNOWN, // 3Eh
-    UNKNOWN, // 3Fh
-    UNKNOWN, // 40h
-    UNKNOWN, // 41h
-    READ_SUB_CHANNEL, // 42h
-    READ_TOC, // 43h
-    UNKNOWN, // 44h
-    PLAY_AUDIO, // 45h
-    UNKNOWN, // 46h
-    UNKNOWN, // 47h
-    UNKNOWN, // 48h
-    UNKNOWN, // 49h
-    GET_EVENT, // 4Ah
-    PAUSE_RESUME, // 4Bh
-    UNKNOWN, // 4Ch
-    UNKNOWN, // 4Dh
-    UNKNOWN, // 4Eh
-    UNKNOWN, // 4Fh
-    UNKNOWN, // 50h
-    UNKNOWN, // 51h
-    UNKNOWN, // 52h
-    UNKNOWN, // 53h
-    UNKNOWN, // 54h
-    MODE_SELECT, // 55h
-    UNKNOWN, // 56h
-    UNKNOWN, // 57h
-    UNKNOWN, // 58h
-    UNKNOWN, // 59h
-    MODE_SENSE, // 5Ah
-    UNKNOWN, // 5Bh
-    UNKNOWN, // 5Ch
-    UNKNOWN, // 5Dh
-    UNKNOWN, // 5Eh
-    UNKNOWN, // 5Fh
-    UNKNOWN, // 60h
-    UNKNOWN, // 61h
-    UNKNOWN, // 62h
-    UNKNOWN, // 63h
-    UNKNOWN, // 64h
-    UNKNOWN, // 65h
-    UNKNOWN, // 66h
-    UNKNOWN, // 67h
-    UNKNOWN, // 68h
-    UNKNOWN, // 69h
-    UNKNOWN, // 6Ah
-    UNKNOWN, // 6Bh
-    UNKNOWN, // 6Ch
-    UNKNOWN, // 6Dh
-    UNKNOWN, // 6Eh
-    UNKNOWN, // 6Fh
-    UNKNOWN, // 70h
-    UNKNOWN, // 71h
-    UNKNOWN, // 72h
-    UNKNOWN, // 73h
-    UNKNOWN, // 74h
-    UNKNOWN, // 75h
-    UNKNOWN, // 76h
-    UNKNOWN, // 77h
-    UNKNOWN, // 78h
-    UNKNOWN, // 79h
-    UNKNOWN, // 7Ah
-    UNKNOWN, // 7Bh
-    UNKNOWN, // 7Ch
-    UNKNOWN, // 7Dh
-    UNKNOWN, // 7Eh
-    UNKNOWN, // 7Fh
-    UNKNOWN, // 80h
-    UNKNOWN, // 81h
-    UNKNOWN, // 82h
-    UNKNOWN, // 83h
-    UNKNOWN, // 84h
-    UNKNOWN, // 85h
-    UNKNOWN, // 86h
-    UNKNOWN, // 87h
-    UNKNOWN, // 88h
-    UNKNOWN, // 89h
-    UNKNOWN, // 8Ah
-    UNKNOWN, // 8Bh
-    UNKNOWN, // 8Ch
-    UNKNOWN, // 8Dh
-    UNKNOWN, // 8Eh
-    UNKNOWN, // 8Fh
-    UNKNOWN, // 90h
-    UNKNOWN, // 91h
-    UNKNOWN, // 92h
-    UNKNOWN, // 93h
-    UNKNOWN, // 94h
-    UNKNOWN, // 95h
-    UNKNOWN, // 96h
-    UNKNOWN, // 97h
-    UNKNOWN, // 98h
-    UNKNOWN, // 99h
-    UNKNOWN, // 9Ah
-    UNKNOWN, // 9Bh
-    UNKNOWN, // 9Ch
-    UNKNOWN, // 9Dh
-    UNKNOWN, // 9Eh
-    UNKNOWN, // 9Fh
-    UNKNOWN, // A0h
-    UNKNOWN, // A1h
-    UNKNOWN, // A2h
-    UNKNOWN, // A3h
-    UNKNOWN, // A4h
-    UNKNOWN, // A5h
-    UNKNOWN, // A6h
-    UNKNOWN, // A7h
-    READ_12, // A8h
-    UNKNOWN, // A9h
-    UNKNOWN, // AAh
-    UNKNOWN, // ABh
-    UNKNOWN, // ACh
-    UNKNOWN, // ADh
-    UNKNOWN, // AEh
-    UNKNOWN, // AFh
-    UNKNOWN, // B0h
-    UNKNOWN, // B1h
-    UNKNOWN, // B2h
-    UNKNOWN, // B3h
-    UNKNOWN, // B4h
-    UNKNOWN, // B5h
-    UNKNOWN, // B6h
-    UNKNOWN, // B7h
-    UNKNOWN, // B8h
-    UNKNOWN, // B9h
-    UNKNOWN, // BAh
-    UNKNOWN, // BBh
-    UNKNOWN, // BCh
-    UNKNOWN, // BDh
-    UNKNOWN, // BEh
-    UNKNOWN, // BFh
-    UNKNOWN, // C0h
-    UNKNOWN, // C1h
-    UNKNOWN, // C2h
-    UNKNOWN, // C3h
-    UNKNOWN, // C4h
-    UNKNOWN, // C5h
-    UNKNOWN, // C6h
-    UNKNOWN, // C7h
-    UNKNOWN, // C8h
-    UNKNOWN, // C9h
-    UNKNOWN, // CAh
-    UNKNOWN, // CBh
-    UNKNOWN, // CCh
-    UNKNOWN, // CDh
-    UNKNOWN, // CEh
-    UNKNOWN, // CFh
-    UNKNOWN, // D0h
-    UNKNOWN, // D1h
-    UNKNOWN, // D2h
-    UNKNOWN, // D3h
-    UNKNOWN, // D4h
-    UNKNOWN, // D5h
-    UNKNOWN, // D6h
-    UNKNOWN, // D7h
-    UNKNOWN, // D8h
-    UNKNOWN, // D9h
-    UNKNOWN, // DAh
-    UNKNOWN, // DBh
-    UNKNOWN, // DCh
-    UNKNOWN, // DDh
-    UNKNOWN, // DEh
-    UNKNOWN, // DFh
-    UNKNOWN, // E0h
-    UNKNOWN, // E1h
-    UNKNOWN, // E2h
-    UNKNOWN, // E3h
-    UNKNOWN, // E4h
-    UNKNOWN, // E5h
-    UNKNOWN, // E6h
-    UNKNOWN, // E7h
-    UNKNOWN, // E8h
-    UNKNOWN, // E9h
-    UNKNOWN, // EAh
-    UNKNOWN, // EBh
-    UNKNOWN, // ECh
-    UNKNOWN, // EDh
-    UNKNOWN, // EEh
-    UNKNOWN, // EFh
-    UNKNOWN, // F0h
-    UNKNOWN, // F1h
-    UNKNOWN, // F2h
-    UNKNOWN, // F3h
-    UNKNOWN, // F4h
-    UNKNOWN, // F5h
-    UNKNOWN, // F6h
-    UNKNOWN, // F7h
-    UNKNOWN, // F8h
-    UNKNOWN, // F9h
-    UNKNOWN, // FAh
-    UNKNOWN, // FBh
-    UNKNOWN, // FCh
-    UNKNOWN, // FDh
-    UNKNOWN, // FEh
-    UNKNOWN, // FFh
+// Row `code` holds the command of that operation code.
+const ROWS: [Command; 256] = [
+    Command::TestUnitReady, // 00h
+    Command::Unknown, // 01h
+    Command::Unknown, // 02h
+    Command::RequestSense, // 03h
+    Command::Unknown, // 04h
+    Command::Unknown, // 05h
+    Command::Unknown, // 06h
+    Command::Unknown, // 07h
+    Command::Unknown, // 08h
+    Command::Unknown, // 09h
+    Command::Unknown, // 0Ah
+    Command::Unknown, // 0Bh
+    Command::Unknown, // 0Ch
+    Command::Unknown, // 0Dh
+    Command::Unknown, // 0Eh
+    Command::Unknown, // 0Fh
+    Command::Unknown, // 10h
+    Command::Unknown, // 11h
+    Command::Inquiry, // 12h
+    Command::Unknown, // 13h
+    Command::Unknown, // 14h
+    Command::Unknown, // 15h
+    Command::Unknown, // 16h
+    Command::Unknown, // 17h
+    Command::Unknown, // 18h
+    Command::Unknown, // 19h
+    Command::Unknown, // 1Ah
+    Command::StartStop, // 1Bh
+    Command::Unknown, // 1Ch
+    Command::Unknown, // 1Dh
+    Command::Prevent, // 1Eh
+    Command::Unknown, // 1Fh
+    Command::Unknown, // 20h
+    Command::Unknown, // 21h
+    Command::Unknown, // 22h
+    Command::Unknown, // 23h
+    Command::Unknown, // 24h
+    Command::ReadCapacity, // 25h
+    Command::Unknown, // 26h
+    Command::Unknown, // 27h
+    Command::Read10, // 28h
+    Command::Unknown, // 29h
+    Command::Unknown, // 2Ah
+    Command::Seek, // 2Bh
+    Command::Unknown, // 2Ch
+    Command::Unknown, // 2Dh
+    Command::Unknown, // 2Eh
+    Command::Unknown, // 2Fh
+    Command::Unknown, // 30h
+    Command::Unknown, // 31h
+    Command::Unknown, // 32h
+    Command::Unknown, // 33h
+    Command::Unknown, // 34h
+    Command::Unknown, // 35h
+    Command::Unknown, // 36h
+    Command::Unknown, // 37h
+    Command::Unknown, // 38h
+    Command::Unknown, // 39h
+    Command::Unknown, // 3Ah
+    Command::Unknown, // 3Bh
+    Command::Unknown, // 3Ch
+    Command::Unknown, // 3Dh
+    Command::Unknown, // 3Eh
+    Command::Unknown, // 3Fh
+    Command::Unknown, // 40h
+    Command::Unknown, // 41h
+    Command::ReadSubChannel, // 42h
+    Command::ReadToc, // 43h
+    Command::Unknown, // 44h
+    Command::PlayAudio, // 45h
+    Command::Unknown, // 46h
+    Command::Unknown, // 47h
+    Command::Unknown, // 48h
+    Command::Unknown, // 49h
+    Command::GetEvent, // 4Ah
+    Command::PauseResume, // 4Bh
+    Command::Unknown, // 4Ch
+    Command::Unknown, // 4Dh
+    Command::Unknown, // 4Eh
+    Command::Unknown, // 4Fh
+    Command::Unknown, // 50h
+    Command::Unknown, // 51h
+    Command::Unknown, // 52h
+    Command::Unknown, // 53h
+    Command::Unknown, // 54h
+    Command::ModeSelect, // 55h
+    Command::Unknown, // 56h
+    Command::Unknown, // 57h
+    Command::Unknown, // 58h
+    Command::Unknown, // 59h
+    Command::ModeSense, // 5Ah
+    Command::Unknown, // 5Bh
+    Command::Unknown, // 5Ch
+    Command::Unknown, // 5Dh
+    Command::Unknown, // 5Eh
+    Command::Unknown, // 5Fh
+    Command::Unknown, // 60h
+    Command::Unknown, // 61h
+    Command::Unknown, // 62h
+    Command::Unknown, // 63h
+    Command::Unknown, // 64h
+    Command::Unknown, // 65h
+    Command::Unknown, // 66h
+    Command::Unknown, // 67h
+    Command::Unknown, // 68h
+    Command::Unknown, // 69h
+    Command::Unknown, // 6Ah
+    Command::Unknown, // 6Bh
+    Command::Unknown, // 6Ch
+    Command::Unknown, // 6Dh
+    Command::Unknown, // 6Eh
+    Command::Unknown, // 6Fh
+    Command::Unknown, // 70h
+    Command::Unknown, // 71h
+    Command::Unknown, // 72h
+    Command::Unknown, // 73h
+    Command::Unknown, // 74h
+    Command::Unknown, // 75h
+    Command::Unknown, // 76h
+    Command::Unknown, // 77h
+    Command::Unknown, // 78h
+    Command::Unknown, // 79h
+    Command::Unknown, // 7Ah
+    Command::Unknown, // 7Bh
+    Command::Unknown, // 7Ch
+    Command::Unknown, // 7Dh
+    Command::Unknown, // 7Eh
+    Command::Unknown, // 7Fh
+    Command::Unknown, // 80h
+    Command::Unknown, // 81h
+    Command::Unknown, // 82h
+    Command::Unknown, // 83h
+    Command::Unknown, // 84h
+    Command::Unknown, // 85h
+    Command::Unknown, // 86h
+    Command::Unknown, // 87h
+    Command::Unknown, // 88h
+    Command::Unknown, // 89h
+    Command::Unknown, // 8Ah
+    Command::Unknown, // 8Bh
+    Command::Unknown, // 8Ch
+    Command::Unknown, // 8Dh
+    Command::Unknown, // 8Eh
+    Command::Unknown, // 8Fh
+    Command::Unknown, // 90h
+    Command::Unknown, // 91h
+    Command::Unknown, // 92h
+    Command::Unknown, // 93h
+    Command::Unknown, // 94h
+    Command::Unknown, // 95h
+    Command::Unknown, // 96h
+    Command::Unknown, // 97h
+    Command::Unknown, // 98h
+    Command::Unknown, // 99h
+    Command::Unknown, // 9Ah
+    Command::Unknown, // 9Bh
+    Command::Unknown, // 9Ch
+    Command::Unknown, // 9Dh
+    Command::Unknown, // 9Eh
+    Command::Unknown, // 9Fh
+    Command::Unknown, // A0h
+    Command::Unknown, // A1h
+    Command::Unknown, // A2h
+    Command::Unknown, // A3h
+    Command::Unknown, // A4h
+    Command::Unknown, // A5h
+    Command::Unknown, // A6h
+    Command::Unknown, // A7h
+    Command::Read12, // A8h
+    Command::Unknown, // A9h
+    Command::Unknown, // AAh
+    Command::Unknown, // ABh
+    Command::Unknown, // ACh
+    Command::Unknown, // ADh
+    Command::Unknown, // AEh
+    Command::Unknown, // AFh
+    Command::Unknown, // B0h
+    Command::Unknown, // B1h
+    Command::Unknown, // B2h
+    Command::Unknown, // B3h
+    Command::Unknown, // B4h
+    Command::Unknown, // B5h
+    Command::Unknown, // B6h
+    Command::Unknown, // B7h
+    Command::Unknown, // B8h
+    Command::Unknown, // B9h
+    Command::Unknown, // BAh
+    Command::Unknown, // BBh
+    Command::Unknown, // BCh
+    Command::Unknown, // BDh
+    Command::Unknown, // BEh
+    Command::Unknown, // BFh
+    Command::Unknown, // C0h
+    Command::Unknown, // C1h
+    Command::Unknown, // C2h
+    Command::Unknown, // C3h
+    Command::Unknown, // C4h
+    Command::Unknown, // C5h
+    Command::Unknown, // C6h
+    Command::Unknown, // C7h
+    Command::Unknown, // C8h
+    Command::Unknown, // C9h
+    Command::Unknown, // CAh
+    Command::Unknown, // CBh
+    Command::Unknown, // CCh
+    Command::Unknown, // CDh
+    Command::Unknown, // CEh
+    Command::Unknown, // CFh
+    Command::Unknown, // D0h
+    Command::Unknown, // D1h
+    Command::Unknown, // D2h
+    Command::Unknown, // D3h
+    Command::Unknown, // D4h
+    Command::Unknown, // D5h
+    Command::Unknown, // D6h
+    Command::Unknown, // D7h
+    Command::Unknown, // D8h
+    Command::Unknown, // D9h
+    Command::Unknown, // DAh
+    Command::Unknown, // DBh
+    Command::Unknown, // DCh
+    Command::Unknown, // DDh
+    Command::Unknown, // DEh
+    Command::Unknown, // DFh
+    Command::Unknown, // E0h
+    Command::Unknown, // E1h
+    Command::Unknown, // E2h
+    Command::Unknown, // E3h
+    Command::Unknown, // E4h
+    Command::Unknown, // E5h
+    Command::Unknown, // E6h
+    Command::Unknown, // E7h
+    Command::Unknown, // E8h
+    Command::Unknown, // E9h
+    Command::Unknown, // EAh
+    Command::Unknown, // EBh
+    Command::Unknown, // ECh
+    Command::Unknown, // EDh
+    Command::Unknown, // EEh
+    Command::Unknown, // EFh
+    Command::Unknown, // F0h
+    Command::Unknown, // F1h
+    Command::Unknown, // F2h
+    Command::Unknown, // F3h
+    Command::Unknown, // F4h
+    Command::Unknown, // F5h
+    Command::Unknown, // F6h
+    Command::Unknown, // F7h
+    Command::Unknown, // F8h
+    Command::Unknown, // F9h
+    Command::Unknown, // FAh
+    Command::Unknown, // FBh
+    Command::Unknown, // FCh
+    Command::Unknown, // FDh
+    Command::Unknown, // FEh
+    Command::Unknown, // FFh
 ];
 
 // One row of a lent table.
-fn row_of(rows: &[u8; 256], code: u8) -> u8
+fn row_of(rows: &[Command; 256], code: u8) -> Command
     ensures { result ≡ row_at rows.now code }
 {
     rows[wide(code)]
 }
 
-// The code's class.
-pub(crate) fn class_at(code: u8) -> u8
-    ensures { result ≡ class_at code }
+// The code's row: the command of its class.
+pub(crate) fn class_at(code: u8) -> Command
+    ensures { class_of result ≡ class_at code }
 {
     row_of(&ROWS, code)
-}
-
-// The command that a class stands for.
-pub(crate) fn command_of(class: u8) -> Command
-    ensures { result ≡ command_of class }
-{
-    match class {
-        TEST_UNIT_READY => Command::TestUnitReady,
-        REQUEST_SENSE => Command::RequestSense,
-        INQUIRY => Command::Inquiry,
-        START_STOP => Command::StartStop,
-        PREVENT => Command::Prevent,
-        READ_CAPACITY => Command::ReadCapacity,
-        READ_10 => Command::Read10,
-        SEEK => Command::Seek,
-        READ_TOC => Command::ReadToc,
-        READ_12 => Command::Read12,
-        PLAY_AUDIO => Command::PlayAudio,
-        PAUSE_RESUME => Command::PauseResume,
-        READ_SUB_CHANNEL => Command::ReadSubChannel,
-        MODE_SENSE => Command::ModeSense,
-        MODE_SELECT => Command::ModeSelect,
-        GET_EVENT => Command::GetEvent,
-        _ => Command::Unknown,
-    }
 }

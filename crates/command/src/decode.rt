@@ -2,27 +2,45 @@
 ghost use Rattle.std.specs.Prelude.{◌≡◌};
 ghost use Rattle.command.specs.Command.{decode, kind_of, starting, needing};
 
-use crate::class::{class_at, command_of};
+use crate::class::class_at;
 use crate::field::bit;
 
+// The commands, in the order of the definition's list of packets. Above each stands the name that docs/APPENDIX-A.md prints.
 #[derive(Clone, Copy)]
 pub enum Command {
+    // TEST UNIT READY
     TestUnitReady,
+    // REQUEST SENSE
     RequestSense,
+    // INQUIRY
     Inquiry,
+    // START/STOP UNIT
     StartStop,
+    // PREVENT/ALLOW
     Prevent,
+    // READ CAPACITY
     ReadCapacity,
+    // READ(10)
     Read10,
+    // SEEK(10)
     Seek,
+    // READ TOC
     ReadToc,
+    // READ(12)
     Read12,
+    // PLAY AUDIO(10)
     PlayAudio,
+    // PAUSE/RESUME
     PauseResume,
+    // READ SUB-CHANNEL
     ReadSubChannel,
+    // MODE SENSE(10)
     ModeSense,
+    // MODE SELECT(10)
     ModeSelect,
+    // GET EVENT STATUS NOTIFICATION
     GetEvent,
+    // unknown
     Unknown,
 }
 
@@ -30,7 +48,7 @@ pub enum Command {
 pub fn decode(code: u8) -> Command
     ensures { result ≡ decode code }
 {
-    command_of(class_at(code))
+    class_at(code)
 }
 
 // How a packet meets a pending attention.
