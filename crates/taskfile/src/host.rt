@@ -287,10 +287,7 @@ pub fn turn_of(f: TaskFile, a: Access, v: u8) -> Turn
             due: Due::Resets,
             file: reset(f),
         },
-        Access::Features => held_turn(f, written(f, a, v)),
-        Access::CountLow => held_turn(f, written(f, a, v)),
-        Access::CountHigh => held_turn(f, written(f, a, v)),
-        Access::Drive => held_turn(f, written(f, a, v)),
-        Access::Nowhere => held_turn(f, written(f, a, v)),
+        Access::Features | Access::CountLow | Access::CountHigh | Access::Drive | Access::Nowhere =>
+            held_turn(f, written(f, a, v)),
     }
 }
