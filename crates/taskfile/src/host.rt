@@ -6,7 +6,6 @@ ghost use Rattle.taskfile.specs.Host.{access_of, begun, gone, answered, packet_e
 
 use crate::run::{count_of, counting, into_run, limit_of, phase_of, takes_list};
 use crate::{Access, Due, Phase, TaskFile, Turn, run};
-use ground::number::smaller;
 
 // The numbers of the accesses: the register's address, and two above them.
 pub const DATA: u8 = 0;
@@ -49,25 +48,27 @@ pub fn access_of(n: u8) -> Access
 fn placed(f: TaskFile, reason: u8, limit: usize, len: usize, at: usize) -> TaskFile
     ensures { result ≡ placed f reason limit len at }
 {
-    let mut next = f;
-    next.reason = reason;
-    next.limit = limit;
-    next.len = len;
-    next.at = at;
-    next
+    TaskFile {
+        reason,
+        limit,
+        len,
+        at,
+        ..f
+    }
 }
 
 // The record with those registers.
 fn holding(f: TaskFile, features: u8, low: u8, high: u8, drive: u8, status: u8) -> TaskFile
     ensures { result ≡ holding f features low high drive status }
 {
-    let mut next = f;
-    next.features = features;
-    next.low = low;
-    next.high = high;
-    next.drive = drive;
-    next.status = status;
-    next
+    TaskFile {
+        features,
+        low,
+        high,
+        drive,
+        status,
+        ..f
+    }
 }
 
 // Status ends a transfer.
@@ -96,7 +97,7 @@ fn begun(f: TaskFile, reason: u8, n: usize) -> TaskFile
     ensures { result ≡ begun f reason n }
 {
     let limit = f.limit;
-    counting(placed(f, reason, limit, n, 0), smaller(limit, n))
+    counting(placed(f, reason, limit, n, 0), limit.min(n))
 }
 
 // A byte went, and more remain: where its run is over the next one begins.
@@ -108,7 +109,7 @@ fn gone(f: TaskFile) -> TaskFile
     let limit = f.limit;
     let next = placed(f, f.reason, limit, f.len, at);
     if into_run(at, limit) == 0 {
-        return counting(next, smaller(limit, f.len - at));
+        return counting(next, limit.min(f.len - at));
     }
     next
 }
@@ -212,10 +213,9 @@ fn data_turn(f: TaskFile, v: u8) -> Turn
     ensures { result ≡ data_turn (phase_of f) f v }
 {
     match phase_of(f) {
-        Phase::Idle => refused(f),
         Phase::PacketRun => packet_byte(f, v),
         Phase::ListRun => list_byte(f, v),
-        Phase::AnswerRun => refused(f),
+        Phase::Idle | Phase::AnswerRun => refused(f),
     }
 }
 
@@ -224,10 +224,8 @@ fn read_turn(f: TaskFile) -> Turn
     ensures { result ≡ read_turn (phase_of f) f }
 {
     match phase_of(f) {
-        Phase::Idle => refused(f),
-        Phase::PacketRun => refused(f),
-        Phase::ListRun => refused(f),
         Phase::AnswerRun => answer_byte(f),
+        Phase::Idle | Phase::PacketRun | Phase::ListRun => refused(f),
     }
 }
 
@@ -237,9 +235,7 @@ fn write_turn(f: TaskFile, turn: Turn) -> Turn
 {
     match phase_of(f) {
         Phase::Idle => turn,
-        Phase::PacketRun => refused(f),
-        Phase::ListRun => refused(f),
-        Phase::AnswerRun => refused(f),
+        Phase::PacketRun | Phase::ListRun | Phase::AnswerRun => refused(f),
     }
 }
 
@@ -275,11 +271,7 @@ fn written(f: TaskFile, a: Access, v: u8) -> TaskFile
         Access::CountLow => holding(f, f.features, v, f.high, f.drive, f.status),
         Access::CountHigh => holding(f, f.features, f.low, v, f.drive, f.status),
         Access::Drive => holding(f, f.features, f.low, f.high, v, f.status),
-        Access::Data => f,
-        Access::Command => f,
-        Access::Nowhere => f,
-        Access::Read => f,
-        Access::Reset => f,
+        Access::Data | Access::Command | Access::Nowhere | Access::Read | Access::Reset => f,
     }
 }
 
@@ -295,10 +287,7 @@ pub fn turn_of(f: TaskFile, a: Access, v: u8) -> Turn
             due: Due::Resets,
             file: reset(f),
         },
-        Access::Features => held_turn(f, written(f, a, v)),
-        Access::CountLow => held_turn(f, written(f, a, v)),
-        Access::CountHigh => held_turn(f, written(f, a, v)),
-        Access::Drive => held_turn(f, written(f, a, v)),
-        Access::Nowhere => held_turn(f, written(f, a, v)),
+        Access::Features | Access::CountLow | Access::CountHigh | Access::Drive | Access::Nowhere =>
+            held_turn(f, written(f, a, v)),
     }
 }

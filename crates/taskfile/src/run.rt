@@ -4,7 +4,7 @@ ghost use Rattle.taskfile.specs.TaskFile.{counting, count_of};
 ghost use Rattle.taskfile.specs.Run.{limit_of, is_limit, size_of, is_run, takes_list, is_packet_run, is_list_run, is_answer_run, phase_of, left_in, left_of};
 
 use crate::{Phase, TaskFile};
-use ground::number::{bytes16, smaller, word16};
+use ground::number::{bytes16, word16};
 use table::layout::BOUND;
 
 // The interrupt reasons: IO is bit 1, CoD bit 0.
@@ -46,10 +46,7 @@ pub fn limit_of(count: usize) -> usize
 fn is_limit(m: usize) -> bool
     ensures { result ≡ is_limit m }
 {
-    if m < 65536 {
-        return limit_of(m) == m;
-    }
-    false
+    m < 65536 && limit_of(m) == m
 }
 
 // How many bytes of its run went before the byte at.
@@ -70,7 +67,7 @@ fn size_of(f: TaskFile) -> usize
     let at = f.at;
     let limit = f.limit;
     let begun = at - into_run(at, limit);
-    smaller(limit, f.len - begun)
+    limit.min(f.len - begun)
 }
 
 // The bytes left of it.
@@ -78,12 +75,7 @@ fn left(f: TaskFile) -> usize
     requires { f.at < f.len }
     ensures { result ≡ left_in f }
 {
-    let gone = into_run(f.at, f.limit);
-    let size = size_of(f);
-    if size < gone {
-        return 0;
-    }
-    size - gone
+    size_of(f).saturating_sub(into_run(f.at, f.limit))
 }
 
 // The byte count.
@@ -98,76 +90,43 @@ pub(crate) fn counting(f: TaskFile, n: usize) -> TaskFile
     ensures { result ≡ counting f n }
 {
     let b = bytes16(n);
-    let mut next = f;
-    next.high = b[0];
-    next.low = b[1];
-    next
+    TaskFile {
+        high: b[0],
+        low: b[1],
+        ..f
+    }
 }
 
 // The record is in a run of list or answer: its limit is one, there is a next byte, and the byte count has the run's bytes.
 fn is_run(f: TaskFile) -> bool
     ensures { result ≡ is_run f }
 {
-    if is_limit(f.limit) {
-        if f.at < f.len {
-            return count_of(f) == size_of(f);
-        }
-        return false;
-    }
-    false
+    is_limit(f.limit) && f.at < f.len && count_of(f) == size_of(f)
 }
 
 // Only 55h asking for 16 bytes takes a list.
 pub(crate) fn takes_list(p: [u8; 12]) -> bool
     ensures { result ≡ takes_list p }
 {
-    if p[0] == SELECT {
-        return word16(p[7], p[8]) == LIST;
-    }
-    false
+    p[0] == SELECT && word16(p[7], p[8]) == LIST
 }
 
 fn is_packet_run(f: TaskFile) -> bool
     ensures { result ≡ is_packet_run f }
 {
-    if f.reason == TAKES_PACKET {
-        if f.limit == PACKET {
-            if f.len == PACKET {
-                return f.at < PACKET;
-            }
-            return false;
-        }
-        return false;
-    }
-    false
+    f.reason == TAKES_PACKET && f.limit == PACKET && f.len == PACKET && f.at < PACKET
 }
 
 fn is_list_run(f: TaskFile) -> bool
     ensures { result ≡ is_list_run f }
 {
-    if f.reason == TAKES_LIST {
-        let p = f.packet;
-        if takes_list(p) {
-            if f.len == LIST {
-                return is_run(f);
-            }
-            return false;
-        }
-        return false;
-    }
-    false
+    f.reason == TAKES_LIST && takes_list(f.packet) && f.len == LIST && is_run(f)
 }
 
 fn is_answer_run(f: TaskFile) -> bool
     ensures { result ≡ is_answer_run f }
 {
-    if f.reason == GIVES_ANSWER {
-        if f.len <= BOUND {
-            return is_run(f);
-        }
-        return false;
-    }
-    false
+    f.reason == GIVES_ANSWER && f.len <= BOUND && is_run(f)
 }
 
 // The run that a record is in; one that no call could have made is in none.
@@ -192,8 +151,6 @@ pub fn left_of(f: TaskFile) -> usize
 {
     match phase_of(f) {
         Phase::Idle => 0,
-        Phase::PacketRun => left(f),
-        Phase::ListRun => left(f),
-        Phase::AnswerRun => left(f),
+        Phase::PacketRun | Phase::ListRun | Phase::AnswerRun => left(f),
     }
 }

@@ -7,7 +7,7 @@ use Rattle.taskfile.proofs.host.gone.Goals as goal
 
 pub returns-then-into_run-eq0 : goal.returns-then-into_run-eq0
 unfolding gone choose◌then◌else◌
-returns-then-into_run-eq0 c = c.counting.ensures ∙ rw (eq-eqb _ _ (sym c.into_run.ensures ∙ c.if-into_run-eq0.true), c.placed-next.ensures, c.smaller.ensures)
+returns-then-into_run-eq0 c = c.counting.ensures ∙ rw (eq-eqb _ _ (sym c.into_run.ensures ∙ c.if-into_run-eq0.true), c.placed-next.ensures, c.min.ensures)
 
 pub returns : goal.returns
 unfolding gone choose◌then◌else◌
