@@ -1,6 +1,6 @@
 -- "For any input a public function's promise leaves one possible result, one next state and one content of each lent memory, refusals as well."
 -- A law for each public function, by its name: two results that meet its promise are equal.
-use Rattle.std.specs.Prelude.{◌≡◌, refl, Bool, List, ℕ, ◌≤◌, ◌<◌, min, length, take, get_or, Result, Ok, Err}
+use Rattle.std.specs.Prelude.{◌≡◌, refl, Bool, List, ℕ, ◌≤◌, ◌<◌, min, length, take, get_or, Option, Result, Ok, Err}
 use Rattle.std.proofs.Common.{sym, ap, ◌∙◌, arith}
 use Rattle.std.specs.Borrow.{Bor}
 use denote.Slice.{shr_slice_vals}
@@ -324,7 +324,7 @@ unique-holds e low r s = value_once
 pub unique-session-bytes : (d : List ℕ) (r s : ℕ) → r ≡ size d → s ≡ size d → r ≡ s
 unique-session-bytes d r s = value_once
 
-pub unique-read-session : (d : List ℕ) (k : ℕ) (r s : Session) → r ≡ read_session k d → s ≡ read_session k d → r ≡ s
+pub unique-read-session : (d : List ℕ) (k : ℕ) (r s : Option Session) → r ≡ read_session k d → s ≡ read_session k d → r ≡ s
 unique-read-session d k r s = value_once
 
 pub unique-starts-after : (d : List ℕ) (n r s : ℕ) → r ≡ starts d n → s ≡ starts d n → r ≡ s
