@@ -72,6 +72,13 @@ unfolding ◌and◌
 and_assoc true b c = refl
 and_assoc false b c = refl
 
+-- three tests, and four, asked one after another
+pub and_three : (a b c : Bool) {v r : Bool} → v ≡ a and b → r ≡ v and c → r ≡ a and b and c
+and_three a b c p s = s ∙ rw p (and_assoc a b c)
+
+pub and_four : (a b c d : Bool) {v w r : Bool} → v ≡ a and b → w ≡ v and c → r ≡ w and d → r ≡ a and b and c and d
+and_four a b c d p q s = and_three a b (c and d) p (s ∙ rw q (and_assoc _ c d))
+
 -- ---- or
 
 pub or_left : (a b : Bool) → a ≡ true → a or b ≡ true

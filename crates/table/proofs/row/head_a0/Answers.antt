@@ -1,15 +1,11 @@
 -- `table::row::head_a0` meets its contract: the three types are the multiples of 10h up to 20h.
-use Rattle.std.proofs.Common.{◌≡◌, refl, ap, ◌∙◌, ◌%◌, Bool, eqb, leb}
+use Rattle.std.proofs.Common.{◌≡◌, refl, ap, ◌∙◌, ◌%◌, eqb, leb}
 use borrow.Author.Tests.{eq-eqb, ne_eqb}
-use Rattle.ground.specs.Tests.{◌and◌, and_on, and_off, and_assoc}
+use Rattle.ground.specs.Tests.{◌and◌, and_on, and_off, and_three}
 use Rattle.table.specs.Row.{head_a0}
 use Rattle.table.specs.RowLaws.{types-tested}
 use Rattle.table.proofs.row.head_a0.Goals as goal
 use Rattle.table.proofs.row.head_a0.Goals.{then-r-eq0, else-r-eq0}
-
--- the last two of three tests are one
-joined : (a b c : Bool) {v r t : Bool} → v ≡ a and b → r ≡ v and c → (b and c) ≡ t → r ≡ a and t
-joined a b c p s q = s ∙ rw p (and_assoc a b c) ∙ ap (λ x. a and x) q
 
 pub returns-then-wide-eq0 : goal.returns-then-wide-eq0
 unfolding head_a0
@@ -19,7 +15,7 @@ returns-then-wide-eq0 c =
       | then-r-eq0 w ↦ and_on _ _ (eq-eqb _ _ w.if-r-eq0.true) (w.value-is ∙ rw w.wide.ensures.same)
       | else-r-eq0 w ↦ let f = ne_eqb _ _ w.if-r-eq0.false in w.value-is ∙ f ∙ and_off _ _ f
     ] in
-    joined _ _ _ two (and_on _ _ c.if-wide-eq0.true refl) (types-tested r.psec)
+    and_three _ _ _ two (and_on _ _ c.if-wide-eq0.true refl) ∙ ap (λ b. eqb r.pframe 0 and b) (types-tested r.psec)
 
 pub returns-else-wide-eq0 : goal.returns-else-wide-eq0
 unfolding head_a0
@@ -29,4 +25,4 @@ returns-else-wide-eq0 c =
       | then-r-eq0 w ↦ and_on _ _ (eq-eqb _ _ w.if-r-eq0.true) (w.value-is ∙ rw w.wide.ensures.same)
       | else-r-eq0 w ↦ let f = ne_eqb _ _ w.if-r-eq0.false in w.value-is ∙ f ∙ and_off _ _ f
     ] in
-    joined _ _ (leb r.psec 0x20) two (c.if-wide-eq0.false ∙ and_off _ _ c.if-wide-eq0.false) (types-tested r.psec)
+    and_three _ _ (leb r.psec 0x20) two (c.if-wide-eq0.false ∙ and_off _ _ c.if-wide-eq0.false) ∙ ap (λ b. eqb r.pframe 0 and b) (types-tested r.psec)
