@@ -325,7 +325,7 @@ unique-holds e low r s = value_once
 pub unique-session-bytes : (d : List ℕ) (r s : ℕ) → r ≡ size d → s ≡ size d → r ≡ s
 unique-session-bytes d r s = value_once
 
-pub unique-read-session : (d : List ℕ) (k : ℕ) (r s : Session) → r ≡ read_session k d → s ≡ read_session k d → r ≡ s
+pub unique-read-session : (d : List ℕ) (k : ℕ) (r s : Option Session) → r ≡ read_session k d → s ≡ read_session k d → r ≡ s
 unique-read-session d k r s = value_once
 
 pub unique-starts-after : (d : List ℕ) (n r s : ℕ) → r ≡ starts d n → s ≡ starts d n → r ≡ s

@@ -160,3 +160,11 @@ pub every-same : (n : ℕ) (p q : ℕ → Bool) → ((i : ℕ) → i < n → p i
 unfolding every
 every-same zero p q f = refl
 every-same (suc n) p q f = rw (every-same n p q (λ i k. f i (omega arith))) (rw (f n (omega arith)))
+
+-- ---- tests asked one after another
+
+pub and_three : (a b c : Bool) {v r : Bool} → v ≡ a and b → r ≡ v and c → r ≡ a and b and c
+and_three a b c p s = s ∙ rw p (and_assoc a b c)
+
+pub and_four : (a b c d : Bool) {v w r : Bool} → v ≡ a and b → w ≡ v and c → r ≡ w and d → r ≡ a and b and c and d
+and_four a b c d p q s = and_three a b (c and d) p (s ∙ rw q (and_assoc _ c d))

@@ -1,6 +1,5 @@
 // A session, read as the part of the table that begins at its A0 descriptor.
 ghost use Rattle.std.specs.Prelude.{◌≡◌, ◌+◌, ◌*◌, ◌≤◌, ◌<◌, length, drop};
-ghost use Rattle.ground.specs.Tests.{every};
 ghost use Rattle.table.specs.Layout.{row, point_at};
 ghost use Rattle.table.specs.Row.{row_at, names};
 ghost use Rattle.sessions.specs.Session.{tracks, one, size, listed, numbered, read_session, starts};
@@ -25,14 +24,6 @@ fn named(d: &[u8], k: usize, j: usize, p: usize) -> bool
     wide(d[at]) == k && wide(d[at + POINT]) == p
 }
 
-// The n descriptors after the third are the tracks from number f on.
-fn lists_tracks(d: &[u8], k: usize, f: usize, n: usize) -> bool
-    requires { (row * (3 + n) ≤ length d.now) × (f ≤ 256) × (n ≤ 256) }
-    ensures { result ≡ every n (λ i. names (row_at d.now (3 + i)) k (f + i)) }
-{
-    (0..n).all(|i| named(d, k, 3 + i, f + i))
-}
-
 // The descriptors of session k name A0, A1, A2 and then the n tracks from number f on.
 fn listed(d: &[u8], k: usize, f: usize, n: usize) -> bool
     requires { (row * (3 + n) ≤ length d.now) × (f ≤ 256) × (n ≤ 256) }
@@ -41,7 +32,7 @@ fn listed(d: &[u8], k: usize, f: usize, n: usize) -> bool
     named(d, k, 0, wide(A0))
         && named(d, k, 1, wide(A1))
         && named(d, k, 2, wide(A2))
-        && lists_tracks(d, k, f, n)
+        && (0..n).all(|i| named(d, k, 3 + i, f + i))
 }
 
 // The m descriptors from j on are of session k.

@@ -3,7 +3,7 @@ use Rattle.std.specs.Prelude.{◌≡◌, refl, Bool, true, false, not, List, ℕ
 use Rattle.std.proofs.Common.{sym, ap, ◌∙◌, arith, add-zero, le-leb, eq-eqb, eqb-true, ne_eqb, length-drop, get_or-drop, get_or-take, length-take-le}
 use Rattle.std.proofs.Math.Decide.{ℕ_discrete}
 use Rattle.std.proofs.lemmas.Bool.{lt-leb}
-use Rattle.ground.specs.Tests.{◌and◌, ◌or◌, choose◌then◌else◌, and_head, and_both, and_off, and_late, or_left, or_right, or_else, when, unless}
+use Rattle.ground.specs.Tests.{◌and◌, ◌or◌, choose◌then◌else◌, and_head, and_both, and_on, and_off, and_late, or_left, or_right, or_else, when, unless}
 use Rattle.address.specs.Address.{is_msf}
 use Rattle.address.specs.Laws.{InRange, is_msf_range}
 use Rattle.table.specs.Layout.{row, A0, A1, A2, B0, C0, is_track, is_extra}
@@ -106,6 +106,13 @@ pub types_not : (s : ℕ) → (s % 16 ≡ 0 → ⊥) → (eqb s 0x00 or eqb s 0x
 types_not s n =
     or_else _ _ (ne_eqb s 0x00 (λ e. n (omega arith))) ∙ or_else _ _ (ne_eqb s 0x10 (λ e. n (omega arith))) ∙ ne_eqb s 0x20
     (λ e. n (omega arith))
+
+-- so the code's two tests are the three
+pub types-tested : (s : ℕ) → (eqb (s % 16) 0 and leb s 0x20) ≡ (eqb s 0x00 or eqb s 0x10 or eqb s 0x20)
+types-tested s = elim (ℕ_discrete (s % 16) 0) [
+  | yes e ↦ sym (and_on _ _ (eq-eqb _ _ e) refl) ∙ types-most s e
+  | no n ↦ sym (and_off _ _ (ne_eqb _ _ n)) ∙ sym (types_not s n)
+]
 
 -- a simple descriptor keeps rule 3 unless it is a B0h or a C0h
 pub plain_unless : (r : Row) → simple r ≡ true → not (is_extra r.point) ≡ plain r

@@ -1,5 +1,5 @@
 -- `sessions::session::one_at` meets its contract: the byte tested is the POINT of a descriptor that begins there.
-use Rattle.std.proofs.Common.{sym, ap, ◌∙◌, get_or-drop}
+use Rattle.std.proofs.Common.{◌∙◌, get_or-drop}
 use Rattle.sessions.specs.SessionLaws.{one-counts}
 use Rattle.sessions.proofs.session.one_at.Goals as goal
 
