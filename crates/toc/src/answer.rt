@@ -8,14 +8,14 @@ ghost use Rattle.toc.specs.AnswerLaws.{head_of};
 use crate::shown::{Show, put_all, put_described, shown_count};
 use disc::disc::Disc;
 use ground::memory::copy_front;
-use ground::number::{bytes16, smaller};
+use ground::number::bytes16;
 use sessions::session::starts_after;
 use table::layout::ROW;
 
 // The lead-out's number.
 pub const AA: u8 = 0xAA;
 
-// What READ TOC's packet asks for.
+// What READ TOC's packet asks for. The format is a number: `toc_bad` and `toc_bytes`, which theorems of the claims name, take any.
 #[derive(Clone, Copy)]
 pub struct TocAsk {
     pub format: usize,
@@ -24,22 +24,16 @@ pub struct TocAsk {
 }
 
 // The field checks: a number over the last track or session, or an unknown format.
+#[tactic(auto, using(ground::specs::TestValues::test_values, ground::specs::Tests::when, ground::specs::Tests::unless), unfolding(crate::specs::Answer::toc_bad))]
 pub fn toc_bad(disc: Disc, ask: TocAsk) -> bool
     ensures { result ≡ toc_bad disc ask.format ask.number }
 {
-    if ask.format == 0 {
-        if disc.last < ask.number {
-            return ask.number != AA;
-        }
-        return false;
+    match ask.format {
+        0 => disc.last < ask.number && ask.number != AA,
+        1 => false,
+        2 => disc.sessions < ask.number,
+        _ => true,
     }
-    if ask.format == 1 {
-        return false;
-    }
-    if ask.format == 2 {
-        return disc.sessions < ask.number;
-    }
-    true
 }
 
 // The header of an answer: its data length n and two numbers.
@@ -78,21 +72,11 @@ fn put_format1(disc: Disc, msf: bool, part: &mut [u8]) -> usize
     at
 }
 
-// How many sessions stand before session n; none before session 0.
-fn sessions_before(n: u8) -> u8
-    ensures { result ≡ n - 1 }
-{
-    if n == 0 {
-        return 0;
-    }
-    n - 1
-}
-
 // The descriptors of sessions n and up; session 0 stands for the first.
 fn sessions_from(d: &[u8], n: u8) -> &[u8]
     ensures { result.now ≡ session d.now (n - 1) }
 {
-    let from = smaller(starts_after(d, sessions_before(n)), d.len());
+    let from = starts_after(d, n.saturating_sub(1)).min(d.len());
     &d[from..]
 }
 
@@ -110,19 +94,17 @@ fn put_format2(d: &[u8], disc: Disc, n: u8, part: &mut [u8]) -> usize
 fn put_full(d: &[u8], disc: Disc, ask: TocAsk, part: &mut [u8]) -> usize
     ensures { Laid part.old (toc_bytes disc ask.format ask.msf ask.number d.now) result part.new }
 {
-    if ask.format == 0 {
-        return put_format0(d, disc, ask.msf, ask.number, part);
+    match ask.format {
+        0 => put_format0(d, disc, ask.msf, ask.number, part),
+        1 => put_format1(disc, ask.msf, part),
+        _ => put_format2(d, disc, ask.number, part),
     }
-    if ask.format == 1 {
-        return put_format1(disc, ask.msf, part);
-    }
-    put_format2(d, disc, ask.number, part)
 }
 
 // The answer cut to the allocation length.
 pub fn put_toc(d: &[u8], disc: Disc, ask: TocAsk, room: usize, mem: &mut [u8]) -> usize
     ensures { Laid mem.old (take room (toc_bytes disc ask.format ask.msf ask.number d.now)) result mem.new }
 {
-    let e = smaller(room, mem.len());
+    let e = room.min(mem.len());
     put_full(d, disc, ask, &mut mem[..e])
 }

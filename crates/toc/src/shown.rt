@@ -34,24 +34,18 @@ fn is_shown(d: &[u8], n: u8, j: usize) -> bool
 {
     let at = ROW * j;
     let p = d[at + POINT];
-    if is_track(wide(p)) {
-        return n <= p;
-    }
-    false
+    is_track(wide(p)) && n <= p
 }
 
 // How many descriptors are shown.
 pub(crate) fn shown_count(d: &[u8], n: u8) -> usize
     ensures { result ≡ shown_count n d.now (rows d.now) }
 {
-    let end = d.len() / ROW;
-    let mut j = 0;
     let mut k = 0;
-    while j < end {
+    for j in 0..d.len() / ROW {
         if is_shown(d, n, j) {
             k += 1;
         }
-        j += 1;
     }
     k
 }
@@ -101,12 +95,9 @@ fn put_one(d: &[u8], show: Show, j: usize, rest: &mut [u8]) -> usize
 pub(crate) fn put_all(d: &[u8], show: Show, part: &mut [u8]) -> usize
     ensures { Laid part.old (listed show d.now (rows d.now)) result part.new }
 {
-    let end = d.len() / ROW;
-    let mut j = 0;
     let mut at = 0;
-    while j < end {
+    for j in 0..d.len() / ROW {
         at += put_one(d, show, j, &mut part[at..]);
-        j += 1;
     }
     at
 }

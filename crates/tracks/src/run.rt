@@ -11,10 +11,7 @@ use table::layout::{A2, ROW, is_track};
 fn passes(mode: Mode, c: Track, a: usize, n: usize) -> bool
     ensures { result ≡ passes mode c a (a + n) }
 {
-    if c.start < a {
-        return true;
-    }
-    if n <= c.start - a {
+    if c.start < a || n <= c.start - a {
         return true;
     }
     if is_track(wide(c.number)) {
@@ -27,12 +24,8 @@ fn passes(mode: Mode, c: Track, a: usize, n: usize) -> bool
 fn all_pass(mode: Mode, d: &[u8], a: usize, n: usize) -> bool
     ensures { result ≡ all_pass mode d.now a (a + n) }
 {
-    let end = d.len() / ROW;
-    let mut j = 0;
-    while j < end {
-        if passes(mode, track_at(d, j, 0), a, n) {
-            j += 1;
-        } else {
+    for j in 0..d.len() / ROW {
+        if !passes(mode, track_at(d, j, 0), a, n) {
             return false;
         }
     }
@@ -43,11 +36,5 @@ fn all_pass(mode: Mode, d: &[u8], a: usize, n: usize) -> bool
 pub fn run_is(mode: Mode, t: &[u8], a: usize, n: usize) -> bool
     ensures { result ≡ run_is mode (descriptors t.now) a n }
 {
-    if n == 0 {
-        return true;
-    }
-    if is_mode(mode, track_of(t, a)) {
-        return all_pass(mode, descriptors(t), a, n);
-    }
-    false
+    n == 0 || is_mode(mode, track_of(t, a)) && all_pass(mode, descriptors(t), a, n)
 }

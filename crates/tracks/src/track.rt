@@ -7,7 +7,8 @@ use address::address_of;
 use ground::number::wide;
 use table::layout::{A2, FLAGS, HEADER, PFRAME, PMIN, POINT, PSEC, ROW, is_track};
 
-// A track: its number, ADR/control, start, and its session's lead-out. Number 0 is no track.
+// A track: its number, ADR/control, start, and its session's lead-out. Number 0 is no track, and no `Option`: READ SUB-CHANNEL shows its
+// zeros, and the theorems over `track_of` and `track_numbered` say so.
 #[derive(Clone, Copy)]
 pub struct Track {
     pub number: u8,
@@ -62,10 +63,7 @@ pub(crate) fn is_flagged(mode: Mode, flags: u8) -> bool
 pub(crate) fn is_mode(mode: Mode, u: Track) -> bool
     ensures { result ≡ is_mode mode u }
 {
-    if is_track(wide(u.number)) {
-        return is_flagged(mode, u.flags);
-    }
-    false
+    is_track(wide(u.number)) && is_flagged(mode, u.flags)
 }
 
 // Descriptor j as a track, where `out` is the lead-out of its session.
@@ -96,13 +94,11 @@ fn wanted(ask: Ask, c: Track, u: Track) -> bool
 }
 
 // A start not above the block, and not below the greatest so far.
+#[tactic(auto, using(ground::specs::TestValues::test_values), unfolding(crate::specs::Track::covers))]
 fn covers(start: usize, block: usize, greatest: usize) -> bool
     ensures { result ≡ covers start block greatest }
 {
-    if start <= block {
-        return greatest <= start;
-    }
-    false
+    start <= block && greatest <= start
 }
 
 // What is found once descriptor c has been read too.
@@ -129,15 +125,12 @@ fn next_out(c: Track) -> usize
 fn found(ask: Ask, d: &[u8]) -> Track
     ensures { result ≡ found ask d.now (rows d.now) }
 {
-    let end = d.len() / ROW;
-    let mut j = 0;
     let mut out = 0;
     let mut u = no_track();
-    while j < end {
+    for j in 0..d.len() / ROW {
         let c = track_at(d, j, out);
         u = next_found(ask, c, u);
         out = next_out(c);
-        j += 1;
     }
     u
 }
