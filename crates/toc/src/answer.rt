@@ -24,6 +24,7 @@ pub struct TocAsk {
 }
 
 // The field checks: a number over the last track or session, or an unknown format.
+#[tactic(auto, using(ground::specs::TestValues::test_values, ground::specs::Tests::when, ground::specs::Tests::unless), unfolding(crate::specs::Answer::toc_bad))]
 pub fn toc_bad(disc: Disc, ask: TocAsk) -> bool
     ensures { result ≡ toc_bad disc ask.format ask.number }
 {

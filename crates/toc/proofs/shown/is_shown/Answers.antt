@@ -14,6 +14,7 @@ pub returns-then-is_track : goal.returns-then-is_track
 unfolding is_shown
 returns-then-is_track c = and_on _ _ (sym (told (goal.at.returns-then-is_track c).After-is_track) ∙ c.if-is_track.true) refl
 
-pub returns : goal.returns
+pub returns-else-is_track : goal.returns-else-is_track
 unfolding is_shown
-returns c = and_off _ _ (sym (told (goal.at.returns c).After-is_track) ∙ c.if-is_track.false)
+returns-else-is_track c =
+    c.if-is_track.false ∙ and_off _ _ (sym (told (goal.at.returns-else-is_track c).After-is_track) ∙ c.if-is_track.false)

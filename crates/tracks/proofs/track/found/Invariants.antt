@@ -1,12 +1,7 @@
 -- `tracks::track::found` meets its contract: after j descriptors it holds what the definition finds and the lead-out that stands there.
 use mathlib.Core.Path.{◌≡◌}
-use Prim.Native.Nat.{◌-◌, ◌≤◌}
-use Rattle.table.specs.Layout.{rows}
 use Rattle.tracks.specs.Track.{out_at, found}
 use Rattle.tracks.proofs.track.found.Given as goal
 
 abbrev pub invariant-loop-j : goal.invariant-loop-j
-invariant-loop-j l = (l.j ≤ rows l.d) × (l.out ≡ out_at l.d l.j) × (l.u ≡ found l.ask l.d l.j)
-
-abbrev pub decreases-loop-j : goal.decreases-loop-j
-decreases-loop-j l = rows l.d - l.j
+invariant-loop-j l = (l.out ≡ out_at l.d l.j) × (l.u ≡ found l.ask l.d l.j)

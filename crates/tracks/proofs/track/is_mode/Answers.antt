@@ -9,6 +9,6 @@ pub returns-then-is_track : goal.returns-then-is_track
 unfolding is_mode
 returns-then-is_track c = and_on _ _ (ap is_track (sym c.wide.ensures.same) ∙ sym c.is_track.ensures ∙ c.if-is_track.true) c.is_flagged.ensures
 
-pub returns : goal.returns
+pub returns-else-is_track : goal.returns-else-is_track
 unfolding is_mode
-returns c = and_off _ _ (ap is_track (sym c.wide.ensures.same) ∙ sym c.is_track.ensures ∙ c.if-is_track.false)
+returns-else-is_track c = c.if-is_track.false ∙ and_off _ _ (ap is_track (sym c.wide.ensures.same) ∙ sym c.is_track.ensures ∙ c.if-is_track.false)
