@@ -11,21 +11,14 @@ const MOST: usize = 131072;
 
 // What a refusal's number means.
 fn say_refused(rt: &HostRuntime, number: u8) {
-    if number == NOT_WHOLE {
-        say(
-            rt,
-            b"refused 12: the sheet is not whole entries of 8 bytes\n",
-        );
-        return;
-    }
-    if number == NO_TABLE {
-        say(
-            rt,
-            b"refused 13: the sheet is not as described, or no fit table has its tracks, controls and addresses\n",
-        );
-        return;
-    }
-    say(rt, b"refused 14: the output memory is under 6,538 bytes\n");
+    let text: &[u8] = match number {
+        NOT_WHOLE => b"refused 12: the sheet is not whole entries of 8 bytes\n",
+        NO_TABLE => {
+            b"refused 13: the sheet is not as described, or no fit table has its tracks, controls and addresses\n"
+        }
+        _ => b"refused 14: the output memory is under 6,538 bytes\n",
+    };
+    say(rt, text);
 }
 
 // Writes the sheet's table, or says why there is none.
