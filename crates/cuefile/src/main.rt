@@ -9,19 +9,16 @@ use table::layout::BOUND;
 // The most bytes of a sheet file: 16,384 entries, where 99 tracks with 100 indexes each have 9,902. The call itself has no such bound.
 const MOST: usize = 131072;
 
-// The refusal's number and what it means.
+// What a refusal's number means.
 fn say_refused(rt: &HostRuntime, refusal: Refusal) {
-    match refusal {
-        Refusal::NotWhole => say(
-            rt,
-            b"refused 12: the sheet is not whole entries of 8 bytes\n",
-        ),
-        Refusal::NoTable => say(
-            rt,
-            b"refused 13: the sheet is not as described, or no fit table has its tracks, controls and addresses\n",
-        ),
-        Refusal::NoRoom => say(rt, b"refused 14: the output memory is under 6,538 bytes\n"),
-    }
+    let text: &[u8] = match refusal {
+        Refusal::NotWhole => b"refused 12: the sheet is not whole entries of 8 bytes\n",
+        Refusal::NoTable => {
+            b"refused 13: the sheet is not as described, or no fit table has its tracks, controls and addresses\n"
+        }
+        Refusal::NoRoom => b"refused 14: the output memory is under 6,538 bytes\n",
+    };
+    say(rt, text);
 }
 
 // Writes the sheet's table, or says why there is none.

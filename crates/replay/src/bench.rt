@@ -1,5 +1,5 @@
 // What is kept from record to record, and what each kind of record does with it (those of the changer in `magazine`, of the registers in `host`).
-ghost use Rattle.std.specs.Prelude.{◌≡◌, length, replicate};
+ghost use Rattle.std.specs.Prelude.{◌≡◌, length};
 
 use crate::given::{TOTALS, totals_of};
 use crate::host::call_host;
@@ -86,18 +86,17 @@ pub(crate) fn empty() -> Bench {
 
 // What is kept, with that drive.
 pub(crate) fn with_drive(bench: Bench, drive: Drive) -> Bench {
-    let mut next = bench;
-    next.drive = drive;
-    next
+    Bench { drive, ..bench }
 }
 
 // What is kept, with so many bytes of the table, of the list and of the memory.
 fn with_lent(bench: Bench, table: usize, list: usize, memory: usize) -> Bench {
-    let mut next = bench;
-    next.table = table;
-    next.list = list;
-    next.memory = memory;
-    next
+    Bench {
+        table,
+        list,
+        memory,
+        ..bench
+    }
 }
 
 // The run goes on, and the line has len bytes.
@@ -124,17 +123,6 @@ pub(crate) fn bad(bench: Bench, line: &mut [u8]) -> Turn {
         over: true,
         len: copy_front(b"bad record\n", line),
         bench,
-    }
-}
-
-// Every byte of m becomes x.
-fn fill(m: &mut [u8], x: u8)
-    ensures { m.new ≡ replicate (length m.old) x }
-{
-    let mut i = 0;
-    while i < m.len() {
-        m[i] = x;
-        i += 1;
     }
 }
 
@@ -174,25 +162,13 @@ fn state_of(body: &[u8]) -> Drive
 
 // The first five bytes are flags, 0 or 1.
 fn are_flags(body: &[u8]) -> bool {
-    let mut i = 0;
-    while i < 5 {
-        if body.len() <= i {
-            return false;
-        }
-        if 1 < body[i] {
-            return false;
-        }
-        i += 1;
-    }
-    true
+    body.iter().take(5).all(|b| *b <= 1)
 }
 
 // Kind 0: the state.
 fn set_state(body: &[u8], bench: Bench, line: &mut [u8]) -> Turn {
-    if body.len() == 20 {
-        if are_flags(body) {
-            return printed(0, with_drive(bench, state_of(body)));
-        }
+    if body.len() == 20 && are_flags(body) {
+        return printed(0, with_drive(bench, state_of(body)));
     }
     bad(bench, line)
 }
@@ -212,9 +188,8 @@ fn set_list(body: &[u8], bench: Bench, list: &mut [u8]) -> Turn {
 // Kind 16: the home of the disc in the drive.
 fn set_home(body: &[u8], bench: Bench, line: &mut [u8]) -> Turn {
     if body.len() == 1 {
-        let mut next = bench;
-        next.home = body[0];
-        return printed(0, next);
+        let home = body[0];
+        return printed(0, Bench { home, ..bench });
     }
     bad(bench, line)
 }
@@ -224,7 +199,7 @@ fn set_memory(body: &[u8], bench: Bench, memory: &mut [u8], line: &mut [u8]) -> 
     if body.len() == 3 {
         let n = word16(body[0], body[1]);
         if n <= memory.len() {
-            fill(&mut memory[..n], body[2]);
+            memory[..n].fill(body[2]);
             return printed(0, with_lent(bench, bench.table, bench.list, n));
         }
     }

@@ -1,7 +1,6 @@
 // The totals that a record of a shelf begins with.
 ghost use Rattle.std.specs.Prelude.{◌+◌, ◌*◌, ◌≤◌, length};
 
-use ground::number::word32;
 use shelf::totals::Totals;
 
 // The bytes of thirteen totals, eight each.
@@ -11,10 +10,9 @@ pub const TOTALS: usize = 104;
 fn total_at(body: &[u8], i: usize) -> u64
     requires { 8 * i + 8 ≤ length body.now }
 {
-    let at = 8 * i;
-    let high = word32(body[at], body[at + 1], body[at + 2], body[at + 3]);
-    let low = word32(body[at + 4], body[at + 5], body[at + 6], body[at + 7]);
-    (high * 4294967296 + low) as u64
+    let mut bytes = [0u8; 8];
+    bytes.copy_from_slice(&body[8 * i..8 * i + 8]);
+    u64::from_be_bytes(bytes)
 }
 
 // All of them.

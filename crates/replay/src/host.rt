@@ -1,5 +1,5 @@
 // The records of the registers: a reset, a write, a data read, each through the interrupt routine.
-use crate::bench::{Bench, Turn, bad, printed, with_drive};
+use crate::bench::{Bench, Turn, bad, printed};
 use crate::task::{put_read, put_reset, put_wrote};
 use ground::number::smaller;
 use print::front::front;
@@ -37,19 +37,24 @@ fn call_access(
         lent,
     );
     let a = s.answer;
-    let f = s.file;
-    let len = put_access(kind, f, a, lent, line);
-    let mut next = with_drive(bench, a.state);
-    next.file = f;
-    printed(len, next)
+    let file = s.file;
+    let len = put_access(kind, file, a, lent, line);
+    printed(
+        len,
+        Bench {
+            drive: a.state,
+            file,
+            ..bench
+        },
+    )
 }
 
 // A register that the host may write.
 fn is_register(r: u8) -> bool {
-    match r {
-        DATA | FEATURES | COUNT_LOW | COUNT_HIGH | DRIVE | COMMAND => true,
-        _ => false,
-    }
+    matches!(
+        r,
+        DATA | FEATURES | COUNT_LOW | COUNT_HIGH | DRIVE | COMMAND
+    )
 }
 
 // Kind 21: a reset; kind 22: a write of a register; kind 23: a data read.
@@ -62,11 +67,8 @@ pub(crate) fn call_host(
     line: &mut [u8],
 ) -> Turn {
     if kind == 22 {
-        if body.len() == 2 {
-            if is_register(body[0]) {
-                return call_access(22, body[0], body[1], bench, table, memory, line);
-            }
-            return bad(bench, line);
+        if body.len() == 2 && is_register(body[0]) {
+            return call_access(22, body[0], body[1], bench, table, memory, line);
         }
         return bad(bench, line);
     }

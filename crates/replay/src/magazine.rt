@@ -1,5 +1,5 @@
 // What each kind of record does with the changer, whose slots are kept as a byte each: 80h present, 01h changed.
-use crate::bench::{Bench, Turn, bad, printed, with_drive};
+use crate::bench::{Bench, Turn, bad, printed};
 use crate::line::{put_changer, put_stood};
 use changer::{Changer, Slot, packet_on};
 use ground::memory::copy_front;
@@ -9,43 +9,33 @@ use print::front::front;
 
 // Every byte is a slot's: no other bit than 80h and 01h.
 fn are_slots(body: &[u8]) -> bool {
-    let mut i = 0;
-    while i < body.len() {
-        let b = body[i];
-        if b % 128 > 1 {
-            return false;
-        }
-        i += 1;
-    }
-    true
+    body.iter().all(|b| *b % 128 <= 1)
 }
 
 // Kind 15: the slots lent from now on.
 pub(crate) fn set_slots(body: &[u8], bench: Bench, slots: &mut [u8], line: &mut [u8]) -> Turn {
-    if body.len() <= slots.len() {
-        if are_slots(body) {
-            let mut next = bench;
-            next.slots = copy_front(body, slots);
-            return printed(0, next);
-        }
+    if body.len() <= slots.len() && are_slots(body) {
+        let slots = copy_front(body, slots);
+        return printed(0, Bench { slots, ..bench });
     }
     bad(bench, line)
 }
 
 // The changer that is kept.
 fn changer_of(bench: Bench) -> Changer {
-    let drive = bench.drive;
     Changer {
-        drive,
+        drive: bench.drive,
         home: bench.home,
     }
 }
 
 // What is kept, with that changer.
 fn with_changer(bench: Bench, c: Changer) -> Bench {
-    let mut next = with_drive(bench, c.drive);
-    next.home = c.home;
-    next
+    Bench {
+        drive: c.drive,
+        home: c.home,
+        ..bench
+    }
 }
 
 // A call on the changer other than a packet was answered.
@@ -90,44 +80,24 @@ fn slots_of(bytes: &[u8]) -> [Slot; 255] {
         changed: false,
     };
     let mut all = [none; 255];
-    let mut i = 0;
-    while i < 255 {
-        if bytes.len() <= i {
-            return all;
-        }
-        let b = bytes[i];
-        all[i] = Slot {
-            present: b >= 128,
-            changed: b % 2 == 1,
+    for (slot, b) in all.iter_mut().zip(bytes) {
+        *slot = Slot {
+            present: *b >= 128,
+            changed: *b % 2 == 1,
         };
-        i += 1;
     }
     all
 }
 
 // A slot's byte.
 fn slot_byte(s: Slot) -> u8 {
-    if s.present {
-        if s.changed {
-            return 0x81;
-        }
-        return 0x80;
-    }
-    if s.changed {
-        return 0x01;
-    }
-    0
+    u8::from(s.present) * 0x80 + u8::from(s.changed)
 }
 
 // The bytes become those of the slots.
 fn put_bytes(all: [Slot; 255], bytes: &mut [u8]) {
-    let mut i = 0;
-    while i < 255 {
-        if bytes.len() <= i {
-            return;
-        }
-        bytes[i] = slot_byte(all[i]);
-        i += 1;
+    for (b, slot) in bytes.iter_mut().zip(&all) {
+        *b = slot_byte(*slot);
     }
 }
 

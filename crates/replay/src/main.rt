@@ -73,8 +73,7 @@ fn turn(
     )
 }
 
-// A proved loop has to end, and nothing says that the input does. So the loop counts its turns down, from a number that
-// no run uses up.
+// A proved loop has to end, and nothing says that the input does. So it has a number of turns that no run uses up.
 fn run(
     rt: &HostRuntime,
     table: &mut [u8],
@@ -85,8 +84,7 @@ fn run(
     line: &mut [u8],
 ) {
     let mut bench = empty();
-    let mut turns = u64::MAX;
-    while turns > 0 {
+    for _ in 0..u64::MAX {
         let t = turn(rt, bench, table, list, memory, slots, body, line);
         if rt.write_all(front(line, t.len)).is_err() {
             return;
@@ -95,7 +93,6 @@ fn run(
             return;
         }
         bench = t.bench;
-        turns -= 1;
     }
 }
 
