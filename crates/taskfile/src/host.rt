@@ -276,6 +276,7 @@ fn written(f: TaskFile, a: Access, v: u8) -> TaskFile
 }
 
 // What an access comes to.
+#[tactic(auto, unfolding(crate::specs::Host::turn_of))]
 pub fn turn_of(f: TaskFile, a: Access, v: u8) -> Turn
     ensures { result ≡ turn_of f a v }
 {
