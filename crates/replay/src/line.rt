@@ -256,16 +256,23 @@ pub(crate) fn put_part(number: u8, rule: u8, part: &[u8], out: &mut [u8]) -> usi
     at
 }
 
-// The line of a cue sheet, with the memory afterwards.
-pub(crate) fn put_written(w: Result<usize, Refusal>, memory: &[u8], out: &mut [u8]) -> usize
-    ensures { Laid out.old (written_line (written_meaning w) memory.now) result out.new }
+// The number of a cue sheet's refusal or 0, and how many bytes were written.
+fn written(w: Result<usize, Refusal>) -> (u8, usize)
+    ensures { (result.0 ≡ (written_meaning w).number) × (result.1 ≡ (written_meaning w).len) }
 {
-    let (number, len) = match w {
+    match w {
         Ok(len) => (0, len),
         Err(Refusal::NotWhole) => (NOT_WHOLE, 0),
         Err(Refusal::NoTable) => (NO_TABLE, 0),
         Err(Refusal::NoRoom) => (NO_ROOM, 0),
-    };
+    }
+}
+
+// The line of a cue sheet, with the memory afterwards.
+pub(crate) fn put_written(w: Result<usize, Refusal>, memory: &[u8], out: &mut [u8]) -> usize
+    ensures { Laid out.old (written_line (written_meaning w) memory.now) result out.new }
+{
+    let (number, len) = written(w);
     let mut at = put_call(b't', number, out);
     at += next_summed(len, memory, &mut out[at..]);
     at += copy_front(b"\n", &mut out[at..]);

@@ -5,4 +5,6 @@ use Rattle.replay.proofs.line.put_written.Goals as goal
 
 pub returns : goal.returns
 unfolding written_line
-returns c = laid_more (laid_more c.put_call-at.ensures c.next_summed-at.ensures) c.copy_front-at.ensures
+returns c =
+    let e = c.written-number.ensures in
+    rw (e.0, e.1) at (laid_more (laid_more c.put_call-at.ensures c.next_summed-at.ensures) c.copy_front-at.ensures)
