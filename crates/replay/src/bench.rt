@@ -2,11 +2,9 @@
 ghost use Rattle.std.specs.Prelude.{◌≡◌, length};
 
 use crate::given::{TOTALS, totals_of};
-use crate::host::call_host;
 use crate::line::{
     put_address, put_counted, put_moved, put_msf, put_packet, put_part, put_written,
 };
-use crate::magazine::{call_changer, call_outside, call_power, set_slots};
 use address::{OutOfRange, to_block, to_msf};
 use attention::Unit;
 use attention::sense::Sense;
@@ -15,7 +13,7 @@ use deck::Deck;
 use disc::part::{NO_SESSION, Refusal, UNFIT, session_part, session_refusal};
 use drive::state::{Drive, Moved};
 use ground::memory::copy_front;
-use ground::number::{smaller, word16, word32};
+use ground::number::{word16, word32};
 use page::Page;
 use play::Play;
 use print::front::front;
@@ -23,25 +21,70 @@ use shelf::stream::count_all;
 use target::packet::packet;
 use taskfile::{TaskFile, started};
 
-// The drive, the register record before it, the home of the disc in it, how many bytes of the table, of the parameter list and of the response
-// memory are lent, and how many slots.
+// The most bytes of a record's body, of a table, of a parameter list and of a response memory.
+pub const BODY: usize = 8191;
+
+// The most slots.
+pub const SLOTS: usize = 255;
+
+// A record that is none: the run ends with a line that says so.
+#[derive(Clone, Copy, Debug, PartialEq, Eq)]
+pub struct Bad;
+
+// Memory that calls are lent: its first `len` bytes.
+#[derive(Clone, Copy)]
+pub struct Lent<const N: usize> {
+    bytes: [u8; N],
+    len: usize,
+}
+
+impl<const N: usize> Lent<N> {
+    // None of it.
+    fn none() -> Lent<N> {
+        Lent {
+            bytes: [0; N],
+            len: 0,
+        }
+    }
+
+    // What is lent.
+    pub(crate) fn shown(&self) -> &[u8] {
+        front(&self.bytes, self.len)
+    }
+
+    // The same, to be written.
+    pub(crate) fn part(&mut self) -> &mut [u8] {
+        let n = self.len.min(N);
+        &mut self.bytes[..n]
+    }
+
+    // These bytes are lent from now on.
+    pub(crate) fn lay(&mut self, body: &[u8]) {
+        self.len = copy_front(body, &mut self.bytes);
+    }
+
+    // n bytes are lent from now on, every one x; there may be no room for them.
+    fn fill(&mut self, n: usize, x: u8) -> Result<(), Bad> {
+        if N < n {
+            return Err(Bad);
+        }
+        self.bytes[..n].fill(x);
+        self.len = n;
+        Ok(())
+    }
+}
+
+// The drive, the register record before it, the home of the disc in it, and the table, the parameter list, the response memory and the slots that
+// are lent.
 #[derive(Clone, Copy)]
 pub struct Bench {
     pub drive: Drive,
     pub file: TaskFile,
     pub home: u8,
-    pub table: usize,
-    pub list: usize,
-    pub memory: usize,
-    pub slots: usize,
-}
-
-// What a record came to: whether it ends the run, how many bytes the line has, and what is kept.
-#[derive(Clone, Copy)]
-pub struct Turn {
-    pub over: bool,
-    pub len: usize,
-    pub bench: Bench,
+    pub table: Lent<BODY>,
+    pub list: Lent<BODY>,
+    pub memory: Lent<BODY>,
+    pub slots: Lent<SLOTS>,
 }
 
 // Everything zero, no table, no list, no memory and no slots.
@@ -77,52 +120,10 @@ pub(crate) fn empty() -> Bench {
         drive: Drive { unit, deck },
         file: started(),
         home: 0,
-        table: 0,
-        list: 0,
-        memory: 0,
-        slots: 0,
-    }
-}
-
-// What is kept, with that drive.
-pub(crate) fn with_drive(bench: Bench, drive: Drive) -> Bench {
-    Bench { drive, ..bench }
-}
-
-// What is kept, with so many bytes of the table, of the list and of the memory.
-fn with_lent(bench: Bench, table: usize, list: usize, memory: usize) -> Bench {
-    Bench {
-        table,
-        list,
-        memory,
-        ..bench
-    }
-}
-
-// The run goes on, and the line has len bytes.
-pub(crate) fn printed(len: usize, bench: Bench) -> Turn {
-    Turn {
-        over: false,
-        len,
-        bench,
-    }
-}
-
-// The run ends with nothing more.
-pub(crate) fn ended(bench: Bench) -> Turn {
-    Turn {
-        over: true,
-        len: 0,
-        bench,
-    }
-}
-
-// The run ends with a line that says so.
-pub(crate) fn bad(bench: Bench, line: &mut [u8]) -> Turn {
-    Turn {
-        over: true,
-        len: copy_front(b"bad record\n", line),
-        bench,
+        table: Lent::none(),
+        list: Lent::none(),
+        memory: Lent::none(),
+        slots: Lent::none(),
     }
 }
 
@@ -165,190 +166,171 @@ fn are_flags(body: &[u8]) -> bool {
     body.iter().take(5).all(|b| *b <= 1)
 }
 
-// Kind 0: the state.
-fn set_state(body: &[u8], bench: Bench, line: &mut [u8]) -> Turn {
-    if body.len() == 20 && are_flags(body) {
-        return printed(0, with_drive(bench, state_of(body)));
-    }
-    bad(bench, line)
-}
-
-// Kind 1: the table lent from now on.
-fn set_table(body: &[u8], bench: Bench, table: &mut [u8]) -> Turn {
-    let n = copy_front(body, table);
-    printed(0, with_lent(bench, n, bench.list, bench.memory))
-}
-
-// Kind 13: the parameter list lent from now on.
-fn set_list(body: &[u8], bench: Bench, list: &mut [u8]) -> Turn {
-    let n = copy_front(body, list);
-    printed(0, with_lent(bench, bench.table, n, bench.memory))
-}
-
-// Kind 16: the home of the disc in the drive.
-fn set_home(body: &[u8], bench: Bench, line: &mut [u8]) -> Turn {
-    if body.len() == 1 {
-        let home = body[0];
-        return printed(0, Bench { home, ..bench });
-    }
-    bad(bench, line)
-}
-
-// Kind 2: the response memory from now on.
-fn set_memory(body: &[u8], bench: Bench, memory: &mut [u8], line: &mut [u8]) -> Turn {
-    if body.len() == 3 {
-        let n = word16(body[0], body[1]);
-        if n <= memory.len() {
-            memory[..n].fill(body[2]);
-            return printed(0, with_lent(bench, bench.table, bench.list, n));
-        }
-    }
-    bad(bench, line)
-}
-
-// A call on the drive other than a packet was answered.
-fn moved(letter: u8, m: Moved, bench: Bench, line: &mut [u8]) -> Turn {
-    let drive = m.state;
-    let len = put_moved(letter, m.number, drive, line);
-    printed(len, with_drive(bench, drive))
-}
-
-// Power-on is never refused.
-fn powered(letter: u8, state: Drive, bench: Bench, line: &mut [u8]) -> Turn {
-    moved(letter, Moved { number: 0, state }, bench, line)
-}
-
-// Kinds 3 to 6: power-on by default, button, laying, lifting; kind 11: the second form of power-on.
-fn call_drive(kind: u8, body: &[u8], bench: Bench, line: &mut [u8]) -> Turn {
-    if body.len() == 0 {
-        let d = bench.drive;
-        return match kind {
-            3 => powered(b'o', d.power_on(), bench, line),
-            4 => moved(b'b', d.button(), bench, line),
-            5 => moved(b'd', d.lay(), bench, line),
-            6 => moved(b'u', d.lift(), bench, line),
-            _ => powered(b'q', d.power_on_without_change(), bench, line),
-        };
-    }
-    bad(bench, line)
-}
-
-// Kind 12: a playing position moves on.
-fn call_move(body: &[u8], bench: Bench, line: &mut [u8]) -> Turn {
-    if body.len() == 4 {
-        let k = word32(body[0], body[1], body[2], body[3]);
-        return moved(b'm', bench.drive.move_on(k), bench, line);
-    }
-    bad(bench, line)
-}
-
-// Kind 7: a packet, with the table, the list and the memory as they are lent.
-fn call_packet(
-    body: &[u8],
-    bench: Bench,
-    table: &[u8],
-    list: &[u8],
-    memory: &mut [u8],
-    line: &mut [u8],
-) -> Turn {
-    let n = smaller(bench.memory, memory.len());
-    let lent = &mut memory[..n];
-    let o = packet(
-        bench.drive,
-        body,
-        front(table, bench.table),
-        front(list, bench.list),
-        lent,
-    );
-    let len = put_packet(o, lent, line);
-    printed(len, with_drive(bench, o.state))
-}
-
 // Kind 8: an address to M:S:F.
-fn call_msf(body: &[u8], bench: Bench, line: &mut [u8]) -> Turn {
+fn call_msf(body: &[u8], line: &mut [u8]) -> Result<usize, Bad> {
     if body.len() == 4 {
         return match to_msf(word32(body[0], body[1], body[2], body[3])) {
-            Ok(m) => printed(put_msf(0, m.minute, m.second, m.frame, line), bench),
-            Err(OutOfRange) => printed(put_msf(address::REFUSED, 0, 0, 0, line), bench),
+            Ok(m) => Ok(put_msf(0, m.minute, m.second, m.frame, line)),
+            Err(OutOfRange) => Ok(put_msf(address::REFUSED, 0, 0, 0, line)),
         };
     }
-    bad(bench, line)
+    Err(Bad)
 }
 
 // Kind 9: an M:S:F to its address.
-fn call_block(body: &[u8], bench: Bench, line: &mut [u8]) -> Turn {
+fn call_block(body: &[u8], line: &mut [u8]) -> Result<usize, Bad> {
     if body.len() == 3 {
         return match to_block(body[0], body[1], body[2]) {
-            Ok(a) => printed(put_address(0, a, line), bench),
-            Err(OutOfRange) => printed(put_address(address::REFUSED, 0, line), bench),
+            Ok(a) => Ok(put_address(0, a, line)),
+            Err(OutOfRange) => Ok(put_address(address::REFUSED, 0, line)),
         };
     }
-    bad(bench, line)
-}
-
-// Kind 10: a session's part.
-fn call_part(body: &[u8], bench: Bench, table: &[u8], line: &mut [u8]) -> Turn {
-    if body.len() == 1 {
-        let k = body[0];
-        let t = front(table, bench.table);
-        let (number, rule) = match session_refusal(t, k) {
-            None => (0, 0),
-            Some(Refusal::Unfit(unfit)) => (UNFIT, unfit.rule),
-            Some(Refusal::NoSession) => (NO_SESSION, 0),
-        };
-        let len = put_part(number, rule, session_part(t, k), line);
-        return printed(len, bench);
-    }
-    bad(bench, line)
-}
-
-// Kind 14: a cue sheet, turned into the memory as it is lent.
-fn call_sheet(body: &[u8], bench: Bench, memory: &mut [u8], line: &mut [u8]) -> Turn {
-    let n = smaller(bench.memory, memory.len());
-    let lent = &mut memory[..n];
-    let w = write_table(body, lent);
-    printed(put_written(w, lent, line), bench)
+    Err(Bad)
 }
 
 // Kind 24: a stream of tables, counted on top of the totals before it.
-fn call_shelf(body: &[u8], bench: Bench, line: &mut [u8]) -> Turn {
+fn call_shelf(body: &[u8], line: &mut [u8]) -> Result<usize, Bad> {
     if body.len() < TOTALS {
-        return bad(bench, line);
+        return Err(Bad);
     }
     let counted = count_all(totals_of(body), &body[TOTALS..]);
-    printed(put_counted(counted, line), bench)
+    Ok(put_counted(counted, line))
 }
 
-// A record of the kind, met.
-pub(crate) fn meet(
-    kind: u8,
-    body: &[u8],
-    bench: Bench,
-    table: &mut [u8],
-    list: &mut [u8],
-    memory: &mut [u8],
-    slots: &mut [u8],
-    line: &mut [u8],
-) -> Turn {
-    match kind {
-        0 => set_state(body, bench, line),
-        1 => set_table(body, bench, table),
-        2 => set_memory(body, bench, memory, line),
-        3..=6 | 11 => call_drive(kind, body, bench, line),
-        7 => call_packet(body, bench, table, list, memory, line),
-        8 => call_msf(body, bench, line),
-        9 => call_block(body, bench, line),
-        10 => call_part(body, bench, table, line),
-        12 => call_move(body, bench, line),
-        13 => set_list(body, bench, list),
-        14 => call_sheet(body, bench, memory, line),
-        15 => set_slots(body, bench, slots, line),
-        16 => set_home(body, bench, line),
-        17 | 18 => call_power(kind, body, bench, slots, line),
-        19 => call_changer(body, bench, table, list, memory, slots, line),
-        20 => call_outside(body, bench, slots, line),
-        21..=23 => call_host(kind, body, bench, table, memory, line),
-        24 => call_shelf(body, bench, line),
-        _ => bad(bench, line),
+// Each kind hands back how many bytes its line has.
+impl Bench {
+    // Kind 0: the state.
+    fn set_state(&mut self, body: &[u8]) -> Result<usize, Bad> {
+        if body.len() == 20 && are_flags(body) {
+            self.drive = state_of(body);
+            return Ok(0);
+        }
+        Err(Bad)
+    }
+
+    // Kind 1: the table lent from now on.
+    fn set_table(&mut self, body: &[u8]) -> Result<usize, Bad> {
+        self.table.lay(body);
+        Ok(0)
+    }
+
+    // Kind 13: the parameter list lent from now on.
+    fn set_list(&mut self, body: &[u8]) -> Result<usize, Bad> {
+        self.list.lay(body);
+        Ok(0)
+    }
+
+    // Kind 16: the home of the disc in the drive.
+    fn set_home(&mut self, body: &[u8]) -> Result<usize, Bad> {
+        if body.len() == 1 {
+            self.home = body[0];
+            return Ok(0);
+        }
+        Err(Bad)
+    }
+
+    // Kind 2: the response memory from now on.
+    fn set_memory(&mut self, body: &[u8]) -> Result<usize, Bad> {
+        if body.len() == 3 {
+            self.memory.fill(word16(body[0], body[1]), body[2])?;
+            return Ok(0);
+        }
+        Err(Bad)
+    }
+
+    // A call on the drive other than a packet was answered.
+    fn moved(&mut self, letter: u8, m: Moved, line: &mut [u8]) -> usize {
+        self.drive = m.state;
+        put_moved(letter, m.number, m.state, line)
+    }
+
+    // Power-on is never refused.
+    fn powered(&mut self, letter: u8, state: Drive, line: &mut [u8]) -> usize {
+        self.moved(letter, Moved { number: 0, state }, line)
+    }
+
+    // Kinds 3 to 6: power-on by default, button, laying, lifting; kind 11: the second form of power-on.
+    fn call_drive(&mut self, kind: u8, body: &[u8], line: &mut [u8]) -> Result<usize, Bad> {
+        if body.len() == 0 {
+            let d = self.drive;
+            return Ok(match kind {
+                3 => self.powered(b'o', d.power_on(), line),
+                4 => self.moved(b'b', d.button(), line),
+                5 => self.moved(b'd', d.lay(), line),
+                6 => self.moved(b'u', d.lift(), line),
+                _ => self.powered(b'q', d.power_on_without_change(), line),
+            });
+        }
+        Err(Bad)
+    }
+
+    // Kind 12: a playing position moves on.
+    fn call_move(&mut self, body: &[u8], line: &mut [u8]) -> Result<usize, Bad> {
+        if body.len() == 4 {
+            let k = word32(body[0], body[1], body[2], body[3]);
+            return Ok(self.moved(b'm', self.drive.move_on(k), line));
+        }
+        Err(Bad)
+    }
+
+    // Kind 7: a packet, with the table, the list and the memory as they are lent.
+    fn call_packet(&mut self, body: &[u8], line: &mut [u8]) -> Result<usize, Bad> {
+        let lent = self.memory.part();
+        let o = packet(
+            self.drive,
+            body,
+            self.table.shown(),
+            self.list.shown(),
+            lent,
+        );
+        self.drive = o.state;
+        Ok(put_packet(o, lent, line))
+    }
+
+    // Kind 10: a session's part.
+    fn call_part(&self, body: &[u8], line: &mut [u8]) -> Result<usize, Bad> {
+        if body.len() == 1 {
+            let k = body[0];
+            let t = self.table.shown();
+            let (number, rule) = match session_refusal(t, k) {
+                None => (0, 0),
+                Some(Refusal::Unfit(unfit)) => (UNFIT, unfit.rule),
+                Some(Refusal::NoSession) => (NO_SESSION, 0),
+            };
+            return Ok(put_part(number, rule, session_part(t, k), line));
+        }
+        Err(Bad)
+    }
+
+    // Kind 14: a cue sheet, turned into the memory as it is lent.
+    fn call_sheet(&mut self, body: &[u8], line: &mut [u8]) -> Result<usize, Bad> {
+        let lent = self.memory.part();
+        let w = write_table(body, lent);
+        Ok(put_written(w, lent, line))
+    }
+
+    // A record of the kind, met.
+    pub(crate) fn meet(&mut self, kind: u8, body: &[u8], line: &mut [u8]) -> Result<usize, Bad> {
+        match kind {
+            0 => self.set_state(body),
+            1 => self.set_table(body),
+            2 => self.set_memory(body),
+            3..=6 | 11 => self.call_drive(kind, body, line),
+            7 => self.call_packet(body, line),
+            8 => call_msf(body, line),
+            9 => call_block(body, line),
+            10 => self.call_part(body, line),
+            12 => self.call_move(body, line),
+            13 => self.set_list(body),
+            14 => self.call_sheet(body, line),
+            15 => self.set_slots(body),
+            16 => self.set_home(body),
+            17 | 18 => self.call_power(kind, body, line),
+            19 => self.call_changer(body, line),
+            20 => self.call_outside(body, line),
+            21..=23 => self.call_host(kind, body, line),
+            24 => call_shelf(body, line),
+            _ => Err(Bad),
+        }
     }
 }

@@ -1,8 +1,6 @@
 // The records of the registers: a reset, a write, a data read, each through the interrupt routine.
-use crate::bench::{Bench, Turn, bad, printed};
+use crate::bench::{Bad, Bench};
 use crate::task::{put_read, put_reset, put_wrote};
-use ground::number::smaller;
-use print::front::front;
 use registers::{Answer, interrupt_on};
 use taskfile::TaskFile;
 use taskfile::host::{COMMAND, COUNT_HIGH, COUNT_LOW, DATA, DRIVE, FEATURES, READ, RESET};
@@ -16,39 +14,6 @@ fn put_access(kind: u8, f: TaskFile, a: Answer, memory: &[u8], line: &mut [u8]) 
     }
 }
 
-// An access, with the table and the memory as they are lent.
-fn call_access(
-    kind: u8,
-    access: u8,
-    value: u8,
-    bench: Bench,
-    table: &[u8],
-    memory: &mut [u8],
-    line: &mut [u8],
-) -> Turn {
-    let n = smaller(bench.memory, memory.len());
-    let lent = &mut memory[..n];
-    let s = interrupt_on(
-        bench.file,
-        access,
-        value,
-        bench.drive,
-        front(table, bench.table),
-        lent,
-    );
-    let a = s.answer;
-    let file = s.file;
-    let len = put_access(kind, file, a, lent, line);
-    printed(
-        len,
-        Bench {
-            drive: a.state,
-            file,
-            ..bench
-        },
-    )
-}
-
 // A register that the host may write.
 fn is_register(r: u8) -> bool {
     matches!(
@@ -57,26 +22,43 @@ fn is_register(r: u8) -> bool {
     )
 }
 
-// Kind 21: a reset; kind 22: a write of a register; kind 23: a data read.
-pub(crate) fn call_host(
-    kind: u8,
-    body: &[u8],
-    bench: Bench,
-    table: &[u8],
-    memory: &mut [u8],
-    line: &mut [u8],
-) -> Turn {
-    if kind == 22 {
-        if body.len() == 2 && is_register(body[0]) {
-            return call_access(22, body[0], body[1], bench, table, memory, line);
-        }
-        return bad(bench, line);
+impl Bench {
+    // An access, with the table and the memory as they are lent.
+    fn call_access(&mut self, kind: u8, access: u8, value: u8, line: &mut [u8]) -> usize {
+        let lent = self.memory.part();
+        let s = interrupt_on(
+            self.file,
+            access,
+            value,
+            self.drive,
+            self.table.shown(),
+            lent,
+        );
+        let a = s.answer;
+        self.drive = a.state;
+        self.file = s.file;
+        put_access(kind, s.file, a, lent, line)
     }
-    if body.len() == 0 {
-        if kind == 21 {
-            return call_access(21, RESET, 0, bench, table, memory, line);
+
+    // Kind 21: a reset; kind 22: a write of a register; kind 23: a data read.
+    pub(crate) fn call_host(
+        &mut self,
+        kind: u8,
+        body: &[u8],
+        line: &mut [u8],
+    ) -> Result<usize, Bad> {
+        if kind == 22 {
+            if body.len() == 2 && is_register(body[0]) {
+                return Ok(self.call_access(22, body[0], body[1], line));
+            }
+            return Err(Bad);
         }
-        return call_access(23, READ, 0, bench, table, memory, line);
+        if body.len() == 0 {
+            if kind == 21 {
+                return Ok(self.call_access(21, RESET, 0, line));
+            }
+            return Ok(self.call_access(23, READ, 0, line));
+        }
+        Err(Bad)
     }
-    bad(bench, line)
 }

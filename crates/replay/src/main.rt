@@ -10,16 +10,10 @@ mod task;
 
 ghost use Rattle.std.specs.Prelude.{◌≤◌, length};
 
-use bench::{Bench, Turn, bad, empty, ended, meet};
+use bench::{BODY, Bad, Bench, empty};
 use ground::number::word16;
 use print::front::front;
 use std::io::Read;
-
-// The most bytes of a record's body, of a table, of a parameter list and of a response memory.
-const BODY: usize = 8191;
-
-// The most slots.
-const SLOTS: usize = 255;
 
 // Reads until buf is full, the input ends or a read fails, and says how many bytes it put at the start of buf.
 fn read_full(rt: &HostRuntime, buf: &mut [u8]) -> usize
@@ -35,81 +29,46 @@ fn read_full(rt: &HostRuntime, buf: &mut [u8]) -> usize
     done
 }
 
-// Reads a record and meets it.
+// Reads a record and meets it: how many bytes its line has, or that the input ends.
 fn turn(
     rt: &HostRuntime,
-    bench: Bench,
-    table: &mut [u8],
-    list: &mut [u8],
-    memory: &mut [u8],
-    slots: &mut [u8],
+    bench: &mut Bench,
     body: &mut [u8],
     line: &mut [u8],
-) -> Turn {
+) -> Result<Option<usize>, Bad> {
     let mut head = [0u8; 3];
     let got = read_full(rt, &mut head);
     if got == 0 {
-        return ended(bench);
-    }
-    if got < 3 {
-        return bad(bench, line);
+        return Ok(None);
     }
     let n = word16(head[1], head[2]);
-    if body.len() < n {
-        return bad(bench, line);
+    if got < 3 || body.len() < n || read_full(rt, &mut body[..n]) < n {
+        return Err(Bad);
     }
-    if read_full(rt, &mut body[..n]) < n {
-        return bad(bench, line);
-    }
-    meet(
-        head[0],
-        front(body, n),
-        bench,
-        table,
-        list,
-        memory,
-        slots,
-        line,
-    )
+    let len = bench.meet(head[0], front(body, n), line)?;
+    Ok(Some(len))
 }
 
 // A proved loop has to end, and nothing says that the input does. So it has a number of turns that no run uses up.
-fn run(
-    rt: &HostRuntime,
-    table: &mut [u8],
-    list: &mut [u8],
-    memory: &mut [u8],
-    slots: &mut [u8],
-    body: &mut [u8],
-    line: &mut [u8],
-) {
-    let mut bench = empty();
+fn run(rt: &HostRuntime, bench: &mut Bench, body: &mut [u8], line: &mut [u8]) {
     for _ in 0..u64::MAX {
-        let t = turn(rt, bench, table, list, memory, slots, body, line);
-        if rt.write_all(front(line, t.len)).is_err() {
+        let text = match turn(rt, bench, body, line) {
+            Ok(Some(n)) => front(line, n),
+            Ok(None) => return,
+            Err(Bad) => {
+                let _ = rt.write_all(b"bad record\n");
+                return;
+            }
+        };
+        if rt.write_all(text).is_err() {
             return;
         }
-        if t.over {
-            return;
-        }
-        bench = t.bench;
     }
 }
 
 fn main(rt: HostRuntime) {
-    let mut table = [0u8; BODY];
-    let mut list = [0u8; BODY];
-    let mut memory = [0u8; BODY];
-    let mut slots = [0u8; SLOTS];
+    let mut bench = empty();
     let mut body = [0u8; BODY];
     let mut line = [0u8; 17000];
-    run(
-        &rt,
-        &mut table,
-        &mut list,
-        &mut memory,
-        &mut slots,
-        &mut body,
-        &mut line,
-    );
+    run(&rt, &mut bench, &mut body, &mut line);
 }

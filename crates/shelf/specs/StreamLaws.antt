@@ -8,7 +8,7 @@ use Rattle.std.proofs.Math.ListN.{length, drop, length-drop}
 use Rattle.std.proofs.lemmas.List.{take-append-le, drop-append-le}
 use Rattle.std.proofs.Math.Seq.{take-append_seam}
 use Rattle.std.proofs.lemmas.Bool.{lt-leb}
-use Rattle.core.specs.List.{copy_within}
+use Rattle.std.specs.List.{copy_within}
 use Rattle.ground.specs.Tests.{choose◌then◌else◌, when, unless, either}
 use Rattle.ground.specs.Memory.{fill_fits}
 use Rattle.shelf.specs.Totals.{nothing, sum, of_table, totals_of, within, too_large, bounded}
