@@ -1,7 +1,7 @@
 -- The laws of the table of triples: what is past its end, when triples are one, and what its search finds.
-use Rattle.std.specs.Prelude.{◌≡◌, refl, true, ◌&&◌, List, [], ◌∷◌, ℕ, zero, suc, ◌≤◌, ◌<◌, length, get_or, nat_eq}
+use Rattle.std.specs.Prelude.{◌≡◌, refl, true, false, ◌&&◌, List, [], ◌∷◌, ℕ, zero, suc, ◌+◌, ◌≤◌, ◌<◌, length, drop, get_or, nat_eq}
 use Rattle.std.specs.List.{list_any}
-use Rattle.std.proofs.Common.{sym, ap, arith, lt_of_not-le, eq-eqb, eqb-true}
+use Rattle.std.proofs.Common.{sym, ap, add-one, arith, lt_of_not-le, eq-eqb, eqb-true, drop_of_length-le, drop-cons}
 use Rattle.std.proofs.Math.Decide.{dec_le}
 use Rattle.std.proofs.Math.ListN.{get_or-eq_default}
 use Rattle.ground.specs.Tests.{◌and◌, ◌or◌, and_head, and_tail, and_both, and_plain, or_right, or_plain}
@@ -26,6 +26,21 @@ same_sense-eq a b h =
 pub same_sense_refl : (a : Sense) → same_sense a a ≡ true
 unfolding same_sense
 same_sense_refl a = and_both _ _ (eq-eqb a.key _ refl) (and_both _ _ (eq-eqb a.asc _ refl) (eq-eqb a.ascq _ refl))
+
+-- the search: the row at i is the triple
+pub among-here : (i : ℕ) (s : Sense) → i < 13 → same_sense (sense_at i) s ≡ true → true ≡ among (drop i senses) s
+unfolding sense_at among ◌or◌
+among-here i s h k = rw (drop-cons senses i (triple 0 0 0) h, k)
+
+-- the search: it is not, so what is left decides
+pub among_on : (i : ℕ) (s : Sense) → i < 13 → same_sense (sense_at i) s ≡ false → among (drop i senses) s ≡ among (drop (i + 1) senses) s
+unfolding sense_at among ◌or◌
+among_on i s h k = rw (drop-cons senses i (triple 0 0 0) h, k, add-one i)
+
+-- the search: nothing is left
+pub among_none : (i : ℕ) (s : Sense) → 13 ≤ i → false ≡ among (drop i senses) s
+unfolding among
+among_none i s h = rw (drop_of_length-le senses {i = i} h)
 
 -- the derived equality of triples, `==` in the code
 pub same_sense-derived : (a b : Sense) → (nat_eq a.key b.key && (nat_eq a.asc b.asc && nat_eq a.ascq b.ascq)) ≡ same_sense a b

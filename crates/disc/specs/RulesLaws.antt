@@ -65,6 +65,47 @@ same_test false false f g = refl
 
 -- ---- rules 3, 5 and 6, descriptor by descriptor
 
+-- the descriptors up to byte `at` keep rule n
+pub record Tested (n : ℕ) (d : List ℕ) (at : ℕ) : Type 0 where
+  pub whole : at % row ≡ 0
+  pub within : at ≤ length d
+  pub passed : every (at / row) (λ i. row_test n (row_at d i)) ≡ true
+
+pub tested-none : (n : ℕ) (d : List ℕ) → Tested n d 0
+tested-none n d = record { whole = refl; within = omega arith; passed = every-none _ }
+
+module _ {n : ℕ} {d : List ℕ} {at : ℕ} (t : Tested n d at) where
+  -- the next one is there, and is descriptor at / row
+  tested-here : {r : Row} {b : Bool} → r ≡ row_from d at → row_test n r ≡ b → row_test n (row_at d (at / row)) ≡ b
+  tested-here e h =
+      let w = t.whole in
+      let q : row * (at / row) ≡ at = omega arith in
+      ap (λ (x : ℕ). row_test n (row_from d x)) q ∙ ap (row_test n) (sym e) ∙ h
+
+  pub tested-next :
+      {r : Row} → length d % row ≡ 0 → at < length d → r ≡ row_from d at → row_test n r ≡ true → Tested n d (at + row)
+  tested-next l i e h =
+      let w = t.whole in
+      let q : (at + row) / row ≡ at / row + 1 = omega arith in
+      record {
+        whole = omega arith;
+        within = omega arith;
+        passed = rw q (every_more (at / row) (λ i. row_test n (row_at d i)) t.passed (tested-here e h));
+      }
+
+  -- the first that fails breaks the rule
+  pub tested-breaks : {r : Row} → length d % row ≡ 0 → at < length d → r ≡ row_from d at → row_test n r ≡ false → false ≡ each_row n d
+  unfolding each_row
+  tested-breaks l i e h =
+      let w = t.whole in every-breaks (rows d) (λ j. row_test n (row_at d j)) (at / row) (omega arith) (tested-here e h)
+
+  pub tested-end : length d ≤ at → true ≡ each_row n d
+  unfolding each_row
+  tested-end l =
+      let w = t.within in
+      let e : at ≡ length d = omega arith in
+      sym (rw e at t.passed)
+
 -- where the first j keep it, what is left of the table decides
 pub each_row-rest :
     (n : ℕ) (d : List ℕ) (j : ℕ) → row * j ≤ length d → ((i : ℕ) → i < j → row_test n (row_at d i) ≡ true)

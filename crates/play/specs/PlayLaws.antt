@@ -1,7 +1,8 @@
 -- The laws of the play record: what moving on does in each case, and that it stays a record that refusal 2 does not meet.
-use Rattle.std.specs.Prelude.{◌≡◌, refl, true, ◌||◌, ℕ, ◌+◌, ◌≤◌, ◌<◌, eqb, nat_eq}
-use Rattle.std.proofs.Common.{sym, ◌∙◌, eq-eqb, ne_eqb, le-leb, leb-true}
+use Rattle.std.specs.Prelude.{◌≡◌, refl, true, ◌||◌, ℕ, ◌+◌, ◌-◌, ◌≤◌, ◌<◌, eqb, ltb, nat_eq}
+use Rattle.std.proofs.Common.{sym, ◌∙◌, lt_of_not-le, eq-eqb, ne_eqb, le-leb, leb-true, lt-ltb, le-ltb}
 use native.Mathlib.Omega.{arith}
+use Rattle.std.proofs.Math.Decide.{dec_le}
 use Rattle.ground.specs.Tests.{◌or◌, or_plain, when, unless, either, and_head, and_tail, and_both}
 use Rattle.address.specs.Address.{last}
 use Rattle.play.specs.declared.Play.{Play}
@@ -51,6 +52,13 @@ pub with_status_known : {r : Play} (s : ℕ) → is_status s ≡ true → Known 
 with_status_known s h k = record { status = h; within = k.within; most = k.most }
 
 -- ---- moving on
+
+-- k blocks from p on end before e
+pub ltb-after : (p k e : ℕ) → p < e → ltb k (e - p) ≡ ltb (p + k) e
+ltb-after p k e h = elim (dec_le e (p + k)) [
+  | yes l ↦ le-ltb k (e - p) (omega arith) ∙ sym (le-ltb (p + k) e l)
+  | no l ↦ let m = lt_of_not-le l in lt-ltb k (e - p) (omega arith) ∙ sym (lt-ltb (p + k) e m)
+]
 
 module _ (k : ℕ) (r : Play) where
   pub moved_on-other : (r.status ≡ playing → ⊥) → moved_on k r ≡ r
