@@ -1,7 +1,5 @@
 // LOAD/UNLOAD: what moves between the slots and the drive.
 ghost use Rattle.std.specs.Prelude.{◌≡◌, true, ◌<◌, length};
-ghost use Rattle.command.specs.Tray.{moving as shifted};
-ghost use Rattle.command.specs.Done.{done_of};
 ghost use Rattle.changer.specs.Slot.{slot_at, put_back};
 ghost use Rattle.changer.specs.Mechanism.{returned_deck, loads, unloads, load_unload};
 ghost use Rattle.changer.specs.ChangerPacket.{mechanism_of};
@@ -9,8 +7,9 @@ ghost use Rattle.changer.specs.MechanismLaws.{Acted, Homed, still_with, failed_w
 
 use crate::slots::{empty_slot, full_slot, moving, slot_of, staying};
 use crate::{Changer, Moves, Slot};
-use command::done::{Done, Went, done_with, went_with};
-use deck::{Deck, Shifted};
+use command::done::{Done, done_with};
+use command::tray::moving as shifted;
+use deck::Deck;
 use gate::fault::Fault;
 use ground::number::wide;
 
@@ -51,16 +50,6 @@ fn returned_deck(m: Deck) -> Deck
     let out = m.opening();
     let shut = out.deck.with_disc(false).closing();
     shut.deck
-}
-
-// The deck moved.
-fn shifted(s: Shifted) -> Done
-    ensures { result ≡ done_of (shifted s) }
-{
-    Ok(Went {
-        loading: s.loading,
-        ..went_with(s.deck)
-    })
 }
 
 // Once the drive's disc is back at its home, slot i holds one.

@@ -49,7 +49,7 @@ use Rattle.command.specs.declared.decode.Command.{Command}
 use Rattle.command.specs.declared.decode.Kind.{Kind}
 use Rattle.command.specs.declared.done.Went.{Went}
 use Rattle.command.specs.Command.{decode, kind_of, needing, bit, bit0, bit1, bit6}
-use Rattle.command.specs.Tray.{start_stop, prevent, no_medium}
+use Rattle.command.specs.Tray.{moving, start_stop, prevent, no_medium}
 use Rattle.command.specs.Inquiry.{inquiry_bytes}
 use Rattle.command.specs.Done.{Done, went_with, done, done_of}
 use Rattle.blocks.specs.Range.{in_range}
@@ -406,6 +406,9 @@ unique_done_with m r s = value_once
 
 pub unique-start_stop : (b : ℕ) (m : Deck) (r s : Done) → r ≡ done_of (start_stop b m) → s ≡ done_of (start_stop b m) → r ≡ s
 unique-start_stop b m r s = value_once
+
+pub unique-moving : (m : Shifted) (r s : Done) → r ≡ done_of (moving m) → s ≡ done_of (moving m) → r ≡ s
+unique-moving m r s = value_once
 
 pub unique-prevent : (b : ℕ) (m : Deck) (r s : Done) → r ≡ done_of (prevent b m) → s ≡ done_of (prevent b m) → r ≡ s
 unique-prevent b m r s = value_once

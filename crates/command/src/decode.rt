@@ -62,6 +62,7 @@ pub enum Kind {
     Gates,
 }
 
+// (An arm for each command, as in the definition: docs/APPENDIX-A.md is made from these arms and from those of `needs_disc`.)
 pub fn kind_of(c: Command) -> Kind
     ensures { result ≡ kind_of c }
 {

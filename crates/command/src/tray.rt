@@ -9,7 +9,7 @@ use deck::{Deck, Shifted};
 use gate::fault::Fault;
 
 // The tray moved.
-fn moving(s: Shifted) -> Done
+pub fn moving(s: Shifted) -> Done
     ensures { result ≡ done_of (moving s) }
 {
     Ok(Went {

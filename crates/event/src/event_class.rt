@@ -9,7 +9,7 @@ pub const SUPPORTED: u8 = 0x18;
 
 pub const MEDIA: u8 = 4;
 
-// A byte with no class in it has eight trailing zeros.
+// A byte with no class in it has eight trailing zeros. (No `Option`: `class_for_bits` and `event_bytes` speak of class 8.)
 pub const NO_CLASS: u8 = 8;
 
 // The bit of the class media.
@@ -29,7 +29,7 @@ fn waiting(event: u8) -> u8
 fn lowest(classes: u8) -> u8
     ensures { result ≡ lowest classes }
 {
-    u8::trailing_zeros(classes) as u8
+    classes.trailing_zeros() as u8
 }
 
 // The lowest class asked for and supported that has an event waiting, or of all those where none has.

@@ -21,7 +21,7 @@ pub enum Fault {
     NoSaving,
 }
 
-// The row of the table that the fault cites.
+// The row of the table that the fault cites. (Not `From<Fault> for Sense`: docs/PROMISES.md names this function.)
 pub fn sense_of(f: Fault) -> Sense
     ensures { result ≡ sense_of f }
 {

@@ -9,7 +9,7 @@ use page::{Page, defaults};
 // The one page that there is.
 const PAGE: usize = 0x01;
 
-// The page controls; any other is that of the current values.
+// The page controls; any other is that of the current values. (Numbers, since the definition `values_of` takes the two bits as one.)
 const CHANGEABLE: usize = 1;
 
 const DEFAULT: usize = 2;

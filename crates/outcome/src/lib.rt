@@ -80,10 +80,7 @@ pub fn finish(u: Unit, v: Unit, deck: Deck, done: Done) -> Outcome
 {
     match done {
         Err(f) => check(sense_of(f), u, deck),
-        Ok(w) => {
-            let next = w.next;
-            good(w.len, w.start, w.count, v.attend(w.loading), next)
-        }
+        Ok(w) => good(w.len, w.start, w.count, v.attend(w.loading), w.next),
     }
 }
 

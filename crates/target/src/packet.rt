@@ -95,7 +95,7 @@ fn steps(d: Drive, p: &[u8; 12], t: &[u8], list: &[u8], disc: Disc, mem: &mut [u
     }
 }
 
-// No disc was read.
+// No disc was read. (Not an `Option<Disc>`: each arm of `work` that reads the disc would have to open it, and be no plainer.)
 fn unread() -> Disc
     ensures { result ≡ unread }
 {

@@ -11,7 +11,7 @@ pub returns-then-holds : goal.returns-then-holds
 returns-then-holds c = let x = c.args in
     let q = c.requires in
     let p = rw (c.wide.ensures.same, c.wide-at.ensures.same) at (sym c.holds.ensures ∙ c.if-holds.true) in
-    rw (c.moving.ensures, c.empty_slot.ensures, c.wide-then-holds.ensures.same, c.shifted.ensures, c.closing-next.ensures, c.with_disc.ensures, c.returned_deck.ensures, c.full_slot-back.ensures, c.slot_of.ensures, c.wide-at.ensures.same)
+    rw (c.moving-then-holds.ensures, c.empty_slot.ensures, c.wide-then-holds.ensures.same, c.moving.ensures, c.closing-next.ensures, c.with_disc.ensures, c.returned_deck.ensures, c.full_slot-back.ensures, c.slot_of.ensures, c.wide-at.ensures.same)
     (acted-exchange (mechanism_of x.c x.slots.now) q.0 (q.1 q.0) x.i q.2 p)
 
 pub returns : goal.returns

@@ -1,5 +1,5 @@
 -- `mode::mode_select::is_page` meets its contract: each test is one of the definition's three, in its order.
-use mathlib.Core.Path.{sym, ◌∙◌}
+use mathlib.Core.Path.{◌∙◌}
 use Rattle.std.proofs.Common.{inl, inr}
 use borrow.Author.Tests.{eq-eqb, ne_eqb}
 use Rattle.ground.specs.Tests.{and_on, and_off, and_late}
