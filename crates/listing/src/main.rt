@@ -81,24 +81,22 @@ fn list(rt: &HostRuntime, table: &[u8], packets: &[u8], mem: &mut [u8], line: &m
     ensures { (result.state ≡ state_after table.now packets.now result.met) × (result.whole ≡ true → length packets.now ≤ 12 * result.met) }
 {
     let mut state = loaded();
-    let mut n = 0;
-    let mut at = 0;
-    while at < packets.len() {
-        let o = met_by(state, front(&packets[at..], PACKET), table, mem);
-        n += 1;
-        let k = put_line(n, o, front(mem, o.len), line);
+    let mut met = 0;
+    for p in packets.chunks(PACKET) {
+        let o = met_by(state, p, table, mem);
+        met += 1;
+        let k = put_line(met, o, front(mem, o.len), line);
         state = o.state;
-        at += PACKET;
         if !write(rt, front(line, k)) {
             return Listed {
-                met: n,
+                met,
                 state,
                 whole: false,
             };
         }
     }
     Listed {
-        met: n,
+        met,
         state,
         whole: true,
     }
