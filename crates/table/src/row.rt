@@ -1,13 +1,13 @@
 // A descriptor of the table, read once into a value, and the tests that rules 3, 5 and 6 make of one.
 ghost use Rattle.std.specs.Prelude.{◌≡◌, ◌≤◌};
-ghost use Rattle.table.specs.Row.{blank, row_of, frames_of, start_of, simple, free, plain, head_a0, head_a1, headed, addressed, row_test};
+ghost use Rattle.table.specs.Row.{row_of, frames_of, start_of, simple, free, plain, head_a0, head_a1, headed, addressed, row_test};
 
 use crate::layout::{A0, A1, A2, ROW, is_extra, is_track};
 use address::{address_of, is_msf};
 use ground::number::wide;
 
 // A descriptor's eleven bytes by name: ADR and control are one of them.
-#[derive(Clone, Copy)]
+#[derive(Clone, Copy, Default)]
 pub struct Row {
     pub session: u8,
     pub flags: u8,
@@ -22,45 +22,26 @@ pub struct Row {
     pub pframe: u8,
 }
 
-// All of a descriptor's bytes 0.
-fn blank() -> Row
-    ensures { result ≡ blank }
-{
-    Row {
-        session: 0,
-        flags: 0,
-        tno: 0,
-        point: 0,
-        min: 0,
-        sec: 0,
-        frame: 0,
-        zero: 0,
-        pmin: 0,
-        psec: 0,
-        pframe: 0,
-    }
-}
-
 // The descriptor that eleven bytes write; a blank one off any other number of bytes.
 pub fn row_of(b: &[u8]) -> Row
     ensures { result ≡ row_of b.now }
 {
-    if b.len() == ROW {
-        return Row {
-            session: b[0],
-            flags: b[1],
-            tno: b[2],
-            point: b[3],
-            min: b[4],
-            sec: b[5],
-            frame: b[6],
-            zero: b[7],
-            pmin: b[8],
-            psec: b[9],
-            pframe: b[10],
-        };
+    if b.len() != ROW {
+        return Row::default();
     }
-    blank()
+    Row {
+        session: b[0],
+        flags: b[1],
+        tno: b[2],
+        point: b[3],
+        min: b[4],
+        sec: b[5],
+        frame: b[6],
+        zero: b[7],
+        pmin: b[8],
+        psec: b[9],
+        pframe: b[10],
+    }
 }
 
 // The address that it holds, counted in frames from 00:00:00 on.
