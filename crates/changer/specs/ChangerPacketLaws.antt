@@ -1,9 +1,9 @@
 -- How the code's outcomes meet an answer.
-use Rattle.std.specs.Prelude.{ℕ, ◌≤◌, ◌<◌, min, ◌≡◌, Bool, Option, None, List, ◌++◌, length, take, drop}
+use Rattle.std.specs.Prelude.{ℕ, ◌≤◌, ◌<◌, min, ◌≡◌, Bool, Option, None, List, ◌++◌, length, take, drop, eqb, ltb}
 use Rattle.std.proofs.Math.Path.{refl, sym, ap}
-use Rattle.std.proofs.Common.{◌∙◌, lt_of_not-le, drop_of_length-le, take_all, eq-eqb, ne_eqb, lt-ltb, le-ltb, ltb-true, leb-true}
+use Rattle.std.proofs.Common.{◌∙◌, lt_of_not-le, length-take, drop_of_length-le, take_all, eq-eqb, ne_eqb, lt-ltb, le-ltb, ltb-true, leb-true}
 use Rattle.std.proofs.Math.Bool.{true, false, not}
-use Rattle.std.proofs.lemmas.Bool.{false≢true}
+use Rattle.std.proofs.lemmas.Bool.{false≢true, lt-leb}
 use Rattle.std.proofs.Math.Decide.{dec_le}
 use native.Mathlib.Omega.{arith}
 use Rattle.ground.specs.Tests.{◌and◌, choose◌then◌else◌, when, unless, and_head, and_tail, and_both, and_off, and_late, or_else}
@@ -42,15 +42,18 @@ use Rattle.changer.specs.Mechanism.{Mechanism, lo_unlo, starts, named_slot, load
 use Rattle.changer.specs.Status.{status_length, mechanism_status}
 use Rattle.changer.specs.MechanismLaws.{deck_of, after, Homed, ActedOn}
 use Rattle.changer.specs.Changer.{out_of_order, has_home, is_in_order}
-use Rattle.changer.specs.Moves.{settled, Within, staying, within-staying, settled_still}
+use Rattle.changer.specs.Moves.{settled, Within, staying, within-staying, within-more, settled_still}
+use Rattle.changer.specs.SlotLaws.{room}
 use Rattle.changer.specs.ChangerPacket.{mechanism_of, is_own, own, carried, steps, refusal_of, answer, outcome_of, bytes_of, Answered, AnsweredOn}
 
--- what is handed back and the memory are what the answer says, and what becomes of the slots s makes them the answer's
+-- what is handed back and the memory are what the answer says, and what becomes of the slots s makes them the answer's; where it is refused
+-- nothing becomes of them
 pub record AnsweredBy (a : Reply Mechanism) (s : List Slot) (m : List ℕ) (d : Met) (m' : List ℕ) : Type 0 where
   pub outcome : d.outcome ≡ outcome_of a
   pub memory : m' ≡ fill m (bytes_of a)
   pub slots : settled s d.moves ≡ a.deck.slots
   pub within : Within d.moves (length s)
+  pub still : (a.number ≡ 0 → ⊥) → d.moves ≡ None
 
 -- none of 1, 2, 3 and 11
 pub record Passed (c : Changer) (s : List Slot) (p : List ℕ) (n : ℕ) : Type 0 where
@@ -96,6 +99,7 @@ answered_by-refused k r c s b = record {
   memory = sym (fill_none b);
   slots = settled_still s staying refl;
   within = within-staying (length s);
+  still = λ h. refl;
 }
 
 -- the drive's own answer, home and slots as they were
@@ -106,6 +110,7 @@ answered_by-carried m {a} x = record {
   memory = x.memory;
   slots = settled_still m.slots staying refl;
   within = within-staying (length m.slots);
+  still = λ h. refl;
 }
 
 -- an attention is told
@@ -117,6 +122,7 @@ answered_by-tells a u m r b e n x = rw (gate-tells a u m r e n) (record {
   memory = sym (fill_none b);
   slots = settled_still m.slots staying refl;
   within = within-staying (length m.slots);
+  still = λ h. refl;
 })
 
 -- what is performed is settled
@@ -134,6 +140,10 @@ module _ (u : Unit) (m : Mechanism) where
   settled-slots (fails f) = refl
   settled-slots (goes next loading full limit start count) = refl
 
+  settled-number : (r : Result Mechanism) → (settle u m r).number ≡ 0
+  settled-number (fails f) = refl
+  settled-number (goes next loading full limit start count) = refl
+
   pub answered_by-settles : (r : Result Mechanism) {a : Act} {o : Driven} {b b' : List ℕ}
       → pending_of u ≡ None → ActedOn r m b a b' → o ≡ finished u (clear u) m.deck a.done
       → AnsweredBy (gate u m r) m.slots b (outcome_with o a.home a.moves) b'
@@ -148,6 +158,7 @@ module _ (u : Unit) (m : Mechanism) where
         memory = x.memory ∙ ap (fill b) (settled-bytes r);
         slots = y.slots ∙ settled-slots r;
         within = y.within;
+        still = λ n. absurd (n (settled-number r));
       })
 
 -- ---- the refusals in order
@@ -244,10 +255,76 @@ in_order_homed c s h d =
     let o = and_tail _ _ (and_tail _ _ (and_tail _ _ h)) in
     ltb-true _ _ (and_head _ _ (sym (or_else _ (has_home c.home s) (ap not d)) ∙ o))
 
+-- more than 31 slots
+pub in_order_many : (c : Changer) (s : List Slot) → most < length s → is_in_order c s ≡ false
+unfolding is_in_order
+in_order_many c s h = sym (and_late _ _ (and_off _ _ (lt-leb _ _ h)))
+
 -- there are no more than 31 slots
 pub in_order_most : (c : Changer) (s : List Slot) → is_in_order c s ≡ true → length s ≤ most
 unfolding is_in_order
 in_order_most c s h = leb-true _ _ (and_head _ _ (and_tail _ _ h))
+
+-- ---- the slots that are lent
+
+-- the first 32 decide the refusal as all of them do
+module _ (c : Changer) (p t l : List ℕ) (n : ℕ) where
+  refusal_of-many : (s : List Slot) → most < length s
+      → refusal_of c s p t n ≡ (choose not (eqb (length p) 12) then not_twelve else (choose not (is_known_state c.drive) then unknown_state else (choose ltb n bound then short_memory else out_of_order)))
+  unfolding refusal_of
+  refusal_of-many s h = rw (in_order_many c s h, when {A = ℕ} true out_of_order (choose is_loaded c.drive.deck and not (is_fit t) then unfit else 0) refl) refl
+
+  refusal_of-refused : (s : List Slot) → most < length s → refusal_of c s p t n ≡ 0 → ⊥
+  unfolding choose◌then◌else◌
+  refusal_of-refused s h e = go (not (eqb (length p) 12)) (not (is_known_state c.drive)) (ltb n bound) (sym (refusal_of-many s h) ∙ e)
+    where
+      go : (x y z : Bool) → (choose x then not_twelve else (choose y then unknown_state else (choose z then short_memory else out_of_order))) ≡ 0 → ⊥
+      go true y z w = omega arith
+      go false true z w = omega arith
+      go false false true w = omega arith
+      go false false false w = omega arith
+
+  refused-many : (s : List Slot) → most < length s
+      → answer c s p t l n ≡ refuse (refusal_of c s p t n) (rule_with (refusal_of c s p t n) t) c.drive.unit (mechanism_of c s)
+  unfolding answer
+  refused-many s h = unless _ _ _ (ne_eqb _ 0 (refusal_of-refused s h))
+
+-- what the first 32 come to is what the lent slots come to: they are the same, or too many
+module _ (c : Changer) (ys : List Slot) (p t l m : List ℕ) where
+  pub edge-within : {d : Met} {m' : List ℕ} → AnsweredBy (answer c (take room ys) p t l (length m)) (take room ys) m d m' → Within d.moves (length ys)
+  edge-within {d} x =
+      let e = length-take room ys in within-more d.moves {n = length (take room ys)} {k = length ys} (omega arith) x.within
+
+  pub edge-answered : {d : Met} {m' : List ℕ} {s' : List Slot} → AnsweredBy (answer c (take room ys) p t l (length m)) (take room ys) m d m'
+      → s' ≡ settled ys d.moves → Answered (answer c ys p t l (length m)) m d.outcome m' s'
+  edge-answered {d} {m'} {s'} x e = elim (dec_le (length ys) room) [
+    | yes h ↦ same (take_all room ys h)
+    | no h ↦ many (lt_of_not-le h)
+  ]
+    where
+      same : take room ys ≡ ys → Answered (answer c ys p t l (length m)) m d.outcome m' s'
+      same q =
+          let y : AnsweredBy (answer c ys p t l (length m)) ys m d m' = rw q at x in
+          record { outcome = y.outcome; memory = y.memory; slots = e ∙ y.slots }
+
+      -- the refusal k, of the slots that are lent
+      told : ℕ → Reply Mechanism
+      told k = refuse k (rule_with k t) c.drive.unit (mechanism_of c ys)
+
+      many : room < length ys → Answered (answer c ys p t l (length m)) m d.outcome m' s'
+      many g =
+          let n = length m in
+          let f : most < length (take room ys) = let w = length-take room ys in omega arith in
+          let g' : most < length ys = omega arith in
+          let k : refusal_of c (take room ys) p t n ≡ refusal_of c ys p t n = refusal_of-many c p t l n (take room ys) f ∙ sym (refusal_of-many c p t l n ys g') in
+          let a = refused-many c p t l n (take room ys) f in
+          let b = refused-many c p t l n ys g' in
+          let z : d.moves ≡ None = x.still (λ w. refusal_of-refused c p t l n (take room ys) f (sym (ap (λ (r : Reply Mechanism). r.number) a) ∙ w)) in
+          record {
+            outcome = x.outcome ∙ ap outcome_of a ∙ ap (λ (j : ℕ). outcome_of (told j)) k ∙ sym (ap outcome_of b);
+            memory = x.memory ∙ ap (λ (r : Reply Mechanism). fill m (bytes_of r)) a ∙ sym (ap (λ (r : Reply Mechanism). fill m (bytes_of r)) b);
+            slots = e ∙ settled_still ys d.moves z ∙ sym (ap (λ (r : Reply Mechanism). r.deck.slots) b);
+          }
 
 -- ---- the first slots of an array
 

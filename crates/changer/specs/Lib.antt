@@ -1,4 +1,5 @@
 pub mod Slot
+pub mod SlotLaws
 pub mod Moves
 pub mod Mechanism
 pub mod MechanismLaws

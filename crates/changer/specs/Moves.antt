@@ -1,6 +1,6 @@
 -- What becomes of the slots: it is written in two places, or nothing is.
-use Rattle.std.specs.Prelude.{ℕ, ◌<◌, ◌≡◌, refl, Option, Some, None, List, set}
-use Rattle.std.proofs.Common.{◌∙◌, set-set}
+use Rattle.std.specs.Prelude.{ℕ, ◌≤◌, ◌<◌, ◌≡◌, refl, Option, Some, None, List, set}
+use Rattle.std.proofs.Common.{◌∙◌, arith, set-set}
 use Rattle.changer.specs.declared.Slot.{Slot}
 use Rattle.changer.specs.declared.Moves.{Moves}
 
@@ -27,6 +27,11 @@ within-staying n = tt
 
 pub within-moving : {a b n : ℕ} (x y : Slot) → a < n → b < n → Within (moving a x b y) n
 within-moving x y h g = (h, g)
+
+-- among more slots too
+pub within-more : (m : Option Moves) {n k : ℕ} → n ≤ k → Within m n → Within m k
+within-more None h w = tt
+within-more (Some m) h w = let a = w.0 in let b = w.1 in (omega arith, omega arith)
 
 pub settled_still : (l : List Slot) (m : Option Moves) → m ≡ None → settled l m ≡ l
 unfolding settled

@@ -1,7 +1,7 @@
 -- Laws of a stream: its whole tables one after the other, what comes behind, and that it makes no difference in which pieces it was read.
-use Rattle.std.specs.Prelude.{◌≡◌, refl, true, false, List, [], ◌∷◌, ◌++◌, ℕ, zero, suc, ◌+◌, ◌-◌, ◌≤◌, ◌<◌, min, take, get_or, leb, Result, Ok, Err, Option, Some, None}
+use Rattle.std.specs.Prelude.{◌≡◌, refl, true, false, ◌⊎◌, List, [], ◌∷◌, ◌++◌, ℕ, zero, suc, ◌+◌, ◌-◌, ◌≤◌, ◌<◌, min, take, get_or, leb, Result, Ok, Err, Option, Some, None}
 use Rattle.std.proofs.Math.Path.{sym, ap}
-use Rattle.std.proofs.Common.{◌∙◌, ⊎_elim, append_assoc, append-nil, zero-add, lt_of_not-le, length-append, take-append-drop, drop-drop, length-take-le, get_or-drop, take_all, le-leb}
+use Rattle.std.proofs.Common.{◌∙◌, ⊎_elim, append_assoc, append-nil, zero-add, lt_of_not-le, length-append, length-take, take-append-drop, drop-drop, length-take-le, get_or-append-add, get_or-drop, get_or-take, take_all, le-leb}
 use native.Mathlib.Omega.{arith}
 use Rattle.std.proofs.Math.Decide.{dec_le}
 use Rattle.std.proofs.Math.ListN.{length, drop, length-drop}
@@ -10,7 +10,7 @@ use Rattle.std.proofs.Math.Seq.{take-append_seam}
 use Rattle.std.proofs.lemmas.Bool.{lt-leb}
 use Rattle.std.specs.List.{copy_within}
 use Rattle.ground.specs.Tests.{choose◌then◌else◌, when, unless, either}
-use Rattle.ground.specs.Memory.{fill_fits}
+use Rattle.ground.specs.Memory.{Laid, fill, fill_fits}
 use Rattle.shelf.specs.Totals.{nothing, sum, of_table, totals_of, within, too_large, bounded}
 use Rattle.shelf.specs.TotalsLaws.{sum_assoc, sum_comm, sum-nothing, nothing-sum, totals-none, totals-next, totals-one, totals-append, nothing-within, within-over, within_chose, bounded_is, bounded-over, bounded-told, bounded-told-over}
 use Rattle.shelf.specs.Stream.{table_length, wholes_in, rest_in, wholes, rest, cut_off, tables, shelf, counted, passed_to, passed, left_by, taken_by, kept_by, left_in, Took}
@@ -242,6 +242,32 @@ pub tables-cut : (s : List ℕ) → 0 < length s → length s < table_length s �
 unfolding tables
 tables-cut s l h = rw (wholes_end s h, rest_end s h) (cut_off_some s l)
 
+-- ---- bytes of a room moved to its front
+
+-- once the first i of them are there, the next one stands where it stood
+pub moved-next :
+    (m : List ℕ) (from n i : ℕ) {m₁ : List ℕ} → Laid m (take i (take n (drop from m))) i m₁ → i < n → from + i < length m
+    → get_or m₁ (from + i) 0 ≡ get_or (take n (drop from m)) i 0
+moved-next m from n i {m₁} l h k =
+    let d = length-drop from m in
+    let t = length-take n (drop from m) in
+    let e : length (take i (take n (drop from m))) ≡ i = length-take-le i (take n (drop from m)) (omega arith) in
+    let f : m₁ ≡ take i (take n (drop from m)) ++ drop i m =
+    l.bytes ∙ fill_fits m (take i (take n (drop from m))) (omega arith)
+    ∙ ap (λ (x : ℕ). take i (take n (drop from m)) ++ drop x m) e in
+    let p : from + i ≡ length (take i (take n (drop from m))) + from = omega arith in
+    ap (λ (x : List ℕ). get_or x (from + i) 0) f
+    ∙ ap (λ (x : ℕ). get_or (take i (take n (drop from m)) ++ drop i m) x 0) p
+    ∙ get_or-append-add (take i (take n (drop from m))) (drop i m) from 0
+    ∙ get_or-drop i m from 0
+    ∙ ap (λ (x : ℕ). get_or m x 0) (omega arith)
+    ∙ sym (get_or-drop from m i 0)
+    ∙ sym (get_or-take n (drop from m) i 0 h)
+
+-- how many they are
+pub moved_length : (m : List ℕ) (from n i : ℕ) → (n ≤ i) ⊎ (length m ≤ from + i) → length (take n (drop from m)) ≤ i
+moved_length m from n i c = let d = length-drop from m in let t = length-take n (drop from m) in ⊎_elim (λ h. omega arith) (λ h. omega arith) c
+
 -- ---- table by table, as the code goes
 
 pub passed_to_on : (a : Totals) (used : ℕ) → within a ≡ true → passed_to a used ≡ Ok (record { totals = a; used = used })
@@ -440,16 +466,34 @@ drop_of_take m used n h k =
     ∙ take-append_seam (drop used (take n m)) (drop n m)
 
 -- none of the bytes were used: all stand where they stood
-pub keep-none : (p : Passed) (n : ℕ) (m : List ℕ) → p.used ≡ 0 → n ≤ length m → m ≡ kept_by (Ok p) (take n m) m
-unfolding kept_by
+pub keep-none :
+    (p : Passed) (n : ℕ) (m : List ℕ) → p.used ≡ 0 → n ≤ length m
+    → (Ok (record { totals = p.totals; left = n }) ≡ taken_by (Ok p) n) × (m ≡ kept_by (Ok p) (take n m) m)
+unfolding taken_by kept_by
 keep-none p n m e h =
     let l = length-take-le n m h in
-    rw e (sym (fill_fits m (take n m) (omega arith) ∙ ap (λ (x : ℕ). take n m ++ drop x m) l ∙ take-append-drop n m))
+    let q : n ≡ n - p.used = omega arith in (
+      ap (λ (x : ℕ). Ok (record { totals = p.totals; left = x })) q,
+      rw e (sym (fill_fits m (take n m) (omega arith) ∙ ap (λ (x : ℕ). take n m ++ drop x m) l ∙ take-append-drop n m)),
+    )
 
 -- what is left was moved
-pub keep-moved : (p : Passed) (n : ℕ) (m : List ℕ) → p.used ≤ n → n ≤ length m → copy_within m p.used n 0 ≡ kept_by (Ok p) (take n m) m
+pub keep-moved :
+    (p : Passed) (n : ℕ) (m : List ℕ) {left : ℕ} {m' : List ℕ} → p.used ≤ n → n ≤ length m
+    → Laid m (take (n - p.used) (drop p.used m)) left m'
+    → (Ok (record { totals = p.totals; left = left }) ≡ taken_by (Ok p) n) × (m' ≡ kept_by (Ok p) (take n m) m)
+unfolding taken_by kept_by
+keep-moved p n m {left} h k l =
+    let c = l.count in
+    let t = length-take (n - p.used) (drop p.used m) in
+    let d = length-drop p.used m in
+    let q : left ≡ n - p.used = omega arith in
+    (ap (λ (x : ℕ). Ok (record { totals = p.totals; left = x })) q, l.bytes ∙ ap (fill m) (drop_of_take m p.used n h k))
+
+-- as the slice itself moves it
+pub keep-copied : (p : Passed) (n : ℕ) (m : List ℕ) → p.used ≤ n → n ≤ length m → copy_within m p.used n 0 ≡ kept_by (Ok p) (take n m) m
 unfolding kept_by
-keep-moved p n m h k =
+keep-copied p n m h k =
     let e = drop_of_take m p.used n h k in
     let l : length (drop p.used (take n m)) ≡ n - p.used = length-drop p.used (take n m) ∙ ap (λ (x : ℕ). x - p.used) (length-take-le n m k) in
     ap (λ (x : ℕ). take (n - p.used) (drop p.used m) ++ drop x m) (zero-add (n - p.used) ∙ sym l)

@@ -68,6 +68,13 @@ totals-append (t ∷ ts) us =
 
 -- ---- 64 bits
 
+-- a number fits into what another leaves exactly where their sum is within them
+pub room-left : (a b : ℕ) {left : ℕ} → b ≤ most → left ≡ most - b → leb a left ≡ leb (a + b) most
+room-left a b {left} h e = elim (dec_le (a + b) most) [
+  | yes l ↦ le-leb a left (omega arith) ∙ sym (le-leb _ _ l)
+  | no l ↦ (let g = lt_of_not-le l in lt-leb a left (omega arith) ∙ sym (lt-leb _ _ g))
+]
+
 -- one of the sums: where it is past them, it is not told
 unfoldable pub plus : ℕ → ℕ → Result ℕ TooLarge
 plus a b = choose leb (a + b) most then Ok (a + b) else Err too_large
