@@ -88,6 +88,7 @@ fn with_track(span: Option<Span>, t: Track) -> Span
 }
 
 // One entry more: another index than 1 is passed over.
+#[tactic(auto, using(ground::specs::TestValues::test_values, ground::specs::Tests::when, ground::specs::Tests::unless), unfolding(crate::specs::SpanLaws::with_entry))]
 fn with_entry(span: Option<Span>, e: Entry) -> Option<Span>
     ensures { result ≡ with_entry span e }
 {
