@@ -67,7 +67,7 @@ fn met_by(d: Drive, p: &[u8], table: &[u8], mem: &mut [u8]) -> Outcome
 }
 
 // How many packets were met, the state after the last of them, and whether that was the file's last: not so where a line could not be
-// written. It is there for the promise alone.
+// written. It is there for the promise alone; a Result in place of `whole` is no plainer, since both its arms would hold `met` and `state`.
 #[derive(Clone, Copy)]
 struct Listed {
     met: usize,

@@ -26,7 +26,7 @@ fn slots_of(bytes: &[u8]) -> [Slot; SLOTS] {
     all
 }
 
-// A slot's byte.
+// A slot's byte. The changer's `flags_of` is the same, and stays its own: a public function more would need a promise.
 fn slot_byte(s: Slot) -> u8 {
     u8::from(s.present) * 0x80 + u8::from(s.changed)
 }
