@@ -4,7 +4,6 @@ use crate::line::{put_changer, put_stood};
 use changer::{Changer, Slot, packet_on};
 use ground::memory::copy_front;
 use ground::number::{smaller, word32};
-use outcome::Outcome;
 use print::front::front;
 
 // Every byte is a slot's: no other bit than 80h and 01h.
@@ -131,21 +130,6 @@ fn put_bytes(all: [Slot; 255], bytes: &mut [u8]) {
     }
 }
 
-// What the drive would hand back.
-fn driven(o: changer::Outcome) -> Outcome {
-    let c = o.state;
-    let state = c.drive;
-    Outcome {
-        number: o.number,
-        rule: o.rule,
-        status: o.status,
-        len: o.len,
-        start: o.start,
-        count: o.count,
-        state,
-    }
-}
-
 // Kind 19: a packet to the changer, with the table, the list, the memory and the slots as they are lent.
 pub(crate) fn call_changer(
     body: &[u8],
@@ -174,6 +158,6 @@ pub(crate) fn call_changer(
     let c = o.state;
     let left = x.slots;
     put_bytes(left, kept);
-    let len = put_changer(driven(o), c.home, kept, lent, line);
+    let len = put_changer(o.with_state(c.drive), c.home, kept, lent, line);
     printed(len, with_changer(bench, c))
 }
