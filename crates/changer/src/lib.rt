@@ -30,7 +30,7 @@ pub struct Changer {
     pub home: u8,
 }
 
-// The outside call's answer: the refusal's number or 0, and the next state.
+// The outside call's answer: the refusal's number or 0, and the next state. C interface: `Moved` is laid out for C, and stays the drive's alone.
 #[derive(Clone, Copy)]
 pub struct MovedOn {
     pub number: u8,
