@@ -16,7 +16,7 @@ use Rattle.target.specs.Packet.{not_twelve, short_memory}
 use Rattle.target.specs.Packet as drive
 use Rattle.changer.specs.declared.Slot.{Slot}
 use Rattle.changer.specs.declared.Changer.{Changer}
-use Rattle.changer.specs.declared.Outcome.{Outcome}
+use Rattle.outcome.specs.declared.Outcome.{Outcome}
 use Rattle.changer.specs.declared.Lent.{Lent}
 use Rattle.changer.specs.Mechanism.{Mechanism, lo_unlo, starts, named_slot, load_unload}
 use Rattle.changer.specs.Status.{status_length, mechanism_status}
@@ -91,7 +91,7 @@ state_of a = record { drive = record { unit = a.unit; deck = a.deck.deck }; home
 abbrev pub bytes_of : Reply Mechanism → List ℕ
 bytes_of a = take a.limit a.full
 
-abbrev pub outcome_of : Reply Mechanism → Outcome
+abbrev pub outcome_of : Reply Mechanism → Outcome Changer
 outcome_of a = record {
   number = a.number;
   rule = a.rule;
@@ -103,7 +103,7 @@ outcome_of a = record {
 }
 
 -- the outcome r, the memory m' and the slots s' are what the answer says, of the memory m
-pub record Answered (a : Reply Mechanism) (m : List ℕ) (r : Outcome) (m' : List ℕ) (s' : List Slot) : Type 0 where
+pub record Answered (a : Reply Mechanism) (m : List ℕ) (r : Outcome Changer) (m' : List ℕ) (s' : List Slot) : Type 0 where
   pub outcome : r ≡ outcome_of a
   pub memory : m' ≡ fill m (bytes_of a)
   pub slots : s' ≡ a.deck.slots

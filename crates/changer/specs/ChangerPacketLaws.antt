@@ -11,6 +11,7 @@ use Rattle.ground.specs.Memory.{fill, fill_none}
 use Rattle.attention.specs.declared.Unit.{Unit}
 use Rattle.deck.specs.declared.Deck.{Deck}
 use Rattle.deck.specs.Deck.{is_loaded}
+use Rattle.drive.specs.declared.state.Drive.{Drive}
 use Rattle.drive.specs.State.{is_known_state, unknown_state}
 use Rattle.table.specs.Layout.{bound}
 use Rattle.disc.specs.Rules.{fault, is_fit}
@@ -23,9 +24,9 @@ use Rattle.gate.specs.Gate.{Result, fails, goes, Reply, refuse, settle, gate}
 use Rattle.gate.specs.GateLaws.{gate-tells, gate-settles}
 use Rattle.command.specs.Command.{code_of}
 use Rattle.command.specs.Done.{done_of}
-use Rattle.outcome.specs.declared.Outcome.{Outcome as Driven}
+use Rattle.outcome.specs.declared.Outcome.{Outcome}
 use Rattle.outcome.specs.Outcome as drive
-use Rattle.outcome.specs.Outcome.{checked, finished}
+use Rattle.outcome.specs.Outcome.{with_state, refused, checked, finished}
 use Rattle.target.specs.Perform.{written}
 use Rattle.target.specs.Packet.{not_twelve, short_memory}
 use Rattle.target.specs.Packet as target
@@ -34,7 +35,6 @@ use Rattle.changer.specs.declared.Slot.{Slot}
 use Rattle.changer.specs.declared.Changer.{Changer}
 use Rattle.changer.specs.declared.Moves.{Moves}
 use Rattle.changer.specs.declared.Met.{Met}
-use Rattle.changer.specs.declared.Outcome.{Outcome}
 use Rattle.changer.specs.declared.Lent.{Lent}
 use Rattle.changer.specs.declared.load.Act.{Act}
 use Rattle.changer.specs.Slot.{most}
@@ -63,17 +63,11 @@ pub record Passed (c : Changer) (s : List Slot) (p : List ℕ) (n : ℕ) : Type 
   pub order : is_in_order c s ≡ true
 
 abbrev pub refused_with : ℕ → ℕ → Changer → Met
-refused_with n r c = record {
-  outcome = record { number = n; rule = r; status = 0; len = 0; start = 0; count = 0; state = c };
-  moves = staying;
-}
+refused_with n r c = record { outcome = refused n r c; moves = staying }
 
 -- what the drive hands back, with the home and what becomes of the slots
-abbrev pub outcome_with : Driven → ℕ → Option Moves → Met
-outcome_with o home moves = record {
-  outcome = record { number = o.number; rule = o.rule; status = o.status; len = o.len; start = o.start; count = o.count; state = record { drive = o.state; home = home } };
-  moves = moves;
-}
+abbrev pub outcome_with : Outcome Drive → ℕ → Option Moves → Met
+outcome_with o home moves = record { outcome = with_state o (record { drive = o.state; home = home }); moves = moves }
 
 -- ---- the changer's own packets
 
@@ -103,10 +97,10 @@ answered_by-refused k r c s b = record {
 }
 
 -- the drive's own answer, home and slots as they were
-pub answered_by-carried : (m : Mechanism) {a : Reply Deck} {o : Driven} {b b' : List ℕ} → drive.Answered a b o b'
+pub answered_by-carried : (m : Mechanism) {a : Reply Deck} {o : Outcome Drive} {b b' : List ℕ} → drive.Answered a b o b'
     → AnsweredBy (carried m a) m.slots b (outcome_with o m.home staying) b'
 answered_by-carried m {a} x = record {
-  outcome = ap (λ (o : Driven). (outcome_with o m.home staying).outcome) x.outcome;
+  outcome = ap (λ (o : Outcome Drive). (outcome_with o m.home staying).outcome) x.outcome;
   memory = x.memory;
   slots = settled_still m.slots staying refl;
   within = within-staying (length m.slots);
@@ -114,11 +108,11 @@ answered_by-carried m {a} x = record {
 }
 
 -- an attention is told
-pub answered_by-tells : (a : Option Pending) (u : Unit) (m : Mechanism) (r : Result Mechanism) {o : Driven} (b : List ℕ)
+pub answered_by-tells : (a : Option Pending) (u : Unit) (m : Mechanism) (r : Result Mechanism) {o : Outcome Drive} (b : List ℕ)
     → pending_of u ≡ a → (a ≡ None → ⊥) → o ≡ checked (attention_sense a) (told a u) m.deck
     → AnsweredBy (gate u m r) m.slots b (outcome_with o m.home staying) b
 answered_by-tells a u m r b e n x = rw (gate-tells a u m r e n) (record {
-  outcome = ap (λ (o : Driven). (outcome_with o m.home staying).outcome) x;
+  outcome = ap (λ (o : Outcome Drive). (outcome_with o m.home staying).outcome) x;
   memory = sym (fill_none b);
   slots = settled_still m.slots staying refl;
   within = within-staying (length m.slots);
@@ -144,7 +138,7 @@ module _ (u : Unit) (m : Mechanism) where
   settled-number (fails f) = refl
   settled-number (goes next loading full limit start count) = refl
 
-  pub answered_by-settles : (r : Result Mechanism) {a : Act} {o : Driven} {b b' : List ℕ}
+  pub answered_by-settles : (r : Result Mechanism) {a : Act} {o : Outcome Drive} {b b' : List ℕ}
       → pending_of u ≡ None → ActedOn r m b a b' → o ≡ finished u (clear u) m.deck a.done
       → AnsweredBy (gate u m r) m.slots b (outcome_with o a.home a.moves) b'
   answered_by-settles r {a} {o} {b} e x f =
@@ -152,7 +146,7 @@ module _ (u : Unit) (m : Mechanism) where
       let g : o ≡ finished u (clear u) m.deck (done_of (deck_of r)) = f ∙ ap (finished u (clear u) m.deck) y.done in
       rw (gate-settles u m r e) (record {
         outcome =
-            ap (λ (z : Driven). (outcome_with z a.home a.moves).outcome) g
+            ap (λ (z : Outcome Drive). (outcome_with z a.home a.moves).outcome) g
             ∙ ap (λ (h : ℕ). (outcome_with (finished u (clear u) m.deck (done_of (deck_of r))) h a.moves).outcome) y.home
             ∙ settled-outcome r a.moves;
         memory = x.memory ∙ ap (fill b) (settled-bytes r);
@@ -329,7 +323,7 @@ module _ (c : Changer) (ys : List Slot) (p t l m : List ℕ) where
 -- ---- the first slots of an array
 
 -- the first k are lent, and come back before the others
-pub answered_on-first : (c : Changer) (s : List Slot) (k : ℕ) (p t l m : List ℕ) {o : Outcome} {m' : List ℕ} {s' : List Slot}
+pub answered_on-first : (c : Changer) (s : List Slot) (k : ℕ) (p t l m : List ℕ) {o : Outcome Changer} {m' : List ℕ} {s' : List Slot}
     → Answered (answer c (take k s) p t l (length m)) m o m' s' → AnsweredOn c s k p t l m (record { slots = s' ++ drop k s; outcome = o }) m'
 answered_on-first c s k p t l m x =
     record { outcome = x.outcome; memory = x.memory; slots = ap (λ (z : List Slot). z ++ drop k s) x.slots }

@@ -14,6 +14,7 @@ ghost use Rattle.changer.specs.ChangerPacket.{answer, Answered, AnsweredOn};
 
 use crate::meet::meet;
 use drive::state::Drive;
+use outcome::Outcome;
 
 // A slot record: disc present, disc changed.
 #[derive(Clone, Copy)]
@@ -29,23 +30,10 @@ pub struct Changer {
     pub home: u8,
 }
 
-// The outside call's answer: the refusal's number or 0, and the next state.
+// The outside call's answer: the refusal's number or 0, and the next state. C interface: `Moved` is laid out for C, and stays the drive's alone.
 #[derive(Clone, Copy)]
 pub struct MovedOn {
     pub number: u8,
-    pub state: Changer,
-}
-
-// The refusal's number or 0, beside 4 the table's first broken rule, the status, how many bytes were written, the blocks that a READ
-// names, and the next state.
-#[derive(Clone, Copy)]
-pub struct Outcome {
-    pub number: u8,
-    pub rule: u8,
-    pub status: u8,
-    pub len: usize,
-    pub start: usize,
-    pub count: usize,
     pub state: Changer,
 }
 
@@ -61,7 +49,7 @@ pub struct Moves {
 // What a packet comes to: what is handed back, and what becomes of the slots, if anything.
 #[derive(Clone, Copy)]
 pub struct Met {
-    pub outcome: Outcome,
+    pub outcome: Outcome<Changer>,
     pub moves: Option<Moves>,
 }
 
@@ -69,7 +57,7 @@ pub struct Met {
 #[derive(Clone, Copy)]
 pub struct Lent {
     pub slots: [Slot; 255],
-    pub outcome: Outcome,
+    pub outcome: Outcome<Changer>,
 }
 
 impl Changer {
@@ -139,7 +127,7 @@ pub fn packet(
     table: &[u8],
     list: &[u8],
     mem: &mut [u8],
-) -> Outcome
+) -> Outcome<Changer>
     ensures { Answered (answer c slots.old p.now table.now list.now (length mem.old)) mem.old result mem.new slots.new }
 {
     let d = meet(slots, c, p, table, list, mem);

@@ -10,7 +10,7 @@ ghost use Rattle.changer.specs.ChangerPacketLaws.{AnsweredBy, Passed, refused_wi
 use crate::load::{Act, failed, load_unload};
 use crate::slots::{is_in_order, staying};
 use crate::status::mechanism_status;
-use crate::{Changer, Met, Moves, Outcome, Slot};
+use crate::{Changer, Met, Moves, Slot};
 use command::field::bit;
 use disc::disc::fault;
 use disc::part::UNFIT;
@@ -18,7 +18,7 @@ use drive::state::UNKNOWN_STATE;
 use gate::fault::Fault;
 use gate::unit::{clear, first_pending};
 use ground::number::word16;
-use outcome::{finish, tell};
+use outcome::{Outcome, finish, refuse, tell};
 use table::layout::BOUND;
 use target::packet::{NOT_TWELVE, SHORT_MEMORY, packet};
 
@@ -37,34 +37,18 @@ fn refused(number: u8, rule: u8, c: Changer) -> Met
     ensures { result ≡ refused_with number rule c }
 {
     Met {
-        outcome: Outcome {
-            number,
-            rule,
-            status: 0,
-            len: 0,
-            start: 0,
-            count: 0,
-            state: c,
-        },
+        outcome: refuse(number, rule, c),
         moves: staying(),
     }
 }
 
 // What the drive hands back, with the home and what becomes of the slots.
-fn with_home(o: outcome::Outcome, home: u8, moves: Option<Moves>) -> Met
+fn with_home(o: Outcome, home: u8, moves: Option<Moves>) -> Met
     ensures { result ≡ outcome_with o home moves }
 {
     let drive = o.state;
     Met {
-        outcome: Outcome {
-            number: o.number,
-            rule: o.rule,
-            status: o.status,
-            len: o.len,
-            start: o.start,
-            count: o.count,
-            state: Changer { drive, home },
-        },
+        outcome: o.with_state(Changer { drive, home }),
         moves,
     }
 }

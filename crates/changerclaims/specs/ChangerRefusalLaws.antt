@@ -20,7 +20,7 @@ use Rattle.claims.proofs.UnitLaws.{Kind, meets}
 use Rattle.claims.proofs.RefusalLaws.{Numbered, meets-numbered, Beside, rule_with-beside, TestedAlone, move-tested}
 use Rattle.changer.specs.declared.Slot.{Slot}
 use Rattle.changer.specs.declared.Changer.{Changer}
-use Rattle.changer.specs.declared.Outcome.{Outcome}
+use Rattle.outcome.specs.declared.Outcome.{Outcome}
 use Rattle.changer.specs.Slot.{slot_at}
 use Rattle.changer.specs.Mechanism.{Mechanism}
 use Rattle.changer.specs.Changer.{is_in_order, with_drive, moves_on}
@@ -141,7 +141,7 @@ order_not c s =
 -- ---- a refused packet
 
 -- what is handed back of it
-abbrev refused_by : ℕ → ℕ → Changer → Outcome
+abbrev refused_by : ℕ → ℕ → Changer → Outcome Changer
 refused_by n rule c = record { number = n; rule = rule; status = 0; len = 0; start = 0; count = 0; state = c }
 
 abbrev Unchanged : Changer → List Slot → List ℕ → Reply Mechanism → Type 0
@@ -161,14 +161,14 @@ answer_unchanged c s p t l m n =
     rw (reply-kind c s p t l n) (meets_unchanged (refusal_of c s p t n) t (kind_on p (mechanism_of c s) t l) c s m)
 
 -- of whatever meets the promise
-pub answered_unchanged : (c : Changer) (s : List Slot) (p t l m : List ℕ) {r : Outcome} {m' : List ℕ} {s' : List Slot}
+pub answered_unchanged : (c : Changer) (s : List Slot) (p t l m : List ℕ) {r : Outcome Changer} {m' : List ℕ} {s' : List Slot}
     → Answered (answer c s p t l (length m)) m r m' s'
     → (r.number ≡ 0 → ⊥)
     → (r ≡ refused_by r.number r.rule c) × (m' ≡ m) × (s' ≡ s)
 answered_unchanged c s p t l m a n =
     let e = a.outcome in
-    let u = answer_unchanged c s p t l m (length m) (λ z. n (ap (λ (o : Outcome). o.number) e ∙ z)) in
-    (e ∙ u.0 ∙ ap (λ (o : Outcome). refused_by o.number o.rule c) (sym e), a.memory ∙ u.2, a.slots ∙ u.1)
+    let u = answer_unchanged c s p t l m (length m) (λ z. n (ap (λ (o : Outcome Changer). o.number) e ∙ z)) in
+    (e ∙ u.0 ∙ ap (λ (o : Outcome Changer). refused_by o.number o.rule c) (sym e), a.memory ∙ u.2, a.slots ∙ u.1)
 
 -- ---- K2's outside call
 

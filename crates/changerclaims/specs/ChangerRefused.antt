@@ -10,7 +10,7 @@ use Rattle.table.specs.Layout.{bound}
 use Rattle.disc.specs.Rules.{fault, is_fit}
 use Rattle.changer.specs.declared.Slot.{Slot}
 use Rattle.changer.specs.declared.Changer.{Changer}
-use Rattle.changer.specs.declared.Outcome.{Outcome}
+use Rattle.outcome.specs.declared.Outcome.{Outcome}
 use Rattle.changer.specs.Slot.{slot_at}
 use Rattle.changer.specs.Changer.{is_in_order, power_on, power_on_without_change, moves_on}
 use Rattle.changer.specs.ChangerPacket.{answer, Answered}
@@ -87,7 +87,7 @@ module _ (c : Changer) where
 
       -- a packet with a number other than 0 hands back the state as it was and "status 0, 0 bytes, start 0, count 0", and leaves the memory
       -- and the slots as they were
-      pub changer-refused-unchanged : {r : Outcome} {m' : List ℕ} {s' : List Slot} → Answered (answer c s p t l (length m)) m r m' s'
+      pub changer-refused-unchanged : {r : Outcome Changer} {m' : List ℕ} {s' : List Slot} → Answered (answer c s p t l (length m)) m r m' s'
           → (r.number ≡ 0 → ⊥)
           → (r ≡ record { number = r.number; rule = r.rule; status = 0; len = 0; start = 0; count = 0; state = c })
           × (m' ≡ m)

@@ -5,13 +5,13 @@ use Rattle.claims.specs.Unique.{value_once}
 use Rattle.changer.specs.declared.Slot.{Slot}
 use Rattle.changer.specs.declared.Changer.{Changer}
 use Rattle.changer.specs.declared.MovedOn.{MovedOn}
-use Rattle.changer.specs.declared.Outcome.{Outcome}
+use Rattle.outcome.specs.declared.Outcome.{Outcome}
 use Rattle.changer.specs.declared.Lent.{Lent}
 use Rattle.changer.specs.Changer.{power_on, power_on_without_change, moves_on}
 use Rattle.changer.specs.ChangerPacket.{answer, Answered, AnsweredOn}
 
 -- the outcome, what the response memory holds then, and what the slots are then
-pub unique_packet : (c : Changer) (s : List Slot) (p t l m : List ℕ) (r q : Outcome) (m₁ m₂ : List ℕ) (s₁ s₂ : List Slot)
+pub unique_packet : (c : Changer) (s : List Slot) (p t l m : List ℕ) (r q : Outcome Changer) (m₁ m₂ : List ℕ) (s₁ s₂ : List Slot)
     → Answered (answer c s p t l (length m)) m r m₁ s₁ → Answered (answer c s p t l (length m)) m q m₂ s₂
     → (r ≡ q) × (m₁ ≡ m₂) × (s₁ ≡ s₂)
 unique_packet c s p t l m r q m₁ m₂ s₁ s₂ a b =

@@ -18,7 +18,7 @@ pub record Asked : Type 0 where
 
 -- what came back: the outcome, and what the memory holds then
 pub record Got : Type 0 where
-  pub outcome : Outcome
+  pub outcome : Outcome Drive
   pub memory : List ℕ
 
 -- the packets were answered one after the other from the state d on: each answer meets the promise of `packet`, and the next packet
@@ -43,7 +43,7 @@ calls (a ∷ qs) = packet a.bytes a.table a.list a.memory ∷ calls qs
 
 -- what came back is its outcome and its memory, and nothing else
 same-got : (g h : Got) → g.outcome ≡ h.outcome → g.memory ≡ h.memory → g ≡ h
-same-got g h p q = ap₂ (λ (o : Outcome) (m : List ℕ). record { outcome = o; memory = m }) p q
+same-got g h p q = ap₂ (λ (o : Outcome Drive) (m : List ℕ). record { outcome = o; memory = m }) p q
 
 -- two runs that answer the same packets from the same state are the same, answer by answer
 pub served_once : (d : Drive) (qs : List Asked) (gs hs : List Got) → Served d qs gs → Served d qs hs → gs ≡ hs
@@ -54,7 +54,7 @@ served_once d (a ∷ qs) [] hs r s = elim r [ ]
 served_once d (a ∷ qs) (g ∷ gs) [] r s = elim s [ ]
 served_once d (a ∷ qs) (g ∷ gs) (h ∷ hs) (more p r) (more q s) =
     let u = unique_packet d a.bytes a.table a.list a.memory g.memory h.memory g.outcome h.outcome p q in
-    let t : Served g.outcome.state qs hs = subst (λ (o : Outcome). Served o.state qs hs) (sym u.0) s in
+    let t : Served g.outcome.state qs hs = subst (λ (o : Outcome Drive). Served o.state qs hs) (sym u.0) s in
     ap₂ (λ (x : Got) (xs : List Got). x ∷ xs) (same-got g h u.0 u.1) (served_once g.outcome.state qs gs hs r t)
 
 -- and the state that they leave is that of the drive's own history
@@ -63,5 +63,5 @@ served-history d [] [] r = refl
 served-history d [] (g ∷ gs) r = elim r [ ]
 served-history d (a ∷ qs) [] r = elim r [ ]
 served-history d (a ∷ qs) (g ∷ gs) (more p r) =
-    let e : g.outcome.state ≡ state_of (answer d a.bytes a.table a.list (length a.memory)) = ap (λ (o : Outcome). o.state) p.outcome in
+    let e : g.outcome.state ≡ state_of (answer d a.bytes a.table a.list (length a.memory)) = ap (λ (o : Outcome Drive). o.state) p.outcome in
     served-history g.outcome.state qs gs r ∙ ap (λ (x : Drive). final x (calls qs)) e

@@ -63,7 +63,7 @@ use Rattle.event.specs.EventClass.{class_for}
 use Rattle.event.specs.EventAnswer.{class_bytes, none_bytes, event_bytes, cleared}
 use Rattle.toc.specs.Answer.{toc_bytes, toc_bad}
 use Rattle.outcome.specs.declared.Outcome.{Outcome}
-use Rattle.outcome.specs.Outcome.{Answered, refused, checked, granted, finished}
+use Rattle.outcome.specs.Outcome.{with_state, Answered, refused, checked, granted, finished}
 use Rattle.target.specs.Packet.{answer}
 use Rattle.cue.specs.declared.write.Refusal.{Refusal as NoSheet}
 use Rattle.cue.specs.declared.write.Refusal.TheVariants as sheet
@@ -93,7 +93,7 @@ part_once {s} {r} {q} a b =
     rw (e, o, l)
 
 -- an answer with memory
-pub answer_once : {a : Reply Deck} {m m₁ m₂ : List ℕ} {r s : Outcome} → Answered a m r m₁ → Answered a m s m₂ → (r ≡ s) × (m₁ ≡ m₂)
+pub answer_once : {a : Reply Deck} {m m₁ m₂ : List ℕ} {r s : Outcome Drive} → Answered a m r m₁ → Answered a m s m₂ → (r ≡ s) × (m₁ ≡ m₂)
 answer_once a b = (a.outcome ∙ sym b.outcome, a.memory ∙ sym b.memory)
 
 -- a result through its meaning: the two conversions' answers
@@ -421,20 +421,23 @@ unique-inquiry-bytes r s = value_once
 
 -- ---- outcome
 
-pub unique-refuse : (n rule : ℕ) (d : Drive) (r s : Outcome) → r ≡ refused n rule d → s ≡ refused n rule d → r ≡ s
+pub unique-with_state : {S T : Type 0} (o : Outcome S) (d : T) (r s : Outcome T) → r ≡ with_state o d → s ≡ with_state o d → r ≡ s
+unique-with_state o d r s = value_once
+
+pub unique-refuse : {S : Type 0} (n rule : ℕ) (d : S) (r s : Outcome S) → r ≡ refused n rule d → s ≡ refused n rule d → r ≡ s
 unique-refuse n rule d r s = value_once
 
-pub unique-check : (a : Sense) (u : Unit) (m : Deck) (r s : Outcome) → r ≡ checked a u m → s ≡ checked a u m → r ≡ s
+pub unique-check : (a : Sense) (u : Unit) (m : Deck) (r s : Outcome Drive) → r ≡ checked a u m → s ≡ checked a u m → r ≡ s
 unique-check a u m r s = value_once
 
-pub unique-good : (len start count : ℕ) (u : Unit) (m : Deck) (r s : Outcome)
+pub unique-good : (len start count : ℕ) (u : Unit) (m : Deck) (r s : Outcome Drive)
     → r ≡ granted len start count u m → s ≡ granted len start count u m → r ≡ s
 unique-good len start count u m r s = value_once
 
-pub unique_finish : (u v : Unit) (m : Deck) (d : Done) (r s : Outcome) → r ≡ finished u v m d → s ≡ finished u v m d → r ≡ s
+pub unique_finish : (u v : Unit) (m : Deck) (d : Done) (r s : Outcome Drive) → r ≡ finished u v m d → s ≡ finished u v m d → r ≡ s
 unique_finish u v m d r s = value_once
 
-pub unique_tell : (a : Option Pending) (u : Unit) (m : Deck) (r s : Outcome)
+pub unique_tell : (a : Option Pending) (u : Unit) (m : Deck) (r s : Outcome Drive)
     → r ≡ checked (attention_sense a) (told a u) m → s ≡ checked (attention_sense a) (told a u) m → r ≡ s
 unique_tell a u m r s = value_once
 
@@ -517,7 +520,7 @@ unique-cleared class limit m r s = value_once
 
 -- ---- target
 
-pub unique_packet : (d : Drive) (p t l m m₁ m₂ : List ℕ) (r s : Outcome)
+pub unique_packet : (d : Drive) (p t l m m₁ m₂ : List ℕ) (r s : Outcome Drive)
     → Answered (answer d p t l (length m)) m r m₁ → Answered (answer d p t l (length m)) m s m₂ → (r ≡ s) × (m₁ ≡ m₂)
 unique_packet d p t l m m₁ m₂ r s = answer_once
 

@@ -8,6 +8,7 @@ use Rattle.print.specs.Decimal.{decimal, decimal-length}
 use Rattle.table.specs.Layout.{bound}
 use Rattle.disc.specs.Part.{unfit}
 use Rattle.attention.specs.declared.sense.Sense.{Sense}
+use Rattle.drive.specs.declared.state.Drive.{Drive}
 use Rattle.outcome.specs.declared.Outcome.{Outcome}
 
 -- three bytes, each after a space
@@ -19,18 +20,18 @@ abbrev pub refused_word : List ℕ
 refused_word = 32 ∷ 114 ∷ 101 ∷ 102 ∷ 117 ∷ 115 ∷ 101 ∷ 100 ∷ []
 
 -- "start, count"
-unfoldable pub blocks : Outcome → List ℕ
+unfoldable pub blocks : Outcome Drive → List ℕ
 blocks o = spaced (decimal o.start) next spaced (decimal o.count)
 
 -- "byte count, bytes in hex or -, start, count"
-unfoldable pub yielded : Outcome → List ℕ → List ℕ
+unfoldable pub yielded : Outcome Drive → List ℕ → List ℕ
 yielded o bytes = spaced (decimal o.len) next spaced (shown bytes) next blocks o
 
 -- "its number, status, sense held afterwards (three, hex)"
-unfoldable pub started : ℕ → Outcome → List ℕ
+unfoldable pub started : ℕ → Outcome Drive → List ℕ
 started n o = decimal n next spaced (hex_byte o.status) next triple o.state.unit.sense
 
-unfoldable pub answered : ℕ → Outcome → List ℕ → List ℕ
+unfoldable pub answered : ℕ → Outcome Drive → List ℕ → List ℕ
 answered n o bytes = started n o next yielded o bytes next line_end
 
 -- K6: "the listing program prints it after the 4": the broken rule, and nothing after another number
@@ -45,17 +46,17 @@ unfoldable pub refused : ℕ → ℕ → ℕ → List ℕ
 refused n number rule = decimal n next refusal number rule next line_end
 
 -- packet n's line, of its outcome and the bytes that it wrote
-unfoldable pub line_of : ℕ → Outcome → List ℕ → List ℕ
+unfoldable pub line_of : ℕ → Outcome Drive → List ℕ → List ℕ
 line_of n o bytes = choose eqb o.number 0 then answered n o bytes else refused n o.number o.rule
 
 -- ---- no line is longer than the memory that the program lends for it
 
-blocks-length : (o : Outcome) → length (blocks o) ≤ 42
+blocks-length : (o : Outcome Drive) → length (blocks o) ≤ 42
 unfolding blocks
 blocks-length o =
     rw length-append (let a = decimal-length o.start in let b = decimal-length o.count in omega arith)
 
-yielded-length : (o : Outcome) (bytes : List ℕ) → length (yielded o bytes) ≤ 65 + 2 * length bytes
+yielded-length : (o : Outcome Drive) (bytes : List ℕ) → length (yielded o bytes) ≤ 65 + 2 * length bytes
 unfolding yielded
 yielded-length o bytes =
     let a = decimal-length o.len in
@@ -63,11 +64,11 @@ yielded-length o bytes =
     let c = blocks-length o in
     simp length-append (omega arith)
 
-started-length : (n : ℕ) (o : Outcome) → length (started n o) ≤ 32
+started-length : (n : ℕ) (o : Outcome Drive) → length (started n o) ≤ 32
 unfolding started
 started-length n o = let a = decimal-length n in simp length-append (omega arith)
 
-answered-length : (n : ℕ) (o : Outcome) (bytes : List ℕ) → length (answered n o bytes) ≤ 98 + 2 * length bytes
+answered-length : (n : ℕ) (o : Outcome Drive) (bytes : List ℕ) → length (answered n o bytes) ≤ 98 + 2 * length bytes
 unfolding answered
 answered-length n o bytes =
     let a = started-length n o in
@@ -87,7 +88,7 @@ refused-length n number rule =
     let c = rule_shown-length number rule in
     simp length-append (omega arith)
 
-pub line_fits : (n : ℕ) (o : Outcome) (bytes : List ℕ) → length bytes ≤ bound → length (line_of n o bytes) ≤ 14000
+pub line_fits : (n : ℕ) (o : Outcome Drive) (bytes : List ℕ) → length bytes ≤ bound → length (line_of n o bytes) ≤ 14000
 unfolding line_of
 line_fits n o bytes h =
     either

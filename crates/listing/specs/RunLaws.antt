@@ -20,10 +20,10 @@ state_after_more t f n = rw add-one
 
 -- one packet more: what meets the packet's promise hands back the next of these states
 pub state_after_met :
-    (t f : List ℕ) (n : ℕ) (d : Drive) {at : ℕ} {p m m' : List ℕ} {o : Outcome}
+    (t f : List ℕ) (n : ℕ) (d : Drive) {at : ℕ} {p m m' : List ℕ} {o : Outcome Drive}
     → at ≡ 12 * n → d ≡ state_after t f n → p ≡ take 12 (drop at f) → length m ≡ bound → Answered (answer d p t [] (length m)) m o m'
     → o.state ≡ state_after t f (n + 1)
 state_after_met t f n d {at} {p} {m} x y z w a =
     let e : state_of (answer d p t [] (length m)) ≡ state_of (answer (state_after t f n) (packet_at f n) t [] bound)
     = rw (y, z, w, x) in
-    ap (λ (r : Outcome). r.state) a.outcome ∙ e ∙ sym (state_after_more t f n)
+    ap (λ (r : Outcome Drive). r.state) a.outcome ∙ e ∙ sym (state_after_more t f n)

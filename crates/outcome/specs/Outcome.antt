@@ -21,7 +21,7 @@ abbrev pub bytes_of : Reply Deck → List ℕ
 bytes_of a = take a.limit a.full
 
 -- what is handed back of an answer: its number and rule, status, how many bytes, start, count, and the state
-abbrev pub outcome_of : Reply Deck → Outcome
+abbrev pub outcome_of : Reply Deck → Outcome Drive
 outcome_of a = record {
   number = a.number;
   rule = a.rule;
@@ -33,27 +33,31 @@ outcome_of a = record {
 }
 
 -- the outcome r and the memory m' are what the answer says, of the memory m
-pub record Answered (a : Reply Deck) (m : List ℕ) (r : Outcome) (m' : List ℕ) : Type 0 where
+pub record Answered (a : Reply Deck) (m : List ℕ) (r : Outcome Drive) (m' : List ℕ) : Type 0 where
   pub outcome : r ≡ outcome_of a
   pub memory : m' ≡ fill m (bytes_of a)
+
+-- the same beside another state
+abbrev pub with_state : {S T : Type 0} → Outcome S → T → Outcome T
+with_state o s = record { number = o.number; rule = o.rule; status = o.status; len = o.len; start = o.start; count = o.count; state = s }
 
 -- ---- what each way out hands back
 
 -- a refusal: "status 0, 0 bytes, start 0, count 0", the state unchanged
-abbrev pub refused : ℕ → ℕ → Drive → Outcome
+abbrev pub refused : {S : Type 0} → ℕ → ℕ → S → Outcome S
 refused n r d = record { number = n; rule = r; status = 0; len = 0; start = 0; count = 0; state = d }
 
 -- "CHECK CONDITION is status 02h, no bytes, .., the triple held as sense"
-abbrev pub checked : Sense → Unit → Deck → Outcome
+abbrev pub checked : Sense → Unit → Deck → Outcome Drive
 checked s u m =
     record { number = 0; rule = 0; status = 0x02; len = 0; start = 0; count = 0; state = record { unit = hold s u; deck = m } }
 
 -- "GOOD is status 00h"
-abbrev pub granted : ℕ → ℕ → ℕ → Unit → Deck → Outcome
+abbrev pub granted : ℕ → ℕ → ℕ → Unit → Deck → Outcome Drive
 granted len start count u m =
     record { number = 0; rule = 0; status = 0x00; len = len; start = start; count = count; state = record { unit = u; deck = m } }
 
 -- a command's end: CHECK CONDITION over the unit u, or GOOD over the unit v, a loading attended to
-abbrev pub finished : Unit → Unit → Deck → Done → Outcome
+abbrev pub finished : Unit → Unit → Deck → Done → Outcome Drive
 finished u v m (Err f) = checked (sense_of f) u m
 finished u v m (Ok w) = granted w.len w.start w.count (attend w.loading v) w.next

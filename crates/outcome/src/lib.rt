@@ -3,7 +3,7 @@
 
 ghost use Rattle.std.specs.Prelude.{◌≡◌};
 ghost use Rattle.gate.specs.Unit.{attention_sense, told};
-ghost use Rattle.outcome.specs.Outcome.{refused, checked, granted, finished};
+ghost use Rattle.outcome.specs.Outcome.{with_state, refused, checked, granted, finished};
 
 use attention::Unit;
 use attention::sense::Sense;
@@ -14,20 +14,37 @@ use gate::fault::sense_of;
 use gate::unit::{Pending, hold, sense_of_pending, told};
 
 // The refusal's number or 0, beside 4 the table's first broken rule, the status, how many bytes were written, the blocks that a READ
-// names, and the next state.
+// names, and the next state, which is a drive's where no other is named.
 #[derive(Clone, Copy)]
-pub struct Outcome {
+pub struct Outcome<S = Drive> {
     pub number: u8,
     pub rule: u8,
     pub status: u8,
     pub len: usize,
     pub start: usize,
     pub count: usize,
-    pub state: Drive,
+    pub state: S,
+}
+
+impl<S: Copy> Outcome<S> {
+    // The same beside another state.
+    pub fn with_state<T>(self, next: T) -> Outcome<T>
+        ensures { result ≡ with_state self next }
+    {
+        Outcome {
+            number: self.number,
+            rule: self.rule,
+            status: self.status,
+            len: self.len,
+            start: self.start,
+            count: self.count,
+            state: next,
+        }
+    }
 }
 
 // A refusal: nothing done, the state as it was handed in.
-pub fn refuse(number: u8, rule: u8, state: Drive) -> Outcome
+pub fn refuse<S>(number: u8, rule: u8, state: S) -> Outcome<S>
     ensures { result ≡ refused number rule state }
 {
     Outcome {

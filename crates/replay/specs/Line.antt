@@ -77,7 +77,7 @@ unfoldable pub moved_line : ℕ → ℕ → Drive → List ℕ
 moved_line letter number d = call letter number next state_text d next line_end
 
 -- `p N ST LEN START COUNT`; K11: `P N ST LEN START COUNT`
-unfoldable pub outcome_text : ℕ → Outcome → List ℕ
+unfoldable pub outcome_text : ℕ → Outcome Drive → List ℕ
 outcome_text letter o = ruled_call letter o.number o.rule next spaced (hex_byte o.status) next decimals o.len o.start o.count
 
 -- `DATA SUM`
@@ -85,7 +85,7 @@ unfoldable pub memory_text : List ℕ → List ℕ → List ℕ
 memory_text bytes memory = spaced (shown bytes) next sum_text memory next line_end
 
 -- `p N ST LEN START COUNT STATE DATA SUM`
-unfoldable pub packet_line : Outcome → List ℕ → List ℕ
+unfoldable pub packet_line : Outcome Drive → List ℕ → List ℕ
 packet_line o memory = outcome_text 112 o next state_text o.state next memory_text (take o.len memory) memory
 
 -- K11: "H is decimal, SLOTS two hex digits a slot or `-`"
@@ -101,7 +101,7 @@ unfoldable pub stood_line : ℕ → ℕ → Changer → List ℕ → List ℕ
 stood_line letter number c slots = call letter number next changer_text c slots next line_end
 
 -- K11: `P N ST LEN START COUNT STATE H SLOTS DATA SUM`
-unfoldable pub changer_line : Outcome → ℕ → List ℕ → List ℕ → List ℕ
+unfoldable pub changer_line : Outcome Drive → ℕ → List ℕ → List ℕ → List ℕ
 changer_line o home slots memory =
     outcome_text 80 o next changer_text (record { drive = o.state; home = home }) slots next memory_text (take o.len memory) memory
 

@@ -3,7 +3,6 @@ use crate::bench::{Bad, Bench, SLOTS};
 use crate::line::{put_changer, put_stood};
 use changer::{Changer, Slot, packet_on};
 use ground::number::word32;
-use outcome::Outcome;
 
 // Every byte is a slot's: no other bit than 80h and 01h.
 fn are_slots(body: &[u8]) -> bool {
@@ -35,21 +34,6 @@ fn slot_byte(s: Slot) -> u8 {
 fn put_bytes(all: [Slot; SLOTS], bytes: &mut [u8]) {
     for (b, slot) in bytes.iter_mut().zip(&all) {
         *b = slot_byte(*slot);
-    }
-}
-
-// What the drive would hand back.
-fn driven(o: changer::Outcome) -> Outcome {
-    let c = o.state;
-    let state = c.drive;
-    Outcome {
-        number: o.number,
-        rule: o.rule,
-        status: o.status,
-        len: o.len,
-        start: o.start,
-        count: o.count,
-        state,
     }
 }
 
@@ -127,7 +111,7 @@ impl Bench {
         let o = x.outcome;
         let next = o.state;
         put_bytes(x.slots, kept);
-        let len = put_changer(driven(o), next.home, kept, lent, line);
+        let len = put_changer(o.with_state(next.drive), next.home, kept, lent, line);
         self.keep(next);
         Ok(len)
     }

@@ -56,11 +56,11 @@ written-pass u m (goes next loading full limit start count) = refl
 pub answered-refused : (n r : ℕ) (d : Drive) (m : List ℕ) → Answered (refuse n r d.unit d.deck) m (refused n r d) m
 answered-refused n r d m = record { outcome = refl; memory = sym (fill_none m) }
 
-pub answered-check : (s : Sense) (u : Unit) (k : Deck) {o : Outcome} (m : List ℕ) → o ≡ checked s u k → Answered (check s u k) m o m
+pub answered-check : (s : Sense) (u : Unit) (k : Deck) {o : Outcome Drive} (m : List ℕ) → o ≡ checked s u k → Answered (check s u k) m o m
 answered-check s u k m e = record { outcome = e; memory = sym (fill_none m) }
 
 pub answered-settle :
-    (u : Unit) (k : Deck) (r : Result Deck) {done : Done} {o : Outcome} {m m' : List ℕ}
+    (u : Unit) (k : Deck) (r : Result Deck) {done : Done} {o : Outcome Drive} {m m' : List ℕ}
     → Performed r m done m' → o ≡ finished u (clear u) k done → Answered (settle u k r) m o m'
 answered-settle u k r {m = m} f e = record {
   outcome = e ∙ ap (finished u (clear u) k) f.outcome ∙ finished-settle u k r;
@@ -68,7 +68,7 @@ answered-settle u k r {m = m} f e = record {
 }
 
 pub answered-pass :
-    (u : Unit) (k : Deck) (r : Result Deck) {done : Done} {o : Outcome} {m m' : List ℕ}
+    (u : Unit) (k : Deck) (r : Result Deck) {done : Done} {o : Outcome Drive} {m m' : List ℕ}
     → Performed r m done m' → o ≡ finished u u k done → Answered (pass u k r) m o m'
 answered-pass u k r {m = m} f e = record {
   outcome = e ∙ ap (finished u u k) f.outcome ∙ finished-pass u k r;

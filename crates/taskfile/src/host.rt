@@ -27,7 +27,7 @@ pub const RESET: u8 = 9;
 // PACKET, the one command.
 const PACKET_COMMAND: u8 = 0xA0;
 
-// The access of a number.
+// The access of a number. A function, and no From<u8>: the promises of the interrupt routine name it.
 pub fn access_of(n: u8) -> Access
     ensures { result ≡ access_of n }
 {
