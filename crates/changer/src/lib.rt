@@ -8,6 +8,7 @@ mod slots;
 mod status;
 
 ghost use Rattle.std.specs.Prelude.{◌≤◌, ◌≡◌, length};
+ghost use Rattle.changer.specs.Status.{flags_of};
 ghost use Rattle.changer.specs.Moves.{Within, settled};
 ghost use Rattle.changer.specs.Changer.{emptied, power_on, power_on_without_change, moves_on};
 ghost use Rattle.changer.specs.ChangerPacket.{answer, Answered, AnsweredOn};
@@ -21,6 +22,20 @@ use outcome::Outcome;
 pub struct Slot {
     pub present: bool,
     pub changed: bool,
+}
+
+impl Slot {
+    // Its byte: present in bit 7, changed in bit 0.
+    pub fn flags(self) -> u8
+        ensures { result ≡ flags_of self }
+    {
+        match (self.present, self.changed) {
+            (true, true) => 0x81,
+            (true, false) => 0x80,
+            (false, true) => 0x01,
+            (false, false) => 0,
+        }
+    }
 }
 
 // The drive's state, and the home slot of the disc in the drive.

@@ -2,7 +2,7 @@
 ghost use Rattle.std.specs.Prelude.{◌≡◌, ◌≤◌, length, take};
 ghost use Rattle.ground.specs.Memory.{Laid};
 ghost use Rattle.table.specs.Layout.{bound};
-ghost use Rattle.changer.specs.Status.{flags_of, slot_bytes, slot_tables, status_bytes, home_shown, mechanism_status};
+ghost use Rattle.changer.specs.Status.{slot_bytes, slot_tables, status_bytes, home_shown, mechanism_status};
 ghost use Rattle.changer.specs.Slot.{most};
 ghost use Rattle.changer.specs.ChangerPacket.{mechanism_of};
 ghost use Rattle.changer.specs.MechanismLaws.{ActedOn};
@@ -14,23 +14,11 @@ use command::done::{Went, went_with};
 use ground::memory::copy_front;
 use ground::number::bytes16;
 
-// Present in bit 7, changed in bit 0.
-fn flags_of(s: Slot) -> u8
-    ensures { result ≡ flags_of s }
-{
-    match (s.present, s.changed) {
-        (true, true) => 0x81,
-        (true, false) => 0x80,
-        (false, true) => 0x01,
-        (false, false) => 0,
-    }
-}
-
 // A slot's four bytes, laid into the rest of the response.
 fn put_slot(s: Slot, rest: &mut [u8]) -> usize
     ensures { Laid rest.old (slot_bytes s) result rest.new }
 {
-    let full = [flags_of(s), 0, 0, 0];
+    let full = [s.flags(), 0, 0, 0];
     copy_front(&full, rest)
 }
 

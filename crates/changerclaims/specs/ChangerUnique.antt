@@ -7,6 +7,7 @@ use Rattle.changer.specs.declared.Changer.{Changer}
 use Rattle.changer.specs.declared.MovedOn.{MovedOn}
 use Rattle.outcome.specs.declared.Outcome.{Outcome}
 use Rattle.changer.specs.declared.Lent.{Lent}
+use Rattle.changer.specs.Status.{flags_of}
 use Rattle.changer.specs.Changer.{power_on, power_on_without_change, moves_on}
 use Rattle.changer.specs.ChangerPacket.{answer, Answered, AnsweredOn}
 
@@ -33,3 +34,6 @@ unique_power_on_without_change c r s = value_once
 
 pub unique_move_on : (k : ℕ) (c : Changer) (r s : MovedOn) → r ≡ moves_on k c → s ≡ moves_on k c → r ≡ s
 unique_move_on k c r s = value_once
+
+pub unique-flags : (x : Slot) (r s : ℕ) → r ≡ flags_of x → s ≡ flags_of x → r ≡ s
+unique-flags x r s = value_once

@@ -25,15 +25,10 @@ fn slots_of(bytes: &[u8]) -> [Slot; SLOTS] {
     all
 }
 
-// A slot's byte. The changer's `flags_of` is the same, and stays its own: a public function more would need a promise.
-fn slot_byte(s: Slot) -> u8 {
-    u8::from(s.present) * 0x80 + u8::from(s.changed)
-}
-
 // The bytes become those of the slots.
 fn put_bytes(all: [Slot; SLOTS], bytes: &mut [u8]) {
     for (b, slot) in bytes.iter_mut().zip(&all) {
-        *b = slot_byte(*slot);
+        *b = slot.flags();
     }
 }
 

@@ -2,4 +2,4 @@
 use Rattle.changer.proofs.status.put_slot.Goals as goal
 
 pub returns : goal.returns
-returns c = rw (← c.flags_of.ensures) c.copy_front.ensures
+returns c = rw (← c.flags.ensures) c.copy_front.ensures

@@ -1,7 +1,7 @@
--- `changer::status::flags_of` meets its contract: each of the four slots has its byte.
+-- `changer::Slot::flags` meets its contract: each of the four slots has its byte.
 use Rattle.ground.specs.Tests.{choose◌then◌else◌}
 use Rattle.changer.specs.Status.{flags_of}
-use Rattle.changer.proofs.status.flags_of.Goals as goal
+use Rattle.changer.proofs.Slot.flags.Goals as goal
 
 pub returns-in-true-true : goal.returns-in-true-true
 unfolding flags_of choose◌then◌else◌
