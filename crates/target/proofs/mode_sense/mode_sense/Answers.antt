@@ -1,6 +1,6 @@
 -- `target::mode_sense::mode_sense` meets its contract: byte 2 decides, and the values that it asks for are laid, cut to the allocation length.
 use mathlib.Core.Path.{sym, ap}
-use Rattle.core.proofs.result.Match.{err_is}
+use Rattle.std.proofs.lemmas.Result.{err_from_is_err_and}
 use Rattle.std.specs.Prelude.{Result}
 use Rattle.page.specs.declared.Page.{Page}
 use Rattle.gate.specs.declared.fault.Fault.{Fault}
@@ -11,7 +11,8 @@ use Rattle.target.proofs.mode_sense.mode_sense.Goals as goal
 
 pub returns-in_err-g : goal.returns-in_err-g
 returns-in_err-g c = let x = c.args in
-    rw (err_is _ _ c.from_residual.ensures.1)
+    let t = err_from_is_err_and c.from_residual.result c.from_residual.ensures.1 in
+    rw (t.1, t.2)
     (performed-fails _ (ap (λ (s : Result Page Fault). gives s (length_in x.p.now) x.m) (sym c.in_err-g.ensures)))
 
 pub returns : goal.returns
