@@ -42,7 +42,7 @@ pub fn to_msf(address: usize) -> Result<Msf, OutOfRange>
     })
 }
 
-// The block address of an M:S:F.
+// The block address of an M:S:F. (Three bytes, as a packet or a descriptor has them and the definition `to_block` takes them.)
 pub fn to_block(minute: u8, second: u8, frame: u8) -> Result<usize, OutOfRange>
     ensures { block_meaning result ≡ to_block minute second frame }
 {

@@ -14,7 +14,7 @@ use disc::disc::fault;
 use ground::memory::put_cut;
 use table::layout::BOUND;
 
-// The refusals' numbers: a length that is not a multiple of 8; a sheet that is not as described, or whose tracks, controls and addresses no fit
+// The refusals' numbers, as `written_meaning` gives them: a length that is not a multiple of 8; a sheet that is not as described, or whose tracks, controls and addresses no fit
 // table has; output memory under 6,538 bytes.
 pub const NOT_WHOLE: u8 = 12;
 

@@ -26,7 +26,8 @@ pub struct Shifted {
     pub loading: bool,
 }
 
-// The media events: none, the button pressed on a locked closed tray, a loading, an opening with a disc.
+// The media events: none, the button pressed on a locked closed tray, a loading, an opening with a disc. (Bytes, since C lends any deck: C
+// interface.)
 pub const NO_EVENT: u8 = 0;
 
 pub const PRESSED: u8 = 1;

@@ -15,7 +15,7 @@ use table::row::{frames_of, start_of};
 
 // The first and the last track, S, the last lead-out and its ADR/control, and the last session's first track: number, ADR/control
 // and start.
-#[derive(Clone, Copy)]
+#[derive(Clone, Copy, Default)]
 pub struct Disc {
     pub first: u8,
     pub last: u8,
@@ -46,7 +46,7 @@ pub fn read(t: &[u8]) -> Result<Disc, Unfit>
     walk(&t[HEADER..], t[3])
 }
 
-// The first broken rule, or 0 for a fit table.
+// The first broken rule, or 0 for a fit table: the definition `fault`, of which the theorems speak; `read` gives the same as a Result.
 pub fn fault(t: &[u8]) -> u8
     ensures { result ≡ fault t.now }
 {

@@ -6,7 +6,7 @@ use crate::disc::{Unfit, read};
 use sessions::session::{session_bytes, starts_after};
 use table::layout::HEADER;
 
-// The refusals' numbers: a table that is not fit, and a session that is 0 or over S.
+// The refusals' numbers, as `refusal_meaning` gives them: a table that is not fit, and a session that is 0 or over S.
 pub const UNFIT: u8 = 4;
 
 pub const NO_SESSION: u8 = 10;

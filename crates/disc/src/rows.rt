@@ -1,4 +1,5 @@
-// A descriptor among others, read once into a value.
+// A descriptor among others, read once into a value. (That a descriptor's bytes are there is asked at each read, of plain bytes: callers lend any, and
+// a type that holds whole descriptors would be made anew of each part `&d[at..]`, and be no plainer.)
 ghost use Rattle.std.specs.Prelude.{◌≡◌, ◌+◌, ◌*◌, ◌≤◌, length};
 ghost use Rattle.table.specs.Layout.{row};
 ghost use Rattle.table.specs.Row.{row_from, row_at};

@@ -116,7 +116,7 @@ fn begins_after(k: usize, out: usize, start: usize) -> bool
 }
 
 // The first broken rule of 3 to 7, of n sessions, of which k are kept: the next begins at `at`, with track `next`, at frame `floor` or later.
-// Each rule is asked of what stands from there on.
+// Each rule is asked of what stands from there on. (0 for none, as the definition `first_broken` has it; `disc::walk` makes an Err of it.)
 pub(crate) fn fault_from(d: &[u8], n: u8, k: u8, at: usize, next: usize, floor: usize) -> u8
     requires { (length d.now % row ≡ 0) × Trod n d.now k at next floor }
     ensures { result ≡ first_broken 3 (row_rules n d.now) }

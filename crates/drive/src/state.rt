@@ -14,7 +14,7 @@ pub struct Drive {
     pub deck: Deck,
 }
 
-// A call's answer: the refusal's number or 0, and the next state.
+// A call's answer: the refusal's number or 0, and the next state. (C interface: C reads the number.)
 #[repr(C)]
 #[derive(Clone, Copy)]
 pub struct Moved {

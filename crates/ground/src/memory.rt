@@ -1,4 +1,5 @@
-// Bytes laid into lent memory: as many as it holds, what lies past them stays.
+// Bytes laid into lent memory: as many as it holds, what lies past them stays. What lays several parts lends the rest of the memory to the next,
+// `at += put_x(&mut out[at..])`: the form that the build definition names for answers, without a heap.
 ghost use Rattle.std.specs.Prelude.{◌<◌, take};
 ghost use Rattle.ground.specs.Memory.{Laid};
 

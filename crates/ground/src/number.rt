@@ -2,7 +2,7 @@
 ghost use Rattle.std.specs.Prelude.{◌≡◌, ◌<◌, min};
 ghost use Rattle.ground.specs.Number.{Byte, word16, word32, bytes16, bytes32};
 
-// The byte as a wide number.
+// The byte as a wide number. (Beside `usize::from` it promises that the number is a byte's.)
 pub fn wide(b: u8) -> usize
     ensures { Byte b result }
 {

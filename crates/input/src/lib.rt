@@ -34,7 +34,7 @@ pub fn is_given(rt: &HostRuntime, i: usize) -> bool {
     }
 }
 
-// Reads until the end of the file or of buf.
+// Reads until the end of the file or of buf. (A `while`: the system says how far each read goes.)
 fn read_all(file: &mut File, buf: &mut [u8]) -> io::Result<usize>
     ensures { IfOk result (λ n. n ≤ length buf.new) }
 {

@@ -14,7 +14,8 @@ use gate::fault::sense_of;
 use gate::unit::{Pending, hold, sense_of_pending, told};
 
 // The refusal's number or 0, beside 4 the table's first broken rule, the status, how many bytes were written, the blocks that a READ
-// names, and the next state, which is a drive's where no other is named.
+// names, and the next state, which is a drive's where no other is named. (A number, and no Result: the theorem `Served` takes the state of every
+// answer, refused too.)
 #[derive(Clone, Copy)]
 pub struct Outcome<S = Drive> {
     pub number: u8,
@@ -27,7 +28,7 @@ pub struct Outcome<S = Drive> {
 }
 
 impl<S: Copy> Outcome<S> {
-    // The same beside another state.
+    // The same beside another state. (Field by field: `..self` can't change the type.)
     pub fn with_state<T>(self, next: T) -> Outcome<T>
         ensures { result ≡ with_state self next }
     {

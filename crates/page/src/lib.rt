@@ -5,7 +5,7 @@ ghost use Rattle.std.specs.Prelude.{◌≡◌};
 ghost use Rattle.page.specs.Page.{defaults, is_setting};
 
 #[repr(C)]
-#[derive(Clone, Copy)]
+#[derive(Clone, Copy, Default)]
 pub struct Page {
     pub recovery: u8,
     pub retry: u8,
@@ -21,10 +21,7 @@ const SETTINGS: [u8; 20] = [
 pub fn defaults() -> Page
     ensures { result ≡ defaults }
 {
-    Page {
-        recovery: 0,
-        retry: 0,
-    }
+    Page::default()
 }
 
 // The recovery byte is one of the twenty settings.

@@ -1,4 +1,5 @@
-// The rest of the edge that `registers_c` hands to C: the record at the start, and the drive's own calls, each by value.
+// The rest of the edge that `registers_c` hands to C: the record at the start, and the drive's own calls, each by value. (C interface: a function
+// for each name that C calls.)
 ghost use Rattle.std.specs.Prelude.{◌≡◌};
 ghost use Rattle.taskfile.specs.TaskFile.{started};
 ghost use Rattle.drive.specs.State.{power_on, power_on_without_change, button, lay, lift, move_on};

@@ -16,7 +16,7 @@ use taskfile::host::{access_of, answered, turn_of};
 use taskfile::{Due, TaskFile};
 
 // What is handed back: the refusal's number or 0, beside 4 the table's first broken rule, the byte read, the blocks that a READ names at
-// the call that completes it, and the next state.
+// the call that completes it, and the next state. (C interface: C reads the number.)
 #[repr(C)]
 #[derive(Clone, Copy)]
 pub struct Answer {

@@ -1,4 +1,5 @@
 // The registers for C: an export for each function that C calls, which hands on what that function of `registers` answers, with its promise.
+// (C interface: a library exports nothing, so each name stands here once more.)
 #![tactic(auto)]
 
 ghost use Rattle.std.specs.Prelude.{◌≡◌};

@@ -31,7 +31,7 @@ pub const SLOTS: usize = 255;
 #[derive(Clone, Copy, Debug, PartialEq, Eq)]
 pub struct Bad;
 
-// Memory that calls are lent: its first `len` bytes.
+// Memory that calls are lent: its first `len` bytes. (No heap: an array, and how much of it is lent.)
 #[derive(Clone, Copy)]
 pub struct Lent<const N: usize> {
     bytes: [u8; N],
@@ -309,7 +309,7 @@ impl Bench {
         Ok(put_written(w, lent, line))
     }
 
-    // A record of the kind, met.
+    // A record of the kind, met. (The kind is the record's byte, and its arm names the call: closures in a table would be no plainer.)
     pub(crate) fn meet(&mut self, kind: u8, body: &[u8], line: &mut [u8]) -> Result<usize, Bad> {
         match kind {
             0 => self.set_state(body),

@@ -16,6 +16,7 @@ use print::front::front;
 use std::io::Read;
 
 // Reads until buf is full, the input ends or a read fails, and says how many bytes it put at the start of buf.
+// (A `while`: the system says how far each read goes.)
 fn read_full(rt: &HostRuntime, buf: &mut [u8]) -> usize
     ensures { result ≤ length buf.new }
 {

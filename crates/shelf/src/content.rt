@@ -19,7 +19,7 @@ use table::row::{row_of, start_of};
 use tracks::track::is_data;
 
 // Tracks passed: the blocks of the runs of data tracks that have ended, and where one began that has not, if one did.
-#[derive(Clone, Copy)]
+#[derive(Clone, Copy, Default)]
 pub struct Run {
     pub blocks: usize,
     pub from: Option<usize>,
@@ -36,10 +36,7 @@ pub struct Held {
 fn idle() -> Run
     ensures { result ≡ idle }
 {
-    Run {
-        blocks: 0,
-        from: None,
-    }
+    Run::default()
 }
 
 // The address that descriptor j holds.

@@ -11,7 +11,7 @@ use disc::disc::{Disc, read};
 use ground::number::wide;
 
 // The totals, in the order of their lines.
-#[derive(Clone, Copy)]
+#[derive(Clone, Copy, Default)]
 pub struct Totals {
     pub tables: u64,
     pub fit: u64,
@@ -36,21 +36,7 @@ pub struct TooLarge;
 pub fn nothing() -> Totals
     ensures { result ≡ nothing }
 {
-    Totals {
-        tables: 0,
-        fit: 0,
-        rule1: 0,
-        rule2: 0,
-        rule3: 0,
-        rule4: 0,
-        rule5: 0,
-        rule6: 0,
-        rule7: 0,
-        tracks: 0,
-        data_blocks: 0,
-        audio_blocks: 0,
-        trackless: 0,
-    }
+    Totals::default()
 }
 
 // 1 where the test holds, else 0.

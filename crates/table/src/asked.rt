@@ -19,7 +19,7 @@ pub fn a0_kept(r: Row, k: u8) -> bool
     kept(r, k, A0) && head_a0(r)
 }
 
-// The same of its A1.
+// The same of its A1. (Not one function with A0's: it would take the POINT and the test of it, and be no plainer.)
 pub fn a1_kept(r: Row, k: u8) -> bool
     ensures { result ≡ a1_kept r k }
 {

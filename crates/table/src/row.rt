@@ -44,7 +44,8 @@ pub fn row_of(b: &[u8]) -> Row
     }
 }
 
-// The address that it holds, counted in frames from 00:00:00 on.
+// The address that it holds, counted in frames from 00:00:00 on. (`address` has the formula for three bytes, as its own: a public function more
+// would be no plainer.)
 #[tactic(auto, unfolding(crate::specs::Row::frames_of))]
 pub fn frames_of(r: Row) -> usize
     ensures same { result ≡ frames_of r }

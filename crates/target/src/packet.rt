@@ -38,7 +38,8 @@ fn ask_sense(d: Drive, limit: usize, mem: &mut [u8]) -> Outcome
     good(len, 0, 0, unit, deck)
 }
 
-// Step 1: performed even with an attention pending; GOOD leaves the sense.
+// Step 1: performed even with an attention pending; GOOD leaves the sense. (Packet, table and list go side by side, as the definition `perform` takes
+// them: a struct of them would be opened at each call, and be no plainer.)
 fn passed(
     d: Drive,
     c: Command,
@@ -99,16 +100,7 @@ fn steps(d: Drive, p: &[u8; 12], t: &[u8], list: &[u8], disc: Disc, mem: &mut [u
 fn unread() -> Disc
     ensures { result ≡ unread }
 {
-    Disc {
-        first: 0,
-        last: 0,
-        sessions: 0,
-        lead_out: 0,
-        lead_flags: 0,
-        last_first: 0,
-        last_first_flags: 0,
-        last_first_start: 0,
-    }
+    Disc::default()
 }
 
 // Refusal 4, with the broken rule: a loaded drive's table is read first.

@@ -7,7 +7,7 @@ ghost use Rattle.taskfile.specs.Host.{access_of, begun, gone, answered, packet_e
 use crate::run::{count_of, counting, into_run, limit_of, phase_of, takes_list};
 use crate::{Access, Due, Phase, TaskFile, Turn, run};
 
-// The numbers of the accesses: the register's address, and two above them.
+// The numbers of the accesses: the register's address, and two above them. (C interface: C hands them in.)
 pub const DATA: u8 = 0;
 
 pub const FEATURES: u8 = 1;
@@ -100,7 +100,7 @@ fn begun(f: TaskFile, reason: u8, n: usize) -> TaskFile
     counting(placed(f, reason, limit, n, 0), limit.min(n))
 }
 
-// A byte went, and more remain: where its run is over the next one begins.
+// A byte went, and more remain: where its run is over the next one begins. (That more remain is asked, and not the record's: C lends any record.)
 fn gone(f: TaskFile) -> TaskFile
     requires { f.at < f.len }
     ensures { result ≡ gone f }

@@ -9,7 +9,7 @@ ghost use Rattle.std.specs.Prelude.{◌≡◌};
 ghost use Rattle.taskfile.specs.TaskFile.{started};
 
 // The registers in the order of their addresses: features, interrupt reason, byte count low and high, drive, the target's status. Then the
-// packet and the list as far as they came in; the limit of the runs, the bytes of the transfer and how many of them went.
+// packet and the list as far as they came in; the limit of the runs, the bytes of the transfer and how many of them went. (C interface: C holds it.)
 #[repr(C)]
 #[derive(Clone, Copy)]
 pub struct TaskFile {

@@ -7,7 +7,7 @@ use crate::{Phase, TaskFile};
 use ground::number::{bytes16, word16};
 use table::layout::BOUND;
 
-// The interrupt reasons: IO is bit 1, CoD bit 0.
+// The interrupt reasons: IO is bit 1, CoD bit 0. (Bytes, since C reads the register: C interface.)
 pub const TAKES_LIST: u8 = 0x00;
 
 pub const TAKES_PACKET: u8 = 0x01;

@@ -9,7 +9,7 @@ use table::layout::{A2, FLAGS, HEADER, PFRAME, PMIN, POINT, PSEC, ROW, is_track}
 
 // A track: its number, ADR/control, start, and its session's lead-out. Number 0 is no track, and no `Option`: READ SUB-CHANNEL shows its
 // zeros, and the theorems over `track_of` and `track_numbered` say so.
-#[derive(Clone, Copy)]
+#[derive(Clone, Copy, Default)]
 pub struct Track {
     pub number: u8,
     pub flags: u8,
@@ -34,12 +34,7 @@ pub enum Ask {
 fn no_track() -> Track
     ensures { result ≡ no_track }
 {
-    Track {
-        number: 0,
-        flags: 0,
-        start: 0,
-        out: 0,
-    }
+    Track::default()
 }
 
 // The control's data bit.
