@@ -1,4 +1,5 @@
-// The table made of a sheet's tracks and lead-out.
+// The table made of a sheet's tracks and lead-out. (That a span is of the sheet's tracks ties it to bytes that it doesn't hold: as a ghost field it
+// would hold the sheet, and be no plainer.)
 ghost use Rattle.std.specs.Prelude.{◌≡◌, true, ◌≤◌};
 ghost use Rattle.ground.specs.Memory.{Laid};
 ghost use Rattle.cue.specs.Sheet.{tracks_of};

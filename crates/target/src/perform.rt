@@ -1,4 +1,5 @@
-// Steps 3 to 5: what each command does that is performed.
+// Steps 3 to 5: what each command does that is performed. (That the memory has room, and that the disc was read off this table, ties values to what
+// is lent for one call: a type of them would borrow all that and be opened in each arm, and be no plainer.)
 ghost use Rattle.std.specs.Prelude.{◌≡◌, ◌+◌, ◌≤◌, length};
 ghost use Rattle.ground.specs.Tests.{◌and◌};
 ghost use Rattle.table.specs.Layout.{descriptors};

@@ -1,5 +1,5 @@
 // What is shown of the table's descriptors, laid into the response memory: each descriptor into the part that begins where the one
-// before ended.
+// before ended. (That descriptor j is there is asked at each read, of plain bytes: a type of whole descriptors would be no plainer.)
 ghost use Rattle.std.specs.Prelude.{◌≡◌, ◌+◌, ◌*◌, ◌≤◌, length, take, drop};
 ghost use Rattle.ground.specs.Memory.{Laid};
 ghost use Rattle.table.specs.Layout.{row, rows};
