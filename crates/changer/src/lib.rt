@@ -18,7 +18,7 @@ use drive::state::Drive;
 use outcome::Outcome;
 
 // A slot record: disc present, disc changed.
-#[derive(Clone, Copy)]
+#[derive(Clone, Copy, Default)]
 pub struct Slot {
     pub present: bool,
     pub changed: bool,
@@ -101,12 +101,11 @@ impl Changer {
         ensures { result ≡ moves_on k self }
     {
         let m = self.drive.move_on(k);
-        let drive = m.state;
         MovedOn {
             number: m.number,
             state: Changer {
-                drive,
-                home: self.home,
+                drive: m.state,
+                ..self
             },
         }
     }
@@ -116,10 +115,11 @@ impl Changer {
 fn emptied(d: Drive) -> Drive
     ensures { result ≡ emptied d }
 {
-    let unit = d.unit;
     let shut = d.deck.with_disc(false).closing();
-    let deck = shut.deck;
-    Drive { unit, deck }
+    Drive {
+        deck: shut.deck,
+        ..d
+    }
 }
 
 // Two places change, or none: the others stay as they were.

@@ -12,7 +12,7 @@ use crate::slots::{is_in_order, staying};
 use crate::status::mechanism_status;
 use crate::{Changer, Met, Moves, Slot};
 use command::field::bit;
-use disc::disc::fault;
+use disc::disc::read;
 use disc::part::UNFIT;
 use drive::state::UNKNOWN_STATE;
 use gate::fault::Fault;
@@ -54,8 +54,7 @@ fn with_home(o: Outcome, home: u8, moves: Option<Moves>) -> Met
 }
 
 // The packet is not answered as by the drive.
-fn is_own(p: &[u8]) -> bool
-    requires { length p.now ≡ 12 }
+fn is_own(p: &[u8; 12]) -> bool
     ensures { result ≡ is_own p.now }
 {
     match p[0] {
@@ -66,8 +65,8 @@ fn is_own(p: &[u8]) -> bool
 }
 
 // Step 5 of such a packet.
-fn own(p: &[u8], c: Changer, slots: &[Slot], mem: &mut [u8]) -> Act
-    requires { (length p.now ≡ 12) × (bound ≤ length mem.old) × (length slots.now ≤ most) × Homed (mechanism_of c slots.now) }
+fn own(p: &[u8; 12], c: Changer, slots: &[Slot], mem: &mut [u8]) -> Act
+    requires { (bound ≤ length mem.old) × (length slots.now ≤ most) × Homed (mechanism_of c slots.now) }
     ensures { ActedOn (own p.now (mechanism_of c slots.now)) (mechanism_of c slots.now) mem.old result mem.new }
 {
     match p[0] {
@@ -78,8 +77,8 @@ fn own(p: &[u8], c: Changer, slots: &[Slot], mem: &mut [u8]) -> Act
 }
 
 // Step 2 of such a packet: a pending attention is told, power first; with none it is performed.
-fn gated(slots: &[Slot], c: Changer, p: &[u8], mem: &mut [u8]) -> Met
-    requires { (length p.now ≡ 12) × (bound ≤ length mem.old) × (length slots.now ≤ most) × Homed (mechanism_of c slots.now) }
+fn gated(slots: &[Slot], c: Changer, p: &[u8; 12], mem: &mut [u8]) -> Met
+    requires { (bound ≤ length mem.old) × (length slots.now ≤ most) × Homed (mechanism_of c slots.now) }
     ensures { AnsweredBy (gate c.drive.unit (mechanism_of c slots.now) (own p.now (mechanism_of c slots.now))) slots.now mem.old result mem.new }
 {
     let unit = c.drive.unit;
@@ -97,22 +96,28 @@ fn gated(slots: &[Slot], c: Changer, p: &[u8], mem: &mut [u8]) -> Met
 }
 
 // Such a packet: with a disc in the drive its table is read first.
-fn own_packet(slots: &[Slot], c: Changer, p: &[u8], t: &[u8], list: &[u8], mem: &mut [u8]) -> Met
+fn own_packet(
+    slots: &[Slot],
+    c: Changer,
+    p: &[u8; 12],
+    t: &[u8],
+    list: &[u8],
+    mem: &mut [u8],
+) -> Met
     requires { Passed c slots.now p.now (length mem.old) × (is_own p.now ≡ true) }
     ensures { AnsweredBy (answer c slots.now p.now t.now list.now (length mem.old)) slots.now mem.old result mem.new }
 {
     if c.drive.deck.is_loaded() {
-        let rule = fault(t);
-        if rule == 0 {
-            return gated(slots, c, p, mem);
-        }
-        return refused(UNFIT, rule, c);
+        return match read(t) {
+            Ok(_) => gated(slots, c, p, mem),
+            Err(unfit) => refused(UNFIT, unfit.rule, c),
+        };
     }
     gated(slots, c, p, mem)
 }
 
 // Past the refusals 1, 2, 3 and 11: the changer's own packets, and any other as by the drive.
-fn passed(slots: &[Slot], c: Changer, p: &[u8], t: &[u8], list: &[u8], mem: &mut [u8]) -> Met
+fn passed(slots: &[Slot], c: Changer, p: &[u8; 12], t: &[u8], list: &[u8], mem: &mut [u8]) -> Met
     requires { Passed c slots.now p.now (length mem.old) }
     ensures { AnsweredBy (answer c slots.now p.now t.now list.now (length mem.old)) slots.now mem.old result mem.new }
 {
@@ -133,9 +138,9 @@ pub(crate) fn meet(
 ) -> Met
     ensures { AnsweredBy (answer c slots.now p.now t.now list.now (length mem.old)) slots.now mem.old result mem.new }
 {
-    if p.len() != 12 {
+    let Ok(p) = <&[u8; 12]>::try_from(p) else {
         return refused(NOT_TWELVE, 0, c);
-    }
+    };
     if !c.drive.is_known_state() {
         return refused(UNKNOWN_STATE, 0, c);
     }

@@ -14,10 +14,7 @@ pub const MOST: usize = 31;
 pub(crate) fn empty_slot() -> Slot
     ensures { result ≡ empty_slot }
 {
-    Slot {
-        present: false,
-        changed: false,
-    }
+    Slot::default()
 }
 
 // Slot i; past the last an empty one.
@@ -31,10 +28,7 @@ pub(crate) fn slot_of(slots: &[Slot], i: usize) -> Slot
 pub(crate) fn full_slot(s: Slot) -> Slot
     ensures { result ≡ slot true s.changed }
 {
-    Slot {
-        present: true,
-        changed: s.changed,
-    }
+    Slot { present: true, ..s }
 }
 
 // No slot changes.
