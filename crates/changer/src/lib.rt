@@ -86,7 +86,7 @@ impl Changer {
         }
     }
 
-    // The second form of power-on: the same.
+    // The second form of power-on: the same. (The build definition names both forms.)
     pub fn power_on_without_change(self) -> Changer
         ensures { result ≡ power_on_without_change self }
     {

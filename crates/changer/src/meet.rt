@@ -1,4 +1,5 @@
-// One packet met by the changer.
+// One packet met by the changer. (That the slots are few and hold the home, and that the memory has room, ties values to what is lent for one call: a
+// type of them would borrow all that, and be no plainer.)
 ghost use Rattle.std.specs.Prelude.{◌≡◌, true, false, ◌≤◌, length};
 ghost use Rattle.table.specs.Layout.{bound};
 ghost use Rattle.gate.specs.Gate.{gate};
