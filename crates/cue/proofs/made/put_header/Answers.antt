@@ -1,5 +1,0 @@
--- `cue::made::put_header` meets its contract: the four bytes copied are the header's, the length's two first.
-use Rattle.cue.proofs.made.put_header.Goals as goal
-
-pub returns : goal.returns
-returns c = rw c.bytes16-l.ensures at c.copy_front.ensures
