@@ -109,10 +109,9 @@ fn own_packet(
     ensures { AnsweredBy (answer c slots.now p.now t.now list.now (length mem.old)) slots.now mem.old result mem.new }
 {
     if c.drive.deck.is_loaded() {
-        return match read(t) {
-            Ok(_) => gated(slots, c, p, mem),
-            Err(unfit) => refused(UNFIT, unfit.rule, c),
-        };
+        if let Err(unfit) = read(t) {
+            return refused(UNFIT, unfit.rule, c);
+        }
     }
     gated(slots, c, p, mem)
 }
