@@ -6,7 +6,7 @@ ghost use Rattle.address.specs.Address.{to_msf, to_block, is_msf, frames, addres
 
 use ground::number::{bytes32, wide};
 
-// The refusal of an address that no M:S:F has, or of an M:S:F that no block has.
+// The refusal of an address that no M:S:F has, or of an M:S:F that no block has. (A number, as `msf_meaning` and `block_meaning` give it.)
 pub const REFUSED: u8 = 8;
 
 // The greatest block address.

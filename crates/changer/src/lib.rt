@@ -45,7 +45,8 @@ pub struct Changer {
     pub home: u8,
 }
 
-// The outside call's answer: the refusal's number or 0, and the next state. C interface: `Moved` is laid out for C, and stays the drive's alone.
+// The outside call's answer: the refusal's number or 0, and the next state. C interface: `Moved`, whose number this
+// hands on, is laid out for C, and stays the drive's alone.
 #[derive(Clone, Copy)]
 pub struct MovedOn {
     pub number: u8,
@@ -134,7 +135,7 @@ fn settle(slots: &mut [Slot], m: Option<Moves>)
 }
 
 // A packet met by the changer, with the slots, a disc table, a parameter list and a response memory: the refusals 1, 2, 3, 11, 4 in order,
-// then the steps.
+// then the steps. (All side by side, as in `target`.)
 pub fn packet(
     slots: &mut [Slot],
     c: Changer,

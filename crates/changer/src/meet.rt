@@ -23,10 +23,10 @@ use outcome::{Outcome, finish, refuse, tell};
 use table::layout::BOUND;
 use target::packet::{NOT_TWELVE, SHORT_MEMORY, packet};
 
-// The refusal that the changer adds.
+// The refusal that the changer adds. (A number, beside those of `target`.)
 pub const OUT_OF_ORDER: u8 = 11;
 
-// LOAD/UNLOAD and MECHANISM STATUS; and START/STOP UNIT, whose LoEj a changer has not.
+// LOAD/UNLOAD and MECHANISM STATUS; and START/STOP UNIT, whose LoEj a changer has not. (Codes of packets, as the definition prints them.)
 const LOAD_UNLOAD: u8 = 0xA6;
 
 const MECHANISM_STATUS: u8 = 0xBD;

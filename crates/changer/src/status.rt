@@ -55,7 +55,7 @@ fn put_status(home: u8, slots: &[Slot], room: usize, mem: &mut [u8]) -> usize
     put_full(home, slots, &mut mem[..e])
 }
 
-// The home slot of the disc in the drive, or 0.
+// The home slot of the disc in the drive, or 0, as the answer shows it.
 fn home_shown(c: Changer, slots: &[Slot]) -> u8
     ensures { result ≡ home_shown (mechanism_of c slots.now) }
 {

@@ -5,7 +5,8 @@ ghost use Rattle.command.specs.Done.{went_with, done, done_of};
 use deck::Deck;
 use gate::fault::Fault;
 
-// It went well: the next deck, whether that was a loading, how many bytes it wrote, and the blocks that it names.
+// It went well: the next deck, whether that was a loading, how many bytes it wrote, and the blocks that it names. (`loading` is a fact
+// of its own, and says nothing of a field beside it.)
 #[derive(Clone, Copy)]
 pub struct Went {
     pub next: Deck,

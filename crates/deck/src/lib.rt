@@ -19,7 +19,7 @@ pub struct Deck {
     pub event: u8,
 }
 
-// The deck after the tray moved, and whether that was a loading.
+// The deck after the tray moved, and whether that was a loading. (A fact of its own: it says nothing of the deck.)
 #[derive(Clone, Copy)]
 pub struct Shifted {
     pub deck: Deck,

@@ -22,7 +22,7 @@ pub struct Moved {
     pub state: Drive,
 }
 
-// The refusals that the calls give which are no packets.
+// The refusals that the calls give which are no packets. (Numbers, as the definition gives them and C reads them.)
 pub const UNKNOWN_STATE: u8 = 2;
 
 pub const LOCKED: u8 = 5;

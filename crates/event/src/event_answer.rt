@@ -24,7 +24,7 @@ fn media_status(m: Deck) -> u8
     0x00
 }
 
-// The event that the class reports.
+// The event that the class reports. (0 is a byte of the answer, and no value that is missing; so of the status.)
 fn event_of(class: u8, m: Deck) -> u8
     ensures { result ≡ event_of class m }
 {

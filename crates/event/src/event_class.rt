@@ -15,7 +15,7 @@ pub const NO_CLASS: u8 = 8;
 // The bit of the class media.
 const MEDIA_BIT: u8 = 0x10;
 
-// The classes that have an event waiting: media alone can.
+// The classes that have an event waiting: media alone can. (0 is a byte with no bit set.)
 fn waiting(event: u8) -> u8
     ensures { result ≡ waiting event }
 {

@@ -38,7 +38,7 @@ pub fn bytes32(n: usize) -> [u8; 4]
     ((n % 4294967296) as u32).to_be_bytes()
 }
 
-// The smaller of two numbers.
+// The smaller of two numbers. (Our crates call `min`; docs/PROMISES.md names this function, with `unique_smaller`.)
 pub fn smaller(a: usize, b: usize) -> usize
     ensures { result ≡ min a b }
 {

@@ -1,4 +1,4 @@
-// A packet's line.
+// A packet's line. (What it prints and where it goes are parameters: a struct of them would be no plainer.)
 ghost use Rattle.ground.specs.Memory.{Laid};
 ghost use Rattle.listing.specs.Line.{blocks, yielded, started, answered, rule_shown, refusal, refused, line_of};
 

@@ -5,7 +5,7 @@ ghost use Rattle.print.specs.Numbers.{mark_at, next_at, joined};
 use crate::decimal::put_decimal;
 use ground::memory::copy_front;
 
-// The mark before the number after i others: none before the first.
+// The mark before the number after i others: none before the first, where 0 bytes are laid.
 fn put_mark(i: usize, mark: u8, out: &mut [u8]) -> usize
     ensures { Laid out.old (mark_at mark i) result out.new }
 {

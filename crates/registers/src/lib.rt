@@ -36,7 +36,7 @@ pub struct Stepped {
     pub answer: Answer,
 }
 
-// The refusal that only the registers give.
+// The refusal that only the registers give. (A number, which C reads.)
 pub const OUT_OF_TURN: u8 = 15;
 
 // A number, a byte and the state.
@@ -99,7 +99,7 @@ fn give(f: TaskFile, next: TaskFile, d: Drive, mem: &[u8]) -> Stepped
     }
 }
 
-// An access of the host, by value.
+// An access of the host, by value. (The parameters side by side, as C hands them in: C interface.)
 fn step(
     file: TaskFile,
     access: u8,

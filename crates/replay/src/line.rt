@@ -1,4 +1,4 @@
-// The lines that a call prints.
+// The lines that a call prints. (What a line prints and where it goes are parameters: a struct of them would be no plainer.)
 ghost use Rattle.std.specs.Prelude.{◌≡◌};
 ghost use Rattle.ground.specs.Memory.{Laid};
 ghost use Rattle.cue.specs.Write.{written_meaning};
@@ -22,7 +22,7 @@ use print::numbers::put_joined;
 use print::sum::adler32;
 use shelf::totals::{TooLarge, Totals, numbers};
 
-// A flag as '0' or '1'.
+// A flag as '0' or '1'. (A function, since the definition `digit` has that name.)
 fn digit(b: bool) -> u8
     ensures { result ≡ Line·digit b }
 {

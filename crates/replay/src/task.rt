@@ -1,4 +1,4 @@
-// The lines that an access of the registers prints.
+// The lines that an access of the registers prints. (What a line prints and where it goes are parameters: a struct of them would be no plainer.)
 ghost use Rattle.std.specs.Prelude.{◌≡◌};
 ghost use Rattle.ground.specs.Memory.{Laid};
 ghost use Rattle.taskfile.specs.Run.{phase_of};

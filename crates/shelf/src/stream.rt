@@ -35,7 +35,7 @@ fn whole_length(s: &[u8]) -> Option<usize>
     None
 }
 
-// What the whole tables come to that s begins with.
+// What the whole tables come to that s begins with. (A `while let`: a table itself says how long it is.)
 fn wholes_of(s: &[u8]) -> Result<Passed, TooLarge>
     ensures { result ≡ passed nothing s.now }
 {

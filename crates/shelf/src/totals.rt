@@ -39,7 +39,7 @@ pub fn nothing() -> Totals
     Totals::default()
 }
 
-// 1 where the test holds, else 0.
+// 1 where the test holds, else 0. (A function, since the definition `one_if` has that name.)
 fn one_if(b: bool) -> u64
     ensures { result ≡ one_if b }
 {

@@ -23,7 +23,7 @@ pub const PSEC: usize = 9;
 
 pub const PFRAME: usize = 10;
 
-// The POINTs that are no tracks.
+// The POINTs that are no tracks. (Numbers, as the definition prints them and a table holds them.)
 pub const A0: u8 = 0xA0;
 
 pub const A1: u8 = 0xA1;

@@ -20,7 +20,7 @@ use ground::number::wide;
 use outcome::{Outcome, finish, good, refuse, tell};
 use table::layout::BOUND;
 
-// The refusals that only packets give.
+// The refusals that only packets give. (Numbers, as the definition gives them and C reads them.)
 pub const NOT_TWELVE: u8 = 1;
 
 pub const SHORT_MEMORY: u8 = 3;

@@ -35,7 +35,8 @@ pub enum Phase {
     AnswerRun,
 }
 
-// What the host does: it writes a register (one that is not there is nowhere), reads data, or resets.
+// What the host does: it writes a register (one that is not there is nowhere), reads data, or resets. (Nine kinds, and no Option: a write nowhere is an
+// access too, which waits as any.)
 #[derive(Clone, Copy)]
 pub enum Access {
     Data,

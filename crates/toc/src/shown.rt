@@ -11,7 +11,8 @@ use ground::memory::copy_front;
 use ground::number::wide;
 use table::layout::{FLAGS, PFRAME, PMIN, POINT, PSEC, ROW, is_track};
 
-// What is shown of the table's descriptors: eight bytes for each track numbered `from` or more, or each descriptor whole.
+// What is shown of the table's descriptors: eight bytes for each track numbered `from` or more, or each descriptor whole. (Two kinds, and no Option: whole
+// is a way to be shown.)
 #[derive(Clone, Copy)]
 pub enum Show {
     Tracks { msf: bool, from: u8 },

@@ -24,7 +24,7 @@ pub enum Mode {
     Audio,
 }
 
-// What a track is asked for by.
+// What a track is asked for by. (Two kinds, each with its number.)
 #[derive(Clone, Copy)]
 pub enum Ask {
     Block(usize),
@@ -75,7 +75,7 @@ pub(crate) fn track_at(d: &[u8], j: usize, out: usize) -> Track
     }
 }
 
-// Descriptor c is a track that is asked for, where u is what was found so far.
+// Descriptor c is a track that is asked for, where u is what was found so far. (Not `&&` before a `match`: no plainer.)
 fn wanted(ask: Ask, c: Track, u: Track) -> bool
     ensures { result ≡ wanted ask c u }
 {
