@@ -24,8 +24,10 @@ overflow_add-n c =
 pub returns-then-n-s : goal.returns-then-n-s
 returns-then-n-s c =
     let e = told (goal.at.returns-then-n-s c).After-word16-n in
+    let h = c.type_inv.s 0 in
+    let l = c.type_inv.s 1 in
     let q = whole_length-whole c.args.s.now (let t = c.if-n-s.true in omega arith) in
-    ap (λ (x : ℕ). Some x) e ∙ sym q
+    ap (λ (x : ℕ). Some x) (omega arith) ∙ sym q
 
 pub returns : goal.returns
 returns c =
