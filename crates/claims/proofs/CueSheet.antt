@@ -12,7 +12,8 @@ use Rattle.cue.specs.SheetLaws.{is_described_parts}
 use Rattle.cue.specs.Made.{table_of}
 use Rattle.cue.specs.MadeLaws.{table_with-length}
 use Rattle.cue.specs.MadeFit.{made-fit, made_holds, made-A0-flags, made-A1-flags, made-type, made-times, made_plain, held-numbered}
-use Rattle.cue.specs.Write.{Answer, refuse, answer, Written, Turned}
+use Rattle.cue.specs.Write.{Answer, refuse, answer, Turned}
+use Rattle.cue.specs.declared.write.Written.{Written}
 use Rattle.cue.specs.WriteLaws.{short, broken, other, none, made, answer-cases}
 use Rattle.cue.specs.Held.{Holds, Bytes}
 use Rattle.cue.specs.BytesLaws.{table_of-bytes}

@@ -41,7 +41,8 @@ use Rattle.table.specs.Asked.{kept, a0_kept, a1_kept, extra_kept, climbs, holds}
 use Rattle.sessions.specs.declared.session.Session.{Session}
 use Rattle.sessions.specs.Session.{size, starts, read_session}
 use Rattle.disc.specs.Rules.{fault}
-use Rattle.disc.specs.Part.{PartOf, Ruled, part_refused, refusal_meaning, part_start, part_size}
+use Rattle.disc.specs.Part.{PartOf, part_refused, refusal_meaning, part_start, part_size}
+use Rattle.disc.specs.declared.part.Ruled.{Ruled}
 use Rattle.tracks.specs.declared.track.Mode.{Mode}
 use Rattle.tracks.specs.Track.{is_data, track_of, track_numbered, run_is}
 use Rattle.disc.specs.Disc.{unfit_by, reading}
@@ -72,7 +73,8 @@ use Rattle.shelf.specs.declared.totals.TooLarge.{TooLarge}
 use Rattle.shelf.specs.declared.stream.Taken.{Taken}
 use Rattle.shelf.specs.Totals.{nothing, sum, of_table, bounded, numbers_of}
 use Rattle.shelf.specs.Stream.{counted, left_in, Took}
-use Rattle.cue.specs.Write.{answer as answer_sheet, Written, written_meaning, Turned}
+use Rattle.cue.specs.Write.{answer as answer_sheet, written_meaning, Turned}
+use Rattle.cue.specs.declared.write.Written.{Written}
 
 -- ---- the shapes of a promise, a law each
 
@@ -352,6 +354,9 @@ pub unique-session-refusal :
     (t : List ℕ) (k : ℕ) (r s : Option Refusal) → refusal_meaning r ≡ part_refused t k → refusal_meaning s ≡ part_refused t k → r ≡ s
 unique-session-refusal t k r s p q = refusal_injective r s (value_once p q)
 
+pub unique-number-and-rule : (o : Option Refusal) (r s : Ruled) → r ≡ refusal_meaning o → s ≡ refusal_meaning o → r ≡ s
+unique-number-and-rule o r s = value_once
+
 pub unique_session_part :
     (t r s : Bor (List ℕ)) (k : ℕ)
     → PartOf t r (part_start t.now k) (part_size t.now k) → PartOf t s (part_start t.now k) (part_size t.now k) → shr_slice_vals r ≡ shr_slice_vals s
@@ -549,6 +554,9 @@ pub unique_write_table : (s m m₁ m₂ : List ℕ) (r t : Result ℕ NoSheet)
     → Turned (answer_sheet s (length m)) m (written_meaning r) m₁ → Turned (answer_sheet s (length m)) m (written_meaning t) m₂
     → (r ≡ t) × (m₁ ≡ m₂)
 unique_write_table s m m₁ m₂ r t a b = (written_injective r t (value_once a.outcome b.outcome), value_once a.memory b.memory)
+
+pub unique-number-and-len : (w : Result ℕ NoSheet) (r s : Written) → r ≡ written_meaning w → s ≡ written_meaning w → r ≡ s
+unique-number-and-len w r s = value_once
 
 -- ---- shelf
 

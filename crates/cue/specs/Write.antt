@@ -6,6 +6,7 @@ use Rattle.table.specs.Layout.{bound}
 use Rattle.disc.specs.Rules.{is_fit}
 use Rattle.cue.specs.declared.write.Refusal.{Refusal}
 use Rattle.cue.specs.declared.write.Refusal.TheVariants.{NotWhole, NoTable, NoRoom}
+use Rattle.cue.specs.declared.write.Written.{Written}
 use Rattle.cue.specs.Sheet.{entry_size, is_described}
 use Rattle.cue.specs.Made.{table_of}
 
@@ -40,12 +41,7 @@ unfoldable pub answer : List ℕ → ℕ → Answer
 answer s m =
     choose ltb m bound then refuse no_room else (choose eqb (length s % entry_size) 0 then whole_answer s else refuse not_whole)
 
--- what the call hands back: the refusal's number or 0, and how many bytes were written
-pub record Written : Type 0 where
-  pub number : ℕ
-  pub len : ℕ
-
--- the number and the bytes of each case
+-- what the call hands back: the refusal's number or 0, and how many bytes were written, of each case
 abbrev pub written_meaning : Result ℕ Refusal → Written
 written_meaning (Ok n) = record { number = 0; len = n }
 written_meaning (Err NotWhole) = record { number = not_whole; len = 0 }

@@ -9,7 +9,8 @@ use Rattle.disc.specs.Rules.{fault, is_fit}
 use Rattle.disc.specs.RulesLaws.{fault-first}
 use Rattle.cue.specs.Sheet.{entry_size, is_described}
 use Rattle.cue.specs.Made.{table_of}
-use Rattle.cue.specs.Write.{refuse, not_whole, no_table, no_room, hand_out, whole_answer, answer, Written, written_of, Turned}
+use Rattle.cue.specs.Write.{refuse, not_whole, no_table, no_room, hand_out, whole_answer, answer, written_of, Turned}
+use Rattle.cue.specs.declared.write.Written.{Written}
 
 -- nothing is written
 pub turned-refuse : (n : ℕ) (m : List ℕ) {r : Written} → r ≡ written_of (refuse n) → Turned (refuse n) m r m

@@ -30,6 +30,37 @@ pub enum Refusal {
     NoRoom,
 }
 
+// A refusal's number or 0, and how many bytes were written.
+#[derive(Clone, Copy)]
+pub struct Written {
+    pub number: u8,
+    pub len: usize,
+}
+
+// The refusal's number.
+fn number_of(refusal: Refusal) -> u8
+    ensures { result ≡ (written_meaning (Err refusal)).number }
+{
+    match refusal {
+        Refusal::NotWhole => NOT_WHOLE,
+        Refusal::NoTable => NO_TABLE,
+        Refusal::NoRoom => NO_ROOM,
+    }
+}
+
+// What `write_table` hands back stands for: the refusal's number or 0, and how many bytes were written.
+pub fn number_and_len(written: Result<usize, Refusal>) -> Written
+    ensures { result ≡ written_meaning written }
+{
+    match written {
+        Ok(len) => Written { number: 0, len },
+        Err(refusal) => Written {
+            number: number_of(refusal),
+            len: 0,
+        },
+    }
+}
+
 // The first n bytes of the room, if they are a fit table: `broken` is the first rule that they break, or 0.
 fn hand_out(room: &[u8], n: usize, broken: u8, mem: &mut [u8]) -> Result<usize, Refusal>
     requires { (broken ≡ fault (take n room.now)) × (n ≡ length (take n room.now)) × (n ≤ length mem.old) }

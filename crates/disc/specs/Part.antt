@@ -7,6 +7,7 @@ use Rattle.sessions.specs.Session.{size, starts, session}
 use Rattle.disc.specs.Rules.{fault, is_fit}
 use Rattle.disc.specs.declared.part.Refusal.{Refusal}
 use Rattle.disc.specs.declared.part.Refusal.TheVariants as refusal
+use Rattle.disc.specs.declared.part.Ruled.{Ruled}
 
 abbrev pub unfit : ℕ
 unfit = 4
@@ -23,10 +24,6 @@ unfoldable pub rule_with : ℕ → List ℕ → ℕ
 rule_with number t = choose eqb number unfit then fault t else 0
 
 -- a number and the rule beside it
-pub record Ruled : Type 0 where
-  pub number : ℕ
-  pub rule : ℕ
-
 abbrev pub refusal_with : ℕ → ℕ → Ruled
 refusal_with number rule = record { number = number; rule = rule }
 

@@ -7,9 +7,10 @@ use Rattle.table.specs.Layout.{header, descriptors, last_session}
 use Rattle.sessions.specs.Session.{size, starts, session}
 use Rattle.disc.specs.Rules.{fault, is_fit}
 use Rattle.disc.specs.RulesLaws.{Fit, is_fit_true, fit-is_fit, fit-least}
-use Rattle.disc.specs.Part.{unfit, no_session, part_refusal, rule_with, Ruled, refusal_with, part_refused, refusal_meaning, part_start, part_size}
+use Rattle.disc.specs.Part.{unfit, no_session, part_refusal, rule_with, refusal_with, part_refused, refusal_meaning, part_start, part_size}
 use Rattle.disc.specs.declared.part.Refusal.{Refusal}
 use Rattle.disc.specs.declared.part.Refusal.TheVariants as refusal
+use Rattle.disc.specs.declared.part.Ruled.{Ruled}
 
 -- the part of session k is given: the table is fit, and it has the session
 pub record Given (t : List ℕ) (k : ℕ) : Type 0 where

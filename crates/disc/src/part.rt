@@ -18,6 +18,30 @@ pub enum Refusal {
     NoSession,
 }
 
+// A refusal's number, and the rule beside it; 0 and 0 where there is none.
+#[derive(Clone, Copy)]
+pub struct Ruled {
+    pub number: u8,
+    pub rule: u8,
+}
+
+// What a refusal stands for, as `session_refusal` gives it.
+pub fn number_and_rule(refusal: Option<Refusal>) -> Ruled
+    ensures { result ≡ refusal_meaning refusal }
+{
+    match refusal {
+        None => Ruled { number: 0, rule: 0 },
+        Some(Refusal::Unfit(unfit)) => Ruled {
+            number: UNFIT,
+            rule: unfit.rule,
+        },
+        Some(Refusal::NoSession) => Ruled {
+            number: NO_SESSION,
+            rule: 0,
+        },
+    }
+}
+
 // How the part of session k is refused, if it is.
 pub fn session_refusal(t: &[u8], k: u8) -> Option<Refusal>
     ensures { refusal_meaning result ≡ part_refused t.now k }

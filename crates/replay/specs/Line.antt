@@ -15,7 +15,7 @@ use Rattle.drive.specs.declared.state.Drive.{Drive}
 use Rattle.disc.specs.Part.{unfit}
 use Rattle.outcome.specs.declared.Outcome.{Outcome}
 use Rattle.changer.specs.declared.Changer.{Changer}
-use Rattle.cue.specs.Write.{Written}
+use Rattle.cue.specs.declared.write.Written.{Written}
 use Rattle.shelf.specs.Totals.{numbers_of}
 use Rattle.shelf.specs.declared.totals.Totals.{Totals}
 use Rattle.shelf.specs.declared.totals.TooLarge.{TooLarge}

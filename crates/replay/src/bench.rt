@@ -10,7 +10,7 @@ use attention::Unit;
 use attention::sense::Sense;
 use cue::write::write_table;
 use deck::Deck;
-use disc::part::{NO_SESSION, Refusal, UNFIT, session_part, session_refusal};
+use disc::part::{session_part, session_refusal};
 use drive::state::{Drive, Moved};
 use ground::memory::copy_front;
 use ground::number::{word16, word32};
@@ -292,12 +292,7 @@ impl Bench {
         if body.len() == 1 {
             let k = body[0];
             let t = self.table.shown();
-            let (number, rule) = match session_refusal(t, k) {
-                None => (0, 0),
-                Some(Refusal::Unfit(unfit)) => (UNFIT, unfit.rule),
-                Some(Refusal::NoSession) => (NO_SESSION, 0),
-            };
-            return Ok(put_part(number, rule, session_part(t, k), line));
+            return Ok(put_part(session_refusal(t, k), session_part(t, k), line));
         }
         Err(Bad)
     }

@@ -2,13 +2,15 @@
 ghost use Rattle.std.specs.Prelude.{◌≡◌};
 ghost use Rattle.ground.specs.Memory.{Laid};
 ghost use Rattle.cue.specs.Write.{written_meaning};
+ghost use Rattle.disc.specs.Part.{refusal_meaning};
 ghost use Rattle.replay.specs.Line.{digit as Line·digit};
 ghost use Rattle.replay.specs.Line.{play_text, page_text, kept_text, state_text, call, rule_text, ruled_call, sum_text, decimals, moved_line, outcome_text, memory_text, packet_line, slots_text, changer_text, stood_line, changer_line, msf_line, address_line, summed_text, part_line, written_line, totals_line, counted_line};
 
 use changer::Changer;
-use cue::write::{NO_ROOM, NO_TABLE, NOT_WHOLE, Refusal};
+use cue::write::{Refusal, number_and_len};
 use deck::Deck;
-use disc::part::UNFIT;
+use disc::part;
+use disc::part::{UNFIT, number_and_rule};
 use drive::state::Drive;
 use ground::memory::copy_front;
 use ground::number::{bytes32, wide};
@@ -247,34 +249,23 @@ fn next_summed(len: usize, s: &[u8], out: &mut [u8]) -> usize
 }
 
 // The line of a session's part.
-pub(crate) fn put_part(number: u8, rule: u8, part: &[u8], out: &mut [u8]) -> usize
-    ensures { Laid out.old (part_line number rule part.now) result out.new }
+pub(crate) fn put_part(refusal: Option<part::Refusal>, part: &[u8], out: &mut [u8]) -> usize
+    ensures { Laid out.old (part_line (refusal_meaning refusal).number (refusal_meaning refusal).rule part.now) result out.new }
 {
-    let mut at = put_ruled(b's', number, rule, out);
+    let told = number_and_rule(refusal);
+    let mut at = put_ruled(b's', told.number, told.rule, out);
     at += next_summed(part.len(), part, &mut out[at..]);
     at += copy_front(b"\n", &mut out[at..]);
     at
-}
-
-// The number of a cue sheet's refusal or 0, and how many bytes were written.
-fn written(w: Result<usize, Refusal>) -> (u8, usize)
-    ensures { (result.0 ≡ (written_meaning w).number) × (result.1 ≡ (written_meaning w).len) }
-{
-    match w {
-        Ok(len) => (0, len),
-        Err(Refusal::NotWhole) => (NOT_WHOLE, 0),
-        Err(Refusal::NoTable) => (NO_TABLE, 0),
-        Err(Refusal::NoRoom) => (NO_ROOM, 0),
-    }
 }
 
 // The line of a cue sheet, with the memory afterwards.
 pub(crate) fn put_written(w: Result<usize, Refusal>, memory: &[u8], out: &mut [u8]) -> usize
     ensures { Laid out.old (written_line (written_meaning w) memory.now) result out.new }
 {
-    let (number, len) = written(w);
-    let mut at = put_call(b't', number, out);
-    at += next_summed(len, memory, &mut out[at..]);
+    let told = number_and_len(w);
+    let mut at = put_call(b't', told.number, out);
+    at += next_summed(told.len, memory, &mut out[at..]);
     at += copy_front(b"\n", &mut out[at..]);
     at
 }

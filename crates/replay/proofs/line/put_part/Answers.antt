@@ -5,4 +5,4 @@ use Rattle.replay.proofs.line.put_part.Goals as goal
 
 pub returns : goal.returns
 unfolding part_line
-returns c = laid_more (laid_more c.put_ruled-at.ensures c.next_summed-at.ensures) c.copy_front-at.ensures
+returns c = rw c.number_and_rule-told.ensures at (laid_more (laid_more c.put_ruled-at.ensures c.next_summed-at.ensures) c.copy_front-at.ensures)

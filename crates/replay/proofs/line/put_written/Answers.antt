@@ -6,5 +6,4 @@ use Rattle.replay.proofs.line.put_written.Goals as goal
 pub returns : goal.returns
 unfolding written_line
 returns c =
-    let e = c.written-number.ensures in
-    rw (e.0, e.1) at (laid_more (laid_more c.put_call-at.ensures c.next_summed-at.ensures) c.copy_front-at.ensures)
+    rw c.number_and_len-told.ensures at (laid_more (laid_more c.put_call-at.ensures c.next_summed-at.ensures) c.copy_front-at.ensures)
