@@ -3,13 +3,15 @@
 ghost use Rattle.std.specs.Prelude.{◌<◌, take};
 ghost use Rattle.ground.specs.Memory.{Laid};
 
-// The one copier of bytes: lays src into the front of dst and says how many went in.
-#[tactic(auto, using(crate::specs::Memory::laid_front))]
+// The one loop that copies bytes: lays src into the front of dst and says how many went in. (A loop, and not std's `copy_from_slice`: that one
+// calls memmove, which a board would have to bring for the library for C.)
 pub fn copy_front(src: &[u8], dst: &mut [u8]) -> usize
     ensures { Laid dst.old src.now result dst.new }
 {
     let n = src.len().min(dst.len());
-    dst[..n].copy_from_slice(&src[..n]);
+    for i in 0..n {
+        dst[i] = src[i];
+    }
     n
 }
 
