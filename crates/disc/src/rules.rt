@@ -8,7 +8,7 @@ ghost use Rattle.disc.specs.RulesLaws.{Risen};
 ghost use Rattle.disc.specs.Walk.{next_of};
 ghost use Rattle.disc.specs.WalkSteps.{Reached, Trod};
 
-use crate::rows::row_at;
+use crate::rows::{row_at, row_from};
 use ground::number::{wide, word16};
 use sessions::session::{read_session, session_bytes};
 use table::layout::{BOUND, HEADER, PMIN, ROW};
@@ -32,14 +32,18 @@ pub(crate) fn rule2(t: &[u8]) -> bool
     t[2] == 1 && 1 <= t[3] && t[3] <= 99
 }
 
-// Rule n, one of 3, 5 and 6: each descriptor passes its test.
+// Rule n, one of 3, 5 and 6: each descriptor passes its test. (A `while`, by bytes: a `for` by descriptor number costs one instruction a descriptor
+// more, which took a table that rule 5 or 6 breaks at its start over 1.2 of C.)
 fn each_row(n: usize, d: &[u8]) -> bool
+    requires { length d.now % row ≡ 0 }
     ensures { result ≡ each_row n d.now }
 {
-    for j in 0..d.len() / ROW {
-        if !row_test(n, row_at(d, j)) {
+    let mut at = 0;
+    while at < d.len() {
+        if !row_test(n, row_from(d, at)) {
             return false;
         }
+        at += ROW;
     }
     true
 }

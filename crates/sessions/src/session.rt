@@ -1,5 +1,6 @@
 // A session, read as the part of the table that begins at its A0 descriptor.
 ghost use Rattle.std.specs.Prelude.{◌≡◌, ◌+◌, ◌*◌, ◌≤◌, ◌<◌, length, drop};
+ghost use Rattle.ground.specs.Tests.{every};
 ghost use Rattle.table.specs.Layout.{row, point_at};
 ghost use Rattle.table.specs.Row.{row_at, names};
 ghost use Rattle.sessions.specs.Session.{tracks, one, size, listed, numbered, read_session, starts};
@@ -24,6 +25,19 @@ fn named(d: &[u8], k: usize, j: usize, p: usize) -> bool
     wide(d[at]) == k && wide(d[at + POINT]) == p
 }
 
+// The n descriptors after the third are the tracks from number f on. (A loop, as in `numbered`: `all` over a range costs rule 4 a fifth more.)
+fn lists_tracks(d: &[u8], k: usize, f: usize, n: usize) -> bool
+    requires { (row * (3 + n) ≤ length d.now) × (f ≤ 256) × (n ≤ 256) }
+    ensures { result ≡ every n (λ i. names (row_at d.now (3 + i)) k (f + i)) }
+{
+    for i in 0..n {
+        if !named(d, k, 3 + i, f + i) {
+            return false;
+        }
+    }
+    true
+}
+
 // The descriptors of session k name A0, A1, A2 and then the n tracks from number f on.
 fn listed(d: &[u8], k: usize, f: usize, n: usize) -> bool
     requires { (row * (3 + n) ≤ length d.now) × (f ≤ 256) × (n ≤ 256) }
@@ -32,7 +46,7 @@ fn listed(d: &[u8], k: usize, f: usize, n: usize) -> bool
     named(d, k, 0, wide(A0))
         && named(d, k, 1, wide(A1))
         && named(d, k, 2, wide(A2))
-        && (0..n).all(|i| named(d, k, 3 + i, f + i))
+        && lists_tracks(d, k, f, n)
 }
 
 // The m descriptors from j on are of session k.
@@ -40,7 +54,12 @@ fn numbered(d: &[u8], k: usize, j: usize, m: usize) -> bool
     requires { row * (j + m) ≤ length d.now }
     ensures { result ≡ numbered d.now k j m }
 {
-    (0..m).all(|i| wide(d[ROW * (j + i)]) == k)
+    for i in 0..m {
+        if wide(d[ROW * (j + i)]) != k {
+            return false;
+        }
+    }
+    true
 }
 
 // How many tracks the session lists that begins at `at`, of any bytes.
@@ -91,7 +110,11 @@ pub fn read_session(d: &[u8], k: usize) -> Option<Session>
     }
     let first = d[PMIN];
     let last = d[ROW + PMIN];
-    if first < 1 || last < first || 99 < last {
+    // asked apart, so that the compiler sees below that there is a track
+    if first < 1 {
+        return None;
+    }
+    if last < first || 99 < last {
         return None;
     }
     let bytes = session_bytes(d);

@@ -1,20 +1,31 @@
 -- `disc::rules::each_row` meets its contract: each turn passes one descriptor more, and the first that fails decides.
-use Rattle.std.proofs.Common.{sym}
-use native.Mathlib.Nat.{le_antisymm}
-use Rattle.ground.specs.Tests.{every-none, every_more, every-breaks}
-use Rattle.disc.specs.Rules.{each_row}
+use mathlib.Core.Path.{sym, ◌∙◌}
+use native.Mathlib.Omega.{arith}
+use Rattle.disc.specs.RulesLaws.{tested-none, tested-next, tested-breaks, tested-end}
+use borrow.Author.Rules.{rules}
 use Rattle.disc.proofs.rules.each_row.Goals as goal
 
-pub loop-j-init : goal.loop-j-init
-loop-j-init c = every-none _
+pub loop-at-init : goal.loop-at-init
+loop-at-init c = tested-none _ _
 
-pub loop-j-preserved : goal.loop-j-preserved
-loop-j-preserved c = every_more _ _ c.loop-j.invariant (sym (rw c.row_at.ensures at c.if-not-row_test.ensures))
+pub row_from-requires : goal.row_from-requires
+row_from-requires c = let w = c.loop-at.invariant.whole in omega arith
+
+pub loop-at-preserved : goal.loop-at-preserved
+loop-at-preserved c =
+    tested-next c.loop-at.invariant c.requires
+    c.loop-at-test.true c.row_from.ensures
+    (sym c.if-not-row_test.ensures)
+
+pub overflow_add-at : goal.overflow_add-at
+overflow_add-at c =
+    let r = tested-next c.loop-at.invariant c.requires c.loop-at-test.true c.row_from.ensures (sym c.if-not-row_test.ensures) in
+    search rules
 
 pub returns-then-not-row_test : goal.returns-then-not-row_test
-unfolding each_row
-returns-then-not-row_test c = every-breaks _ _ c.loop-j.j c.loop-j-test.true (sym (rw c.row_at.ensures at c.if-not-row_test.ensures))
+returns-then-not-row_test c =
+    tested-breaks c.loop-at.invariant c.requires
+    c.loop-at-test.true c.row_from.ensures (sym c.if-not-row_test.ensures)
 
 pub returns : goal.returns
-unfolding each_row
-returns c = sym (rw (le_antisymm c.loop-j.auto.j-end c.loop-j-test.false) at c.loop-j.invariant)
+returns c = tested-end c.loop-at.invariant c.loop-at-test.false

@@ -1,8 +1,11 @@
 -- `disc::rules::each_row` meets its contract: each turn passes one descriptor more, and the first that fails decides.
-use Rattle.std.proofs.Common.{◌≡◌, true}
-use Rattle.ground.specs.Tests.{every}
-use Rattle.table.specs.Row.{row_at, row_test}
+use Prim.Native.Nat.{◌-◌}
+use lib.ListN.{length}
+use Rattle.disc.specs.RulesLaws.{Tested}
 use Rattle.disc.proofs.rules.each_row.Given as goal
 
-abbrev pub invariant-loop-j : goal.invariant-loop-j
-invariant-loop-j l = every l.j (λ i. row_test l.n (row_at l.d i)) ≡ true
+abbrev pub invariant-loop-at : goal.invariant-loop-at
+invariant-loop-at l = Tested l.n l.d l.at
+
+abbrev pub decreases-loop-at : goal.decreases-loop-at
+decreases-loop-at l = length l.d - l.at

@@ -1,10 +1,14 @@
 -- `disc::rules::fault_from` meets its contract: the rules 3 and 4 are asked in turn of what is left, then those after them, and the first that fails is the answer.
 use mathlib.Core.Path.{sym}
+use Rattle.ground.specs.Memory.{rest_all}
 use Rattle.disc.specs.Rules.{row_rules}
 use Rattle.disc.specs.RulesLaws.{first_broken_on, first_broken_off}
-use Rattle.disc.specs.WalkSteps.{trod-told, trod-reached}
+use Rattle.disc.specs.WalkSteps.{trod-told, trod-whole, trod-reached}
 use borrow.Author.Rules.{rules}
 use Rattle.disc.proofs.rules.fault_from.Goals as goal
+
+pub each_row-requires : goal.each_row-requires
+each_row-requires c = rw rest_all (trod-whole c.requires.1 c.requires.0)
 
 pub slice_bounds-each_row-start : goal.slice_bounds-each_row-start
 slice_bounds-each_row-start c = let w = c.requires.1.walked.within in search rules

@@ -1,10 +1,17 @@
 -- `disc::rules::late_fault` meets its contract: the rules 5 to 7 are asked in turn of what is left, and the first that fails is the answer.
 use mathlib.Core.Path.{sym}
+use Rattle.ground.specs.Memory.{rest_all}
 use Rattle.disc.specs.Rules.{late_rules}
 use Rattle.disc.specs.RulesLaws.{first_broken_on, first_broken_off, first_broken-none}
-use Rattle.disc.specs.WalkSteps.{trod-told, trod_risen}
+use Rattle.disc.specs.WalkSteps.{trod-told, trod-whole, trod_risen}
 use borrow.Author.Rules.{rules}
 use Rattle.disc.proofs.rules.late_fault.Goals as goal
+
+pub each_row-requires : goal.each_row-requires
+each_row-requires c = rw rest_all (trod-whole c.requires.2 c.requires.0)
+
+pub each_row-requires-2 : goal.each_row-requires-2
+each_row-requires-2 c = rw rest_all (trod-whole c.requires.2 c.requires.0)
 
 pub slice_bounds-rest-start : goal.slice_bounds-rest-start
 slice_bounds-rest-start c = let w = c.requires.2.walked.within in search rules

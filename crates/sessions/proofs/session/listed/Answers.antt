@@ -1,10 +1,7 @@
 -- `sessions::session::listed` meets its contract: the four tests are the definition's, in its order.
-use Rattle.std.proofs.Common.{rules, ◌≡◌, refl, sym, ap, ◌∙◌, ℕ, ◌+◌, Bool, true, false, arith}
-use Rattle.std.proofs.lemmas.Iterator.{cases_from_all, YieldsList-from_range}
-use borrow.Author.Tests.{tests}
+use Rattle.std.proofs.Common.{◌≡◌, sym, ap, ◌∙◌, ℕ, Bool}
 use Rattle.ground.specs.Number.{Byte}
 use Rattle.ground.specs.Tests.{◌and◌, and_on, and_off, and_four}
-use Rattle.ground.specs.Ranges.{every-answered}
 use Rattle.table.specs.Layout.{A0, A1, A2}
 use Rattle.table.specs.declared.row.Row.{Row}
 use Rattle.table.specs.Row.{row_at, names}
@@ -30,11 +27,7 @@ returns-then-named-3 c =
       | then-named-2 w ↦ and_on _ _ w.if-named-2.true (w.value-is ∙ told _ _ w.wide-then-named-2.ensures w.named-then-named-2.ensures)
       | else-named-2 w ↦ w.value-is ∙ w.if-named-2.false ∙ and_off _ _ w.if-named-2.false
     ] in
-    let p = λ (i : ℕ). names (row_at d (3 + i)) k (c.args.f + i) in
-    let tracks = every-answered c.args.n p _
-    (cases_from_all _ _ _ (λ i. p i ≡ true) (λ i. p i ≡ false) c.all.ensures.ran (YieldsList-from_range 0 c.args.n c.args.n refl (omega arith))
-    (λ x q k. search (rules, tests)) (λ x q k. search (rules, tests))) in
-    and_four _ _ _ _ one two (and_on _ _ c.if-named-3.true tracks)
+    and_four _ _ _ _ one two (and_on _ _ c.if-named-3.true c.lists_tracks.ensures)
 
 pub returns-else-named-3 : goal.returns-else-named-3
 unfolding listed

@@ -29,6 +29,9 @@ returns-then-d c = let z = size-heads c.args.d.now in read_session_not _ _ (λ s
 pub returns-then-first-lt1 : goal.returns-then-first-lt1
 returns-then-first-lt1 c = read_session_not _ _ (λ s. let l = s.low in let o = s.order in let h = s.high in omega arith)
 
+pub returns-then-last-first : goal.returns-then-last-first
+returns-then-last-first c = read_session_not _ _ (λ s. let l = s.low in let o = s.order in let h = s.high in omega arith)
+
 pub returns-then-d-bytes : goal.returns-then-d-bytes
 returns-then-d-bytes c = read_session_not _ _ (λ s. let f = s.fits in omega arith)
 
