@@ -45,30 +45,26 @@ pub fn access_of(n: u8) -> Access
 }
 
 // The record with that reason and that transfer.
-fn placed(f: TaskFile, reason: u8, limit: usize, len: usize, at: usize) -> TaskFile
+fn placed(mut f: TaskFile, reason: u8, limit: usize, len: usize, at: usize) -> TaskFile
     ensures { result ≡ placed f reason limit len at }
 {
-    TaskFile {
-        reason,
-        limit,
-        len,
-        at,
-        ..f
-    }
+    f.reason = reason;
+    f.limit = limit;
+    f.len = len;
+    f.at = at;
+    f
 }
 
 // The record with those registers.
-fn holding(f: TaskFile, features: u8, low: u8, high: u8, drive: u8, status: u8) -> TaskFile
+fn holding(mut f: TaskFile, features: u8, low: u8, high: u8, drive: u8, status: u8) -> TaskFile
     ensures { result ≡ holding f features low high drive status }
 {
-    TaskFile {
-        features,
-        low,
-        high,
-        drive,
-        status,
-        ..f
-    }
+    f.features = features;
+    f.low = low;
+    f.high = high;
+    f.drive = drive;
+    f.status = status;
+    f
 }
 
 // Status ends a transfer.

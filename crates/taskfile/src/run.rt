@@ -86,15 +86,14 @@ pub(crate) fn count_of(f: TaskFile) -> usize
 }
 
 // The record with n in the byte count.
-pub(crate) fn counting(f: TaskFile, n: usize) -> TaskFile
+// (The record is changed where it stands: `..f` would copy packet and list byte by byte.)
+pub(crate) fn counting(mut f: TaskFile, n: usize) -> TaskFile
     ensures { result ≡ counting f n }
 {
     let b = bytes16(n);
-    TaskFile {
-        high: b[0],
-        low: b[1],
-        ..f
-    }
+    f.high = b[0];
+    f.low = b[1];
+    f
 }
 
 // The record is in a run of list or answer: its limit is one, there is a next byte, and the byte count has the run's bytes.
